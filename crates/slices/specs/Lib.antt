@@ -1,3 +1,4 @@
+pub mod Ascii
 pub mod Decides
 pub mod Order
 pub mod Same

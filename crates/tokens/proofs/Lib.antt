@@ -1,0 +1,11 @@
+pub mod Table
+pub mod ClassLaws
+pub mod RunLaws
+pub mod WordLaws
+pub mod TokenLaws
+pub mod LoneLaws
+pub mod PlaceLaws
+pub mod ReadLaws
+pub mod Examples
+pub mod ShiftLaws
+pub mod KeepLaws

@@ -1,0 +1,51 @@
+-- Laws of tokens. Assumes nothing.
+use mathlib.Core.Path.{_≡_, refl}
+use mathlib.Core.Bool.{Bool, true, false, _&&_, _||_}
+use mathlib.Core.List.{List, [], _∷_}
+use mathlib.Core.Logic.{_⊎_, inl, inr, ⊎-elim}
+use Prim.Native.Nat.{ℕ, zero, suc, _≤_, _<_, zero-le, suc-le-suc}
+use native.Mathlib.Omega.{arith}
+use lib.Dec.{eqb}
+use lib.ListN.{length, getD}
+use borrow.Author.Tests.{eqb-true}
+use Rattle.tokens.specs.Bytes.{classOf}
+use Rattle.tokens.specs.Runs.{is}
+use Rattle.tokens.specs.Tokens.{fraction, beforeEquals}
+use Rattle.tokens.specs.declared.classes.Sort.the-variants.{Digits}
+
+pub and-left : (a b : Bool) → (a && b) ≡ true → a ≡ true
+and-left true b e = refl
+and-left false b e = e
+
+pub never : false ≡ true → ⊥
+never e = let z : _≡_ {A = ℕ} 0 1 = cc in omega arith
+
+pub and-right : (a b : Bool) → (a && b) ≡ true → b ≡ true
+and-right true b e = e
+and-right false b e = absurd (never e)
+
+pub or-cases : (a b : Bool) → (a || b) ≡ true → (a ≡ true) ⊎ (b ≡ true)
+or-cases true b e = inl refl
+or-cases false b e = inr e
+
+-- a place at which a test holds that 0 fails is inside the text
+pub inside : (test : ℕ → Bool) (text : List ℕ) (i : ℕ) → (test 0 ≡ true → ⊥) → test (getD text i 0) ≡ true → i < length text
+inside test [] i n e = absurd (n e)
+inside test (b ∷ rest) zero n e = suc-le-suc zero-le
+inside test (b ∷ rest) (suc i) n e = suc-le-suc (inside test rest i n e)
+
+pub point-inside : (text : List ℕ) (i : ℕ) → fraction text i ≡ true → i < length text
+point-inside text i e = inside (λ (b : ℕ). eqb b 46) text i never (and-left _ _ e)
+
+pub digit-inside : (text : List ℕ) (i : ℕ) → is Digits (getD text i 0) ≡ true → i < length text
+unfolding classOf
+digit-inside text i e = inside (is Digits) text i never e
+
+-- a mark before `=` leaves room for 128
+pub small : (b : ℕ) → beforeEquals b ≡ true → b ≤ 62
+small b e =
+    ⊎-elim
+    (λ (l : (eqb b 33 || eqb b 60) ≡ true).
+    ⊎-elim (λ (f : eqb b 33 ≡ true). omega (arith, eqb-true b 33 f)) (λ (f : eqb b 60 ≡ true). omega (arith, eqb-true b 60 f)) (or-cases _ _ l))
+    (λ (f : eqb b 62 ≡ true). omega (arith, eqb-true b 62 f))
+    (or-cases _ _ e)

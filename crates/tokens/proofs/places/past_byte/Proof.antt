@@ -1,0 +1,17 @@
+-- `tokens::places::past_byte` meets its contract: the test decides `past`. Assumes nothing.
+use borrow.Author.Tests.{eq-eqb, ne-eqb}
+use borrow.Author.Needs.{needs}
+use Rattle.tokens.specs.Places.{past}
+use Rattle.tokens.proofs.places.past_byte.Statement.{statement}
+use Rattle.tokens.proofs.places.past_byte.Tie as tie
+
+returns : tie.Need-returns
+unfolding past
+returns c = (simp (eq-eqb _ _ (c .before .if1 .taken)), search needs)
+
+returns-2 : tie.Need-returns-2
+unfolding past
+returns-2 c = (simp (ne-eqb _ _ (c .before .if1 .left)), search needs)
+
+pub past-byte-spec : {M : Type 1} → statement M
+past-byte-spec = tie.close (tie.spec (λ c. search needs) (λ c. search needs) returns returns-2)

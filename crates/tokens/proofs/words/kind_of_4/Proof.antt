@@ -1,0 +1,28 @@
+-- `tokens::words::kind_of_4` meets its contract: the choices are those of `kindBy` among the words of its length. Assumes nothing.
+use Rattle.tokens.proofs.WordLaws.{kindBy, of-length}
+use Rattle.tokens.specs.Words.{reserved}
+use denote.Ref.{now}
+use mathlib.Core.Path.{sym, _∙_}
+use borrow.Author.Needs.{needs}
+use Rattle.tokens.proofs.words.kind_of_4.Statement.{statement}
+use Rattle.tokens.proofs.words.kind_of_4.Tie as tie
+
+returns : tie.Need-returns
+unfolding reserved kindBy
+returns c = c .kind-if5 .ensures ∙ rw (c .before .before .kind-if4 .ensures, c .before .before .before .before .kind-if3 .ensures, c .before .before .before .before .before .before .kind-if2 .ensures, c .before .before .before .before .before .before .before .before .kind-if .ensures) (sym (of-length 4 (now (c .before .before .before .before .before .before .before .before .before .before .before .args .word)) (c .before .before .before .before .before .before .before .before .before .before .before .pre)))
+
+pub kind-of-4-spec : {M : Type 1} → statement M
+kind-of-4-spec =
+    tie.close
+    (tie.spec
+    (λ c. search needs)
+    (λ c κs. search needs)
+    (λ c. search needs)
+    (λ c κs. search needs)
+    (λ c. search needs)
+    (λ c κs. search needs)
+    (λ c. search needs)
+    (λ c κs. search needs)
+    (λ c. search needs)
+    (λ c κs. search needs)
+    returns)

@@ -1,0 +1,7 @@
+pub mod Kinds
+pub mod Bytes
+pub mod Runs
+pub mod Table
+pub mod Words
+pub mod Tokens
+pub mod Places

@@ -1,0 +1,100 @@
+-- The token that starts at a place of a text, as document 01 has it; or its refusal, 3 to 6, with the bytes that are refused. Definitions only.
+use mathlib.Core.Path.{_≡_}
+use Prim.Native.Nat.{ℕ, _+_, _-_, _≤_, _<_}
+use Prim.Native.Char.{code}
+use mathlib.Core.Bool.{Bool, cond, _&&_, _||_}
+use mathlib.Core.List.{List}
+use lib.Dec.{leb, eqb}
+use lib.ListN.{length, getD, take, drop}
+use Rattle.tokens.specs.Bytes.{classOf, mark, digit, letter}
+use Rattle.tokens.specs.Kinds as kinds
+use Rattle.tokens.specs.Runs.{is, runEnd}
+use Rattle.tokens.specs.Words.{wordKind}
+use Rattle.tokens.specs.declared.classes.Sort.the-variants.{Blanks, WordBytes, Digits, StringBytes}
+use Rattle.tokens.specs.declared.reader.Token.{Token}
+
+-- a token's kind, and its bytes from `start` up to `end`
+abbrev pub token : ℕ → ℕ → ℕ → Token
+token kind start end = record { kind = kind; start = start; end = end }
+
+-- a byte at which no token starts, or that may not stand in a string
+abbrev pub badByte : ℕ → Token
+badByte at = token kinds.badByte at (at + 1)
+
+-- a token of some size, which is refused where it has more than `most`
+unfoldable pub sized : ℕ → ℕ → ℕ → ℕ → ℕ → Token
+sized kind most size start end = cond (leb size most) (token kind start end) (token kinds.tooLong start end)
+
+-- a word: the longest run of word bytes
+abbrev pub wordTo : List ℕ → ℕ → ℕ → Token
+wordTo text start end = sized (wordKind (take (end - start) (drop start text))) 64 (end - start) start end
+
+unfoldable pub wordAt : List ℕ → ℕ → Token
+wordAt text start = wordTo text start (runEnd WordBytes text start)
+
+-- a string: the longest run of string bytes after the quote, up to `end`, has a quote after it
+abbrev pub stringTo : List ℕ → ℕ → ℕ → Token
+stringTo text start end =
+    cond (leb (length text) end) (token kinds.unended start end)
+    (cond (eqb (getD text end 0) (code "\"")) (sized kinds.string 127 (end - (start + 1)) start (end + 1)) (badByte end))
+
+unfoldable pub stringAt : List ℕ → ℕ → Token
+stringAt text start = stringTo text start (runEnd StringBytes text (start + 1))
+
+-- a number: the longest run of digits from its first digit, up to `whole`, and a point with the run of digits after it
+abbrev pub fraction : List ℕ → ℕ → Bool
+fraction text whole = eqb (getD text whole 0) (code ".") && is Digits (getD text (whole + 1) 0)
+
+abbrev pub numberTo : List ℕ → ℕ → ℕ → ℕ → Token
+numberTo text start first whole =
+    cond (fraction text whole)
+    (sized kinds.number 15 (runEnd Digits text (whole + 1) - first - 1) start (runEnd Digits text (whole + 1)))
+    (sized kinds.number 15 (whole - first) start whole)
+
+unfoldable pub numberAt : List ℕ → ℕ → ℕ → Token
+numberAt text start first = numberTo text start first (runEnd Digits text first)
+
+-- a mark, by its first byte and the next: `&&`, `||` and `==`; `!=`, `<=` and `>=`; else the one byte, but `_`, with which no token starts
+abbrev pub doubled : ℕ → Bool
+doubled b = eqb b (code "&") || eqb b (code "|") || eqb b (code "=")
+
+abbrev pub beforeEquals : ℕ → Bool
+beforeEquals b = eqb b (code "!") || eqb b (code "<") || eqb b (code ">")
+
+unfoldable pub markOf : ℕ → ℕ → ℕ → Token
+markOf start first next =
+    cond (doubled first) (cond (eqb next first) (token first start (start + 2)) (badByte start))
+    (cond (beforeEquals first && eqb next (code "=")) (token (first + 128) start (start + 2))
+    (cond (eqb first (code "_")) (badByte start) (token first start (start + 1))))
+
+-- what starts with a byte of the class of the marks: a string, a number below 0, or a mark
+abbrev pub markFrom : List ℕ → ℕ → ℕ → ℕ → Token
+markFrom text start first next =
+    cond (eqb first (code "\"")) (stringAt text start)
+    (cond (eqb first (code "-")) (cond (is Digits next) (numberAt text start (start + 1)) (badByte start)) (markOf start first next))
+
+unfoldable pub markAt : List ℕ → ℕ → Token
+markAt text start = markFrom text start (getD text start 0) (getD text (start + 1) 0)
+
+-- what starts at a place where no blank is, by its first byte and that byte's class
+abbrev pub tokenBy : List ℕ → ℕ → ℕ → ℕ → Token
+tokenBy text start first class =
+    cond (eqb class letter) (wordAt text start)
+    (cond (eqb class digit) (numberAt text start start)
+    (cond (eqb class mark) (markAt text start)
+    (cond (eqb first (code ":")) (token kinds.colon start (start + 1)) (badByte start))))
+
+abbrev pub tokenFrom : List ℕ → ℕ → Token
+tokenFrom text start =
+    cond (leb (length text) start) (token kinds.endOfText start start) (tokenBy text start (getD text start 0) (classOf (getD text start 0)))
+
+-- the token at or after a place: blanks are passed first
+unfoldable pub tokenAt : List ℕ → ℕ → Token
+tokenAt text at = tokenFrom text (runEnd Blanks text at)
+
+-- what a caller may know of the token that it reads at a place: it lies in the text from there on, and only at the text's end it has no byte
+pub record Reads (text : List ℕ) (at : ℕ) (t : Token) : Type 0 where
+  pub low : at ≤ t .start
+  pub order : t .start ≤ t .end
+  pub high : t .end ≤ length text
+  pub some : (t .kind ≡ kinds.endOfText → ⊥) → t .start < t .end

@@ -1,0 +1,7 @@
+// The tokens of a rule text, and the line and column of a byte.
+pub mod classes;
+pub mod kinds;
+pub mod places;
+pub mod reader;
+mod runs;
+pub mod words;
