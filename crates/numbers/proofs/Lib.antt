@@ -1,0 +1,4 @@
+pub mod Exponent
+pub mod Reading
+pub mod Rounded
+pub mod Spelled

@@ -1,0 +1,56 @@
+// What every program that runs test vectors shares. Standard input has the number of vectors in 4 bytes, and then each part of
+// each vector: its length in 2 bytes, and its bytes. Numbers have their low byte first; bytes that the input lacks count as 0.
+use libc::STDIN_FILENO;
+use libc::STDOUT_FILENO;
+ghost use Prim.Native.Nat.{_<_};
+ghost use Rattle.io.specs.Counts.{Counts};
+
+// The number of vectors.
+pub fn vector_count() -> u32 {
+    let mut b = [0u8; 4];
+    io::read_full(STDIN_FILENO, &mut b);
+    two_bytes(b[0], b[1]) + two_bytes(b[2], b[3]) * 65536
+}
+
+// Reads the next part into the beginning of buf, and gives how many bytes came. What does not fit is passed over.
+pub fn read_part(buf: &mut [u8]) -> usize
+    ensures { λ r. ⌜ Counts r (now (buf .exit)) ⌝ }
+{
+    let size = part_size();
+    if buf.len() < size {
+        let n = io::read_full(STDIN_FILENO, buf);
+        pass_over(size - buf.len());
+        return n;
+    }
+    io::read_full(STDIN_FILENO, &mut buf[..size])
+}
+
+// Writes a number, and a byte after it.
+pub fn print_number(n: u64, end: u8) {
+    io::print_decimal(STDOUT_FILENO, n);
+    let after = [end];
+    io::write_all(STDOUT_FILENO, &after);
+}
+
+// The length of the next part.
+fn part_size() -> usize
+    ensures { λ r. ⌜ r < 65536 ⌝ }
+{
+    let mut b = [0u8; 2];
+    io::read_full(STDIN_FILENO, &mut b);
+    two_bytes(b[0], b[1]) as usize
+}
+
+fn two_bytes(low: u8, high: u8) -> u32
+    ensures { λ r. ⌜ r < 65536 ⌝ }
+{
+    low as u32 + high as u32 * 256
+}
+
+// Reads n bytes, and keeps none of them.
+fn pass_over(n: usize)
+    requires { ⌜ n < 65536 ⌝ }
+{
+    let mut space = io::large_buffer();
+    io::read_full(STDIN_FILENO, &mut space[..n]);
+}

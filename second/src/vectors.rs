@@ -1,0 +1,185 @@
+//! Test vectors: the list of their sorts, their format, and the files that hold them.
+
+use std::fs;
+use std::io;
+use std::path::Path;
+
+use crate::explain;
+use crate::number_vectors;
+use crate::pattern_vectors;
+use crate::random::Random;
+use crate::token_vectors;
+
+/// One vector: its parts, each a byte string.
+pub type Vector = Vec<Vec<u8>>;
+
+/// The seed of the stored vectors.
+pub const STANDARD_SEED: u64 = 1;
+
+/// One sort of vectors.
+pub struct Sort {
+    /// Its files are `NAME_vectors/stdin` and `NAME_vectors/stdout`.
+    pub name: &'static str,
+    /// The word for it after `explain`.
+    pub explain_word: &'static str,
+    /// How many parts a vector has.
+    pub parts: usize,
+    /// How many vectors there are at scale 1.
+    pub count: usize,
+    /// The vectors that are the same for every seed.
+    pub fixed: fn() -> Vec<Vector>,
+    /// A random vector.
+    pub random: fn(&mut Random) -> Vector,
+    /// The answer to a vector: one line, without its line feed.
+    pub answer: fn(&Vector) -> String,
+    /// A vector out of what a person typed.
+    pub read_typed: fn(&[u8]) -> Option<Vector>,
+    /// The answer to a vector in full.
+    pub explain: fn(&Vector) -> String,
+}
+
+/// All sorts of vectors.
+pub static SORTS: [Sort; 3] = [
+    Sort {
+        name: "tokens",
+        explain_word: "tokens",
+        parts: 1,
+        count: 21_000,
+        fixed: token_vectors::fixed,
+        random: token_vectors::random,
+        answer: token_vectors::answer,
+        read_typed: explain::read_text,
+        explain: explain::tokens,
+    },
+    Sort {
+        name: "numbers",
+        explain_word: "number",
+        parts: 2,
+        count: 6_000,
+        fixed: number_vectors::fixed,
+        random: number_vectors::random,
+        answer: number_vectors::answer,
+        read_typed: explain::read_number,
+        explain: explain::number,
+    },
+    Sort {
+        name: "patterns",
+        explain_word: "like",
+        parts: 2,
+        count: 21_000,
+        fixed: pattern_vectors::fixed,
+        random: pattern_vectors::random,
+        answer: pattern_vectors::answer,
+        read_typed: explain::read_two_lines,
+        explain: explain::like,
+    },
+];
+
+/// The vectors of one sort: the fixed ones, then random ones up to the count.
+pub fn make(sort: &Sort, seed: u64, scale: usize) -> Vec<Vector> {
+    let mut vectors = (sort.fixed)();
+    let mut random = Random::new(seed_of(sort, seed));
+    while vectors.len() < sort.count * scale {
+        vectors.push((sort.random)(&mut random));
+    }
+    vectors
+}
+
+/// Each sort has a seed of its own, so that a new sort leaves the others as they are.
+fn seed_of(sort: &Sort, seed: u64) -> u64 {
+    let mut own = seed;
+    for byte in sort.name.bytes() {
+        own = Random::new(own ^ u64::from(byte)).bits();
+    }
+    own
+}
+
+/// The bytes of `stdin`: the number of vectors in 4 bytes, then the parts, each after its length in 2 bytes.
+pub fn encode(vectors: &[Vector]) -> Vec<u8> {
+    let mut bytes = Vec::new();
+    bytes.extend_from_slice(&(vectors.len() as u32).to_le_bytes());
+    for part in vectors.iter().flatten() {
+        bytes.extend_from_slice(&(part.len() as u16).to_le_bytes());
+        bytes.extend_from_slice(part);
+    }
+    bytes
+}
+
+/// The vectors in the bytes of a `stdin`, or nothing if these have another form.
+pub fn decode(bytes: &[u8], parts: usize) -> Option<Vec<Vector>> {
+    let mut rest = bytes.get(4..)?;
+    let count = u32::from_le_bytes([bytes[0], bytes[1], bytes[2], bytes[3]]);
+    let mut vectors = Vec::new();
+    for _ in 0..count {
+        let mut vector = Vector::new();
+        for _ in 0..parts {
+            let length = usize::from(u16::from_le_bytes([*rest.first()?, *rest.get(1)?]));
+            vector.push(rest.get(2..2 + length)?.to_vec());
+            rest = &rest[2 + length..];
+        }
+        vectors.push(vector);
+    }
+    if rest.is_empty() {
+        Some(vectors)
+    } else {
+        None
+    }
+}
+
+/// The bytes of `stdout`: one line for each vector.
+pub fn answers(sort: &Sort, vectors: &[Vector]) -> String {
+    let mut lines = String::new();
+    for vector in vectors {
+        lines.push_str(&(sort.answer)(vector));
+        lines.push('\n');
+    }
+    lines
+}
+
+/// Write `stdin` and `stdout` of every sort below the directory.
+pub fn write_all(directory: &Path, seed: u64, scale: usize) -> io::Result<()> {
+    for sort in &SORTS {
+        let vectors = make(sort, seed, scale);
+        let folder = directory.join(format!("{}_vectors", sort.name));
+        fs::create_dir_all(&folder)?;
+        fs::write(folder.join("stdin"), encode(&vectors))?;
+        fs::write(folder.join("stdout"), answers(sort, &vectors))?;
+    }
+    Ok(())
+}
+
+#[cfg(test)]
+mod tests {
+    use super::*;
+
+    #[test]
+    fn the_format_is_as_said() {
+        let vectors = vec![vec![b"ab".to_vec(), Vec::new()], vec![vec![b'x'; 258], b"\0".to_vec()]];
+        let bytes = encode(&vectors);
+        assert_eq!(&bytes[..10], b"\x02\0\0\0\x02\0ab\0\0");
+        assert_eq!(&bytes[10..13], b"\x02\x01x");
+        assert_eq!(decode(&bytes, 2), Some(vectors));
+        assert_eq!(decode(&bytes, 1), None);
+        assert_eq!(decode(&bytes[..bytes.len() - 1], 2), None);
+        assert_eq!(decode(b"\0\0", 2), None);
+    }
+
+    #[test]
+    fn the_counts_are_met_and_the_files_stay_small() {
+        for sort in &SORTS {
+            let vectors = make(sort, STANDARD_SEED, 1);
+            assert_eq!(vectors.len(), sort.count);
+            assert!(encode(&vectors).len() <= 1_500_000);
+            assert_eq!(answers(sort, &vectors).lines().count(), sort.count);
+        }
+    }
+
+    #[test]
+    fn the_seed_decides() {
+        for sort in &SORTS {
+            let vectors = make(sort, 7, 1);
+            assert!(vectors == make(sort, 7, 1));
+            assert!(vectors != make(sort, 8, 1));
+        }
+    }
+}
