@@ -1,4 +1,5 @@
 pub mod Exponent
+pub mod NumberTokens
 pub mod Reading
 pub mod Rounded
 pub mod Spelled

@@ -1,8 +1,6 @@
 -- The quotient of a literal: one division of two whole numbers gives N / 10 ^ k rounded once, and it is finite. Assumes nothing.
 use mathlib.Core.Path.{_≡_, refl, sym, _∙_}
 use mathlib.Core.Bool.{Bool, true, false, true≢false}
-use mathlib.Core.List.{[], _∷_}
-use Prim.Native.Char.{code}
 use Prim.Native.Nat.{ℕ, _*_, _^_, _<_, _≤_}
 use native.Mathlib.Nat.{mul-one, mul-assoc, mul-comm, mul-left-comm, mul-pos, pow-le-pow-right, one-le-pow}
 use native.Mathlib.Omega.{arith}
@@ -16,6 +14,7 @@ use lib.Ieee.Back.{round-whole}
 use lib.Ieee.Order.{round-mono}
 use lib.Ieee.Scale.{round-same, finite}
 use borrow.Author.Tests.{ne-eqb}
+use Rattle.slices.specs.Ascii.{bytes}
 use Rattle.numbers.specs.Literals.{quotient, signed, digitsOf, afterPoint, magnitudeIn, numberIn}
 
 pub power-small : (k : ℕ) → k ≤ 15 → 10 ^ k ≤ 10 ^ 15
@@ -30,12 +29,12 @@ unfolding inFloat
 whole-cast n h = le→leb n (2 ^ 53) (omega arith)
 
 -- `0.1` is the number with bits 0x3FB999999999999A
-pub tenth : numberIn (code "0" ∷ code "." ∷ code "1" ∷ []) ≡ ofBits binary64 0x3FB999999999999A
+pub tenth : numberIn (bytes "0.1") ≡ ofBits binary64 0x3FB999999999999A
 unfolding numberIn magnitudeIn digitsOf afterPoint round ofBits
 tenth = refl
 
 -- -0 equals 0
-pub zeros-equal : eq (numberIn (code "-" ∷ code "0" ∷ [])) (numberIn (code "0" ∷ [])) ≡ true
+pub zeros-equal : eq (numberIn (bytes "-0")) (numberIn (bytes "0")) ≡ true
 unfolding numberIn magnitudeIn digitsOf afterPoint round eq neg
 zeros-equal = refl
 

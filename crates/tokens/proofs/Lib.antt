@@ -6,6 +6,7 @@ pub mod TokenLaws
 pub mod LoneLaws
 pub mod PlaceLaws
 pub mod ReadLaws
+pub mod KindLaws
 pub mod Examples
 pub mod ShiftLaws
 pub mod KeepLaws

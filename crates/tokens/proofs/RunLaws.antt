@@ -11,7 +11,7 @@ use Rattle.tokens.specs.Runs.{is, run, runEnd}
 use Rattle.tokens.specs.declared.classes.Sort.{Sort}
 
 -- a run is no longer than the list
-short : (sort : Sort) (l : List ℕ) → run sort l ≤ length l
+pub short : (sort : Sort) (l : List ℕ) → run sort l ≤ length l
 unfolding run
 short sort [] = zero-le
 short sort (b ∷ rest) = go (is sort b) (short sort rest)

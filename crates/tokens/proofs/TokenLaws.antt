@@ -1,14 +1,15 @@
 -- Laws of tokens. Assumes nothing.
 use mathlib.Core.Path.{_≡_, refl}
-use mathlib.Core.Bool.{Bool, true, false, _&&_, _||_}
+use mathlib.Core.Bool.{Bool, true, false, cond, _&&_, _||_}
 use mathlib.Core.List.{List, [], _∷_}
 use mathlib.Core.Logic.{_⊎_, inl, inr, ⊎-elim}
 use Prim.Native.Nat.{ℕ, zero, suc, _≤_, _<_, zero-le, suc-le-suc}
 use native.Mathlib.Omega.{arith}
-use lib.Dec.{eqb}
+use lib.Dec.{eqb, leb, ltb}
 use lib.ListN.{length, getD}
-use borrow.Author.Tests.{eqb-true}
-use Rattle.tokens.specs.Bytes.{classOf}
+use borrow.Author.Tests.{eqb-true, leb-true}
+use Rattle.slices.specs.Ascii.{bytes}
+use Rattle.tokens.specs.Bytes.{within, oneOf, classOf, digit}
 use Rattle.tokens.specs.Runs.{is}
 use Rattle.tokens.specs.Tokens.{fraction, beforeEquals}
 use Rattle.tokens.specs.declared.classes.Sort.the-variants.{Digits}
@@ -40,6 +41,22 @@ point-inside text i e = inside (λ (b : ℕ). eqb b 46) text i never (and-left _
 pub digit-inside : (text : List ℕ) (i : ℕ) → is Digits (getD text i 0) ≡ true → i < length text
 unfolding classOf
 digit-inside text i e = inside (is Digits) text i never e
+
+-- a digit is one of the bytes `0` to `9`
+pub digit-byte : (b : ℕ) → is Digits b ≡ true → (48 ≤ b) × (b ≤ 57)
+unfolding classOf
+digit-byte b e =
+    let letters = within 65 90 b || within 97 122 b in
+    let h = go letters (within 48 57 b) (oneOf (bytes " \t\n\r") b) (oneOf (bytes "(){}[],;.!&|=<>\"-_") b) (ltb b 32 || eqb b 127) e in
+    (leb-true 48 b (and-left (leb 48 b) (leb b 57) h), leb-true b 57 (and-right (leb 48 b) (leb b 57) h))
+  where
+    go : (l d w m n : Bool) → eqb (cond l 5 (cond d digit (cond w 2 (cond m 3 (cond n 0 1))))) digit ≡ true → d ≡ true
+    go true d w m n e = absurd (never e)
+    go false true w m n e = refl
+    go false false true m n e = absurd (never e)
+    go false false false true n e = absurd (never e)
+    go false false false false true e = absurd (never e)
+    go false false false false false e = absurd (never e)
 
 -- a mark before `=` leaves room for 128
 pub small : (b : ℕ) → beforeEquals b ≡ true → b ≤ 62
