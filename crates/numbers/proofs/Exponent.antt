@@ -30,7 +30,8 @@ pub finite-by-bits : (b : ℕ) → finite (ofBits binary64 b) ≡ finiteBits b
 unfolding ofBits
 finite-by-bits b = fields-finite (leb (2 ^ 63) b) (b % 2 ^ 63 / 2 ^ 52) (b % 2 ^ 52)
 
-not-nan : (x : Float) → T (finite x) → T (not (isNan x))
+-- a finite number is no NaN
+pub not-nan : (x : Float) → T (finite x) → T (not (isNan x))
 unfolding isNan
 not-nan nan h = h
 not-nan (inf s) h = absurd h
