@@ -1,12 +1,21 @@
 //! Answers in full, for a person who looks for the reason of a difference.
 
+use crate::bags::{path_without_blanks, read_bag, Bag, Content, Value};
+use crate::bags_vectors;
+use crate::begins_vectors;
+use crate::compile::{compile as compile_text, policies_of};
+use crate::compile_vectors::{self, room_of};
 use crate::number_vectors;
 use crate::numbers::value_of;
 use crate::pattern_vectors;
 use crate::patterns::reached;
+use crate::questions::{read_question, Question};
+use crate::questions_vectors;
+use crate::table::{bytes_of, entries_of, Entry, ENTRY_BYTES, KINDS};
 use crate::token_vectors;
 use crate::tokens::{self, all_tokens, place_of, token_at, RESERVED_WORDS};
-use crate::vectors::Vector;
+use crate::vectors::{read_parts, Vector};
+use crate::views_vectors;
 
 /// A typed text: all of it.
 pub fn read_text(typed: &[u8]) -> Option<Vector> {
@@ -95,6 +104,168 @@ pub fn like(vector: &Vector) -> String {
     lines
 }
 
+/// A typed rule text: all of it, with just the room it needs.
+pub fn read_rule_text(typed: &[u8]) -> Option<Vector> {
+    Some(vec![typed.to_vec(), vec![0, 0]])
+}
+
+/// Every entry of the table, or the refusal with its token.
+pub fn compile(vector: &Vector) -> String {
+    let text = &vector[0];
+    let room = room_of(vector);
+    let mut lines = format!("text ({} bytes, room for {}):\n{}\n", text.len(), room, text.escape_ascii());
+    match compile_text(text, room) {
+        Ok(compiled) => lines.push_str(&table(text, &compiled.table)),
+        Err(refusal) => {
+            let found = all_tokens(text).into_iter().find(|token| {
+                let place = place_of(text, token.start);
+                place.line == refusal.line && place.column == refusal.column
+            });
+            if let Some(token) = found {
+                let bytes = text[token.start..token.end].escape_ascii();
+                lines.push_str(&format!(
+                    "refused at offset {}, {}: {}\n",
+                    token.start,
+                    name_of_kind(token.kind),
+                    bytes
+                ));
+            }
+        }
+    }
+    lines.push_str(&format!("answer: {}\n", compile_vectors::answer(vector)));
+    lines
+}
+
+/// A typed text and table: the parts of a begins vector.
+pub fn read_text_and_table(typed: &[u8]) -> Option<Vector> {
+    read_parts(typed, 2)
+}
+
+/// The entries of the text's own table, and the first byte at which the given table differs from it.
+pub fn begins(vector: &Vector) -> String {
+    let (text, given) = (&vector[0], &vector[1]);
+    let mut lines = format!("text ({} bytes):\n{}\n", text.len(), text.escape_ascii());
+    match policies_of(text) {
+        Ok(policies) => {
+            let own = bytes_of(&entries_of(&policies));
+            lines.push_str(&table(text, &own));
+            lines.push_str(&format!("its table has {} bytes, the given one {}\n", own.len(), given.len()));
+            match (0..own.len()).find(|at| given.get(*at) != Some(&own[*at])) {
+                None => lines.push_str("the given one begins with it\n"),
+                Some(at) => lines.push_str(&format!("first difference at byte {} (entry {})\n", at, at / ENTRY_BYTES)),
+            }
+        }
+        Err(refusal) => {
+            let place = format!("line {}, column {}", refusal.line, refusal.column);
+            lines.push_str(&format!("the text is refused: {} at {}\n", refusal.number, place));
+        }
+    }
+    lines.push_str(&format!("answer: {}\n", begins_vectors::answer(vector)));
+    lines
+}
+
+/// The entries of a table: number, kind, fields, what they are, and the bytes of the text that they name.
+fn table(text: &[u8], table: &[u8]) -> String {
+    let mut lines = String::from("entry kind first second\n");
+    for (number, bytes) in table.chunks(ENTRY_BYTES).enumerate() {
+        let field = |at: usize| usize::from(u16::from_le_bytes([bytes[at], bytes[at + 1]]));
+        let entry = Entry { kind: bytes[0], first: field(1), second: field(3) };
+        let numbers = format!("{:5} {:4} {:5} {:6}", number, entry.kind, entry.first, entry.second);
+        let named = if matches!(entry.kind, 1..=10 | 19 | 31) { &text[entry.first..entry.second] } else { &[] };
+        lines.push_str(&format!("{}  {}: {}\n", numbers, KINDS[usize::from(entry.kind)], named.escape_ascii()));
+    }
+    lines
+}
+
+/// A typed look-up: the parts of a bag vector.
+pub fn read_look_up(typed: &[u8]) -> Option<Vector> {
+    read_parts(typed, 3).filter(|vector| vector[1].len() == 1)
+}
+
+/// A typed view: the parts of a view vector, with choices that the columns have.
+pub fn read_view(typed: &[u8]) -> Option<Vector> {
+    let vector = read_parts(typed, 4).filter(|vector| vector[1].len() == 6 && vector[2].len() == 1)?;
+    let question = read_question(&vector[0]);
+    let columns = question.iter().flat_map(|question| &question.columns);
+    let fit = columns.zip(&vector[1]).all(|(column, choice)| usize::from(*choice) < column.candidates.len());
+    if fit {
+        Some(vector)
+    } else {
+        None
+    }
+}
+
+/// Every entry of the bag, and the attribute that is looked up.
+pub fn bag(vector: &Vector) -> String {
+    let mut lines = match read_bag(&vector[0]) {
+        Some(bag) => sections(&bag),
+        None => format!("not a bag: {}\n", vector[0].escape_ascii()),
+    };
+    lines.push_str(&format!("looked up: root {}, path {}\n", vector[1][0], vector[2].escape_ascii()));
+    lines.push_str("then: kind, number's bits, place, string's start and length\n");
+    lines.push_str(&format!("answer: {}\n", bags_vectors::answer(vector)));
+    lines
+}
+
+/// Every entry of the base and every column with its candidates.
+pub fn question(vector: &Vector) -> String {
+    let mut lines = match read_question(&vector[0]) {
+        Some(question) => base_and_columns(&question),
+        None => format!("not a question: {}\n", vector[0].escape_ascii()),
+    };
+    lines.push_str(&format!("answer: {}\n", questions_vectors::answer(vector)));
+    lines
+}
+
+/// The question, and the attribute that is looked up in a row.
+pub fn view(vector: &Vector) -> String {
+    let mut lines = match read_question(&vector[0]) {
+        Some(question) => base_and_columns(&question),
+        None => format!("not a question: {}\n", vector[0].escape_ascii()),
+    };
+    let path = path_without_blanks(&vector[3]);
+    lines.push_str(&format!("choices: {:?}\n", vector[1]));
+    lines.push_str(&format!("looked up: root {}, path {}\n", vector[2][0], path.escape_ascii()));
+    lines.push_str(&format!("answer: {}\n", views_vectors::answer(vector)));
+    lines
+}
+
+fn base_and_columns(question: &Question) -> String {
+    let mut lines = sections(&question.base);
+    for (index, column) in question.columns.iter().enumerate() {
+        lines.push_str(&format!("column {}: root {}, path {}\n", index, column.root, column.path.escape_ascii()));
+        for (choice, candidate) in column.candidates.iter().enumerate() {
+            let value = candidate.value.as_ref().map_or("absent".to_string(), value_in_full);
+            lines.push_str(&format!("  choice {} at {}: {}\n", choice, candidate.at, value));
+        }
+    }
+    lines
+}
+
+fn sections(bag: &Bag) -> String {
+    let mut lines = String::new();
+    for (name, section) in ["principal", "resource", "env"].iter().zip(&bag.sections) {
+        for (path, value) in section {
+            lines.push_str(&format!("{}.{} = {}\n", name, path.escape_ascii(), value_in_full(value)));
+        }
+    }
+    lines
+}
+
+/// A value with its kind and place.
+fn value_in_full(value: &Value) -> String {
+    let content = match &value.content {
+        Content::String(string) => format!("\"{}\"", string.escape_ascii()),
+        Content::Number(number) => format!("{:?} (bits {:016x})", number, number.to_bits()),
+        Content::Flag(flag) => flag.to_string(),
+        Content::List(strings) => {
+            let strings: Vec<String> = strings.iter().map(|string| format!("\"{}\"", string.escape_ascii())).collect();
+            format!("[{}]", strings.join(", "))
+        }
+    };
+    format!("{}, kind {}, place {}", content, value.kind(), value.place)
+}
+
 #[cfg(test)]
 mod tests {
     use super::*;
@@ -131,5 +302,45 @@ mod tests {
             explained,
             "pattern: *b\nstring: abb\n matches the first: 0\n* matches the first: 0 1 2 3\n*b matches the first: 2 3\nanswer: 1\n"
         );
+    }
+
+    #[test]
+    fn entries_and_refusals_are_shown() {
+        let explained = compile(&read_rule_text(b"permit(principal,action,resource)when{env.a<1};").unwrap());
+        assert!(explained.contains("\n    3    3    42     43  attribute of env: a\n"), "{}", explained);
+        assert!(explained.contains("\n    5   17     0      0  <: \n"), "{}", explained);
+        let explained = compile(&read_rule_text(b"permit\n :").unwrap());
+        assert!(explained.contains("\nrefused at offset 8, refused 4, a colon: :\nanswer: R 4 2 2\n"), "{}", explained);
+    }
+
+    #[test]
+    fn the_first_difference_of_a_table_is_shown() {
+        let text = b"permit(principal,action,resource);".to_vec();
+        let explained = begins(&vec![text.clone(), vec![29, 0, 0, 0, 0, 32, 1]]);
+        assert!(explained.contains("has 20 bytes, the given one 7\nfirst difference at byte 6 (entry 1)\nanswer: 0\n"));
+        assert!(begins(&vec![b"x".to_vec(), vec![]]).contains("refused: 10 at line 1, column 1\nanswer: 0\n"));
+    }
+
+    #[test]
+    fn bags_and_questions_are_shown() {
+        let bytes = questions_vectors::rich_question().bytes();
+        let explained = question(&vec![bytes.clone()]);
+        assert!(explained.contains("principal.a = \"xyz\", kind 1, place 4\n"), "{}", explained);
+        assert!(explained.contains("principal.aa = [\"own\", \"\"], kind 4, place "), "{}", explained);
+        assert!(explained.contains("column 0: root 2, path a.b\n  choice 0 at "), "{}", explained);
+        assert!(explained.contains(": absent\n"), "{}", explained);
+        let explained = view(&vec![bytes.clone(), vec![0; 6], vec![2], b"a .b".to_vec()]);
+        assert!(explained.ends_with("looked up: root 2, path a.b\nanswer: 0 0000000000000000\n"), "{}", explained);
+        assert!(bag(&vec![bytes, vec![1], b"a".to_vec()]).ends_with("answer: 24\n"));
+    }
+
+    #[test]
+    fn typed_look_ups_and_views_are_checked() {
+        assert!(read_look_up(b"\x03\0\0\0\0\x01\0\x01\x01\0a").is_some());
+        assert!(read_look_up(b"\x03\0\0\0\0\0\0\x01\0a").is_none());
+        let question = b"\x09\0\0\0\0\x01\x01\x01a\x01\0".to_vec();
+        let typed = |choice: u8| [&question[..], b"\x06\0", &[choice, 0, 0, 0, 0, 0], b"\x01\0\x01\x01\0a"].concat();
+        assert!(read_view(&typed(0)).is_some());
+        assert!(read_view(&typed(1)).is_none());
     }
 }

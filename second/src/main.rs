@@ -1,16 +1,31 @@
 //! The command line of Pennivaster's second program, an independent reading of document 01.
 
+mod bag_bytes;
+mod bags;
+mod bags_vectors;
+mod begins_vectors;
+mod compile;
+mod compile_vectors;
+mod damaged_texts;
+mod deciding;
 mod explain;
 mod number_vectors;
 mod numbers;
 mod pattern_vectors;
 mod patterns;
+mod policies;
 mod policy_texts;
+mod questions;
+mod questions_vectors;
 mod random;
+mod sheets;
+mod table;
 mod token_vectors;
 mod tokens;
 mod vectors;
+mod views_vectors;
 
+use std::fs;
 use std::io::{self, Read, Write};
 use std::path::Path;
 use std::process::exit;
@@ -18,10 +33,15 @@ use std::process::exit;
 use vectors::{Sort, Vector, SORTS, STANDARD_SEED};
 
 const USAGE: &str = "usage:
-  second vectors DIR [--seed N] [--scale K]       write the test vectors and their answers (K from 1 to 1000)
-  second explain tokens|number|like               explain the input on standard input
-  second explain tokens|number|like --vector N    explain vector N (from 1) of the vectors on standard input
-for number the input is a literal, and maybe a line feed and 8 bytes; for like a pattern, a line feed and a string";
+  second vectors DIR [--seed N] [--scale K]  write the test vectors and their answers (K from 1 to 1000)
+  second explain SORT                        explain the input on standard input
+  second explain SORT --vector N             explain vector N (from 1) of the vectors on standard input
+  second sheet DIR                           print what the sheet program prints for the files in DIR
+  second decide DIR                          decide policy.txt, bag.bin and request.txt in DIR
+SORT is tokens, number, like, compile, begins, bag, question or view; README.md says what the input of each is";
+
+/// The bytes of the sheets that `second sheet` lends.
+const PAGE_BYTES: usize = 6_000;
 
 /// Why the program stops early.
 enum Failure {
@@ -70,7 +90,39 @@ fn run(words: &[&str]) -> Result<(), Failure> {
                 .ok_or_else(|| Failure::Other(format!("vectors are numbered 1 to {}", vectors.len())))?;
             print_explained(sort, vector)
         }
+        ["sheet", directory] => {
+            let [text, question, request] = files(directory, ["policy.txt", "question.bin", "request.txt"])?;
+            print(&sheets::printed(&text, &question, &request, PAGE_BYTES))
+        }
+        ["decide", directory] => {
+            let [text, bag, request] = files(directory, ["policy.txt", "bag.bin", "request.txt"])?;
+            print(&decided(&text, &bag, &request))
+        }
         _ => Err(Failure::Usage),
+    }
+}
+
+/// The files' bytes; a missing file is empty.
+fn files(directory: &str, names: [&str; 3]) -> Result<[Vec<u8>; 3], Failure> {
+    let mut all = [Vec::new(), Vec::new(), Vec::new()];
+    for (bytes, name) in all.iter_mut().zip(names) {
+        match fs::read(Path::new(directory).join(name)) {
+            Ok(read) => *bytes = read,
+            Err(error) if error.kind() == io::ErrorKind::NotFound => {}
+            Err(error) => return Err(failed(error)),
+        }
+    }
+    Ok(all)
+}
+
+/// The decision as a line: outcome and policy; or `refused`, number, line, column.
+fn decided(text: &[u8], bag: &[u8], request: &[u8]) -> String {
+    match compile::compile(text, compile::ROOM_FOR_EACH_BYTE * text.len()) {
+        Err(refusal) => format!("refused {} {} {}\n", refusal.number, refusal.line, refusal.column),
+        Ok(compiled) => match deciding::decide(text, &compiled.table, bag, sheets::read_request(request)) {
+            Err(number) => format!("refused {} 0 0\n", number),
+            Ok(decision) => format!("{} {}\n", decision.outcome, decision.policy),
+        },
     }
 }
 
@@ -99,7 +151,11 @@ fn standard_input() -> Result<Vec<u8>, Failure> {
 }
 
 fn print_explained(sort: &Sort, vector: &Vector) -> Result<(), Failure> {
-    io::stdout().write_all((sort.explain)(vector).as_bytes()).map_err(failed)
+    print(&(sort.explain)(vector))
+}
+
+fn print(lines: &str) -> Result<(), Failure> {
+    io::stdout().write_all(lines.as_bytes()).map_err(failed)
 }
 
 fn failed(error: io::Error) -> Failure {

@@ -1,14 +1,11 @@
 //! Random rule texts that keep every rule of 01, "The rule text", as lists of tokens and as texts.
 
+use crate::policies::{PRINCIPAL_TYPES, RESOURCE_TYPES};
 use crate::random::Random;
 use crate::tokens::{class_of, Class};
 
 /// The tokens of a text under construction.
 pub type Tokens = Vec<Vec<u8>>;
-
-/// 01, "The rule text": the types.
-const PRINCIPAL_TYPES: [&str; 2] = ["person", "tool"];
-const RESOURCE_TYPES: [&str; 4] = ["controller", "shaft", "parameter", "record"];
 
 const ROOTS: [&str; 4] = ["principal", "resource", "action", "env"];
 const NAMES: [&str; 14] = [
@@ -49,6 +46,70 @@ pub fn policy(random: &mut Random) -> Tokens {
     }
     put(&mut tokens, ";");
     tokens
+}
+
+/// The tokens of a policy whose target is bare, with a condition.
+pub fn policy_with_condition(random: &mut Random) -> Tokens {
+    policy_around(random, |tokens, random| put_disjunction(tokens, random, 2))
+}
+
+/// The same with so many levels of conditions inside conditions.
+pub fn deep_policy(random: &mut Random, levels: usize) -> Tokens {
+    policy_around(random, |tokens, random| put_deep_condition(tokens, random, levels))
+}
+
+/// The same with so many conditions joined.
+pub fn wide_policy(random: &mut Random, members: usize) -> Tokens {
+    policy_around(random, |tokens, random| {
+        put_condition(tokens, random, 0);
+        for _ in 1..members {
+            put(tokens, random.pick(&["&&", "&&", "||"]));
+            put_condition(tokens, random, 0);
+        }
+    })
+}
+
+/// A policy with a bare target and this condition.
+fn policy_around(random: &mut Random, put_inside: impl FnOnce(&mut Tokens, &mut Random)) -> Tokens {
+    let mut tokens = Tokens::new();
+    put(&mut tokens, random.pick(&["permit", "forbid"]));
+    for token in ["(", "principal", ",", "action", ",", "resource", ")", "when", "{"] {
+        put(&mut tokens, token);
+    }
+    put_inside(&mut tokens, random);
+    put(&mut tokens, "}");
+    put(&mut tokens, ";");
+    tokens
+}
+
+/// `!`, brackets and `if` around one another, in any order, so many in all.
+fn put_deep_condition(tokens: &mut Tokens, random: &mut Random, levels: usize) {
+    if levels == 0 {
+        put_condition(tokens, random, 0);
+        return;
+    }
+    match random.below(6) {
+        0 | 1 => {
+            put(tokens, "!");
+            put_deep_condition(tokens, random, levels - 1);
+        }
+        2..=4 => {
+            put(tokens, "(");
+            if random.one_in(6) {
+                put_condition(tokens, random, 0);
+                put(tokens, random.pick(&["&&", "||"]));
+            }
+            put_deep_condition(tokens, random, levels - 1);
+            put(tokens, ")");
+        }
+        _ => {
+            let deep = random.below(3);
+            for (index, word) in ["if", "then", "else"].iter().enumerate() {
+                put(tokens, word);
+                put_deep_condition(tokens, random, if index == deep { levels - 1 } else { 0 });
+            }
+        }
+    }
 }
 
 /// The principal part: bare, or `is` a type.

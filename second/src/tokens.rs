@@ -25,6 +25,29 @@ pub const RESERVED_WORDS: [&str; 18] = [
     "if", "then", "else", "containsAll", "containsAny",
 ];
 
+/// The kinds of the reserved words, and of those marks that are not their first byte.
+pub const PERMIT: u8 = FIRST_RESERVED;
+pub const FORBID: u8 = FIRST_RESERVED + 1;
+pub const WHEN: u8 = FIRST_RESERVED + 2;
+pub const PRINCIPAL: u8 = FIRST_RESERVED + 3;
+pub const RESOURCE: u8 = FIRST_RESERVED + 4;
+pub const ACTION: u8 = FIRST_RESERVED + 5;
+pub const ENV: u8 = FIRST_RESERVED + 6;
+pub const IS: u8 = FIRST_RESERVED + 7;
+pub const IN: u8 = FIRST_RESERVED + 8;
+pub const HAS: u8 = FIRST_RESERVED + 9;
+pub const LIKE: u8 = FIRST_RESERVED + 10;
+pub const TRUE: u8 = FIRST_RESERVED + 11;
+pub const FALSE: u8 = FIRST_RESERVED + 12;
+pub const IF: u8 = FIRST_RESERVED + 13;
+pub const THEN: u8 = FIRST_RESERVED + 14;
+pub const ELSE: u8 = FIRST_RESERVED + 15;
+pub const CONTAINS_ALL: u8 = FIRST_RESERVED + 16;
+pub const CONTAINS_ANY: u8 = FIRST_RESERVED + 17;
+pub const NOT_EQUAL: u8 = b'!' + 128;
+pub const GREATER_OR_EQUAL: u8 = b'>' + 128;
+pub const LESS_OR_EQUAL: u8 = b'<' + 128;
+
 /// 01, "Sizes": word 64 bytes.
 const LONGEST_WORD: usize = 64;
 /// 01, "Sizes": string 127 inside its quotes.
@@ -44,6 +67,11 @@ impl Token {
     /// Whether the token itself breaks a rule (refusals 3 to 6).
     pub fn is_refused(self) -> bool {
         (BAD_BYTE..=TOO_LONG).contains(&self.kind)
+    }
+
+    /// Whether the token is a reserved word.
+    pub fn is_reserved(self) -> bool {
+        (PERMIT..=CONTAINS_ANY).contains(&self.kind)
     }
 }
 
@@ -278,6 +306,8 @@ mod tests {
             assert_eq!(read(longer.as_bytes()), vec![(NAME, 0, longer.len())]);
             assert_eq!(read(word.to_ascii_uppercase().as_bytes())[0].0, NAME);
         }
+        assert_eq!(read(b"else")[0].0, ELSE);
+        assert_eq!(read(b"containsAny")[0].0, CONTAINS_ANY);
         assert_eq!(read(b"containsAny")[0].0, 218);
         assert_eq!(read(b"containsany")[0].0, NAME);
     }
