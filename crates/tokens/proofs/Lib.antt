@@ -7,6 +7,8 @@ pub mod LoneLaws
 pub mod PlaceLaws
 pub mod ReadLaws
 pub mod KindLaws
+pub mod FormLaws
 pub mod Examples
 pub mod ShiftLaws
 pub mod KeepLaws
+pub mod Longest

@@ -1,31 +1,16 @@
 -- The token at a mark that stands by itself. Assumes nothing.
 use mathlib.Core.Path.{_≡_, refl}
 use mathlib.Core.Bool.{Bool, true, not, _&&_}
-use mathlib.Core.List.{List, [], _∷_}
-use mathlib.Core.Logic.{⊎-elim}
+use mathlib.Core.List.{List, []}
 use Prim.Native.Nat.{ℕ, _+_}
 use lib.Dec.{eqb}
 use lib.ListN.{getD}
 use borrow.Author.Tests.{eqb-true, not-true}
 use Rattle.slices.specs.Ascii.{bytes}
-use Rattle.tokens.specs.Bytes.{oneOf, classOf, mark}
+use Rattle.tokens.specs.Bytes.{classOf, mark}
 use Rattle.tokens.specs.Runs.{loneMark}
 use Rattle.tokens.specs.Tokens.{token, doubled, beforeEquals, markOf, markAt, tokenBy}
-use Rattle.tokens.proofs.TokenLaws.{never, and-left, and-right, or-cases}
-
-every : (ℕ → Bool) → List ℕ → Bool
-every test [] = true
-every test (x ∷ xs) = test x && every test xs
-
--- a test that each of some numbers passes, one of them passes
-one-passes : (test : ℕ → Bool) (xs : List ℕ) (b : ℕ) → every test xs ≡ true → oneOf xs b ≡ true → test b ≡ true
-unfolding every
-one-passes test [] b v e = absurd (never e)
-one-passes test (x ∷ xs) b v e =
-    ⊎-elim
-    (λ (f : eqb b x ≡ true). rw (eqb-true b x f) (and-left _ _ v))
-    (λ (f : oneOf xs b ≡ true). one-passes test xs b (and-right (test x) (every test xs) v) f)
-    (or-cases (eqb b x) (oneOf xs b) e)
+use Rattle.tokens.proofs.TokenLaws.{and-left, and-right, every, one-passes}
 
 -- a mark that starts no string, no number and no longer mark
 single : ℕ → Bool

@@ -1,5 +1,5 @@
 -- A token depends only on the text from its place on: with bytes put before the text, it is the same token, further on. Assumes nothing.
-use mathlib.Core.Path.{_≡_, refl}
+use mathlib.Core.Path.{_≡_, refl, ap, _∙_}
 use mathlib.Core.Bool.{Bool, true, false, cond}
 use mathlib.Core.List.{List, _++_}
 use Prim.Native.Nat.{ℕ, _+_, _-_}
@@ -9,7 +9,9 @@ use lib.Dec.{leb}
 use lib.ListN.{length, length-append}
 use lib.Seq.{drop-append-add, getD-append-add}
 use borrow.Author.Tests.{le-leb, lt-leb, leb-true, leb-false}
-use Rattle.tokens.specs.Tokens.{token, sized, wordAt, stringAt, numberAt, markOf, markAt, tokenAt}
+use Rattle.tokens.specs.Runs.{runEnd}
+use Rattle.tokens.specs.Tokens.{token, sized, wordAt, stringAt, numberAt, markOf, markAt, tokenFrom, tokenAt}
+use Rattle.tokens.specs.declared.classes.Sort.the-variants.{Blanks}
 use Rattle.tokens.specs.declared.reader.Token.{Token}
 
 -- the same token, so many bytes further
@@ -61,9 +63,15 @@ module _ (pre rest : List ℕ) where
   mark-further at =
       simp (getD-append-add, add-assoc, string-further, number-further, mark-of-further, further-cond, further-token)
 
+  -- what starts at a place of `rest` is what starts at that place of `pre ++ rest`, but for its place
+  pub from-further : (at : ℕ) → tokenFrom (pre ++ rest) (length pre + at) ≡ further (length pre) (tokenFrom rest at)
+  from-further at =
+      simp (getD-append-add, length-append, add-assoc, below, word-further, number-further, mark-further, further-cond, further-token)
+
   -- the token at a place of `rest` is the one at that place of `pre ++ rest`, but for its place
   pub token-further : (at : ℕ) → tokenAt (pre ++ rest) (length pre + at) ≡ further (length pre) (tokenAt rest at)
   unfolding tokenAt
-  token-further at =
-      simp
-      (drop-append-add, getD-append-add, length-append, add-assoc, below, word-further, number-further, mark-further, further-cond, further-token)
+  token-further at = ap (tokenFrom (pre ++ rest)) passed ∙ from-further (runEnd Blanks rest at)
+    where
+      passed : runEnd Blanks (pre ++ rest) (length pre + at) ≡ length pre + runEnd Blanks rest at
+      passed = simp (drop-append-add, add-assoc)

@@ -29,6 +29,21 @@ pub or-cases : (a b : Bool) → (a || b) ≡ true → (a ≡ true) ⊎ (b ≡ tr
 or-cases true b e = inl refl
 or-cases false b e = inr e
 
+-- a test that each of some passes
+unfoldable pub every : {A : Type 0} → (A → Bool) → List A → Bool
+every test [] = true
+every test (x ∷ xs) = test x && every test xs
+
+-- one of them passes it
+pub one-passes : (test : ℕ → Bool) (xs : List ℕ) (b : ℕ) → every test xs ≡ true → oneOf xs b ≡ true → test b ≡ true
+unfolding every
+one-passes test [] b v e = absurd (never e)
+one-passes test (x ∷ xs) b v e =
+    ⊎-elim
+    (λ (f : eqb b x ≡ true). rw (eqb-true b x f) (and-left _ _ v))
+    (λ (f : oneOf xs b ≡ true). one-passes test xs b (and-right (test x) (every test xs) v) f)
+    (or-cases (eqb b x) (oneOf xs b) e)
+
 -- a place at which a test holds that 0 fails is inside the text
 pub inside : (test : ℕ → Bool) (text : List ℕ) (i : ℕ) → (test 0 ≡ true → ⊥) → test (getD text i 0) ≡ true → i < length text
 inside test [] i n e = absurd (n e)

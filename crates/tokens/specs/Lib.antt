@@ -4,4 +4,5 @@ pub mod Runs
 pub mod Table
 pub mod Words
 pub mod Tokens
+pub mod Forms
 pub mod Places
