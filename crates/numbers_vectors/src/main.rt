@@ -2,7 +2,6 @@
 // and if so how the two compare. A literal that is not one number token gets a minus.
 ghost use mathlib.Core.Bool.{true};
 ghost use mathlib.Core.Path.{_≡_};
-ghost use Prim.Native.Nat.{_<_};
 ghost use lib.Dec.{T};
 ghost use lib.Ieee.Scale.{finite};
 ghost use Rattle.numbers.specs.Literals.{IsNumber};
@@ -17,33 +16,11 @@ use tokens::classes::class_table;
 use tokens::kinds;
 use tokens::reader::next_token;
 
-fn hex_digit(n: u64) -> u8
-    requires { ⌜ n < 16 ⌝ }
-{
-    if n < 10 {
-        b'0' + n as u8
-    } else {
-        b'a' + (n - 10) as u8
-    }
-}
-
-// Writes a number as 16 hexadecimal digits.
-fn print_hex(n: u64) {
-    let mut digits = [0u8; 16];
-    let mut rest = n;
-    let mut i = 16;
-    while i > 0 {
-        i -= 1;
-        digits[i] = hex_digit(rest % 16);
-        rest /= 16;
-    }
-    io::write_all(STDOUT_FILENO, &digits);
-}
-
+// Writes a number's bits as 16 hexadecimal digits.
 fn print_finite(x: f64)
     requires { ⌜ T (finite x) ⌝ }
 {
-    print_hex(f64::to_bits(x));
+    io::print_hex(STDOUT_FILENO, f64::to_bits(x), 16);
 }
 
 fn yes_or_no(yes: bool) -> u8 {
