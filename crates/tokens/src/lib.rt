@@ -3,5 +3,5 @@ pub mod classes;
 pub mod kinds;
 pub mod places;
 pub mod reader;
-mod runs;
+pub mod runs;
 pub mod words;

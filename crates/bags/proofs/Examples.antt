@@ -1,0 +1,73 @@
+-- Worked examples: bags, and bytes that are none, each for one rule. Assumes nothing.
+use Prim.Native.Nat.{ℕ}
+use mathlib.Core.Bool.{true, false}
+use mathlib.Core.List.{List, [], _∷_, _++_}
+use mathlib.Core.Path.{_≡_, refl}
+use lib.Ieee.{ofBits}
+use lib.ListN.{length}
+use Prim.Native.String.{String}
+use Rattle.slices.specs.Ascii.{bytes}
+use Rattle.slices.specs.Order.{before}
+use Rattle.slices.specs.Same.{same}
+use Rattle.tokens.specs.Bytes.{classOf}
+use Rattle.tokens.specs.Words.{reserved, kindAmong}
+use Rattle.numbers.specs.Bits.{numberAt}
+use Rattle.bags.specs.Reading.{many, each, part}
+use Rattle.bags.specs.Paths.{every, isName, pieces, isPath}
+use Rattle.bags.specs.Values.{stringEnd, numberEnd, flagEnd, listEnd, valueEnd}
+use Rattle.bags.specs.Sections.{entryEnd, ascends, ascending, entriesEnd, sectionEnd, sectionsOf, isBag}
+
+pub paths :
+    (isPath (bytes "grade") ≡ true)
+    × (isPath (bytes "a.b-2.c_") ≡ true)
+    × (isPath (bytes "a.iff") ≡ true)
+    × (isPath (bytes "") ≡ false)
+    × (isPath (bytes "a.") ≡ false)
+    × (isPath (bytes "a..b") ≡ false)
+    × (isPath (bytes "2a") ≡ false)
+    × (isPath (bytes "a b") ≡ false)
+    × (isPath (bytes "a.if") ≡ false)
+    × (isPath (bytes "a123456789b123456789c123456789d123456789e123456789f123456789.123") ≡ false)
+    × (isPath (bytes "a123456789b123456789c123456789d123456789e123456789f123456789.abc") ≡ true)
+    × (isPath (bytes "a123456789b123456789c123456789d123456789e123456789f123456789.abcd") ≡ false)
+unfolding isPath pieces every isName classOf reserved kindAmong same
+paths = (refl, refl, refl, refl, refl, refl, refl, refl, refl, refl, refl, refl)
+
+-- a bag with one entry of the section principal
+abbrev one : String → List ℕ → List ℕ
+one path value = 1 ∷ length (bytes path) ∷ (bytes path ++ (value ++ (0 ∷ 0 ∷ [])))
+
+-- two flags of the section env
+abbrev two : String → String → List ℕ
+two p q = 0 ∷ 0 ∷ 2 ∷ length (bytes p) ∷ (bytes p ++ (3 ∷ 0 ∷ length (bytes q) ∷ (bytes q ++ (3 ∷ 1 ∷ []))))
+
+pub bags :
+    (isBag (0 ∷ 0 ∷ 0 ∷ []) ≡ true)
+    × (isBag (0 ∷ 0 ∷ []) ≡ false)
+    × (isBag (0 ∷ 0 ∷ 0 ∷ 0 ∷ []) ≡ false)
+    × (isBag (33 ∷ 0 ∷ 0 ∷ []) ≡ false)
+    × (isBag (one "grade" (2 ∷ 0 ∷ 0 ∷ 0 ∷ 0 ∷ 0 ∷ 0 ∷ 8 ∷ 64 ∷ [])) ≡ true)
+    × (isBag (one "grade" (2 ∷ 0 ∷ 0 ∷ 0 ∷ 0 ∷ 0 ∷ 0 ∷ 240 ∷ 127 ∷ [])) ≡ false)
+    × (isBag (one "grade" (2 ∷ 1 ∷ 0 ∷ 0 ∷ 0 ∷ 0 ∷ 0 ∷ 240 ∷ 255 ∷ [])) ≡ false)
+    × (isBag (one "on" (3 ∷ 1 ∷ [])) ≡ true)
+    × (isBag (one "on" (3 ∷ 2 ∷ [])) ≡ false)
+    × (isBag (one "on" (0 ∷ [])) ≡ false)
+    × (isBag (one "on" (5 ∷ 0 ∷ [])) ≡ false)
+    × (isBag (one "hired" (1 ∷ 3 ∷ bytes "own")) ≡ true)
+    × (isBag (one "hired" (1 ∷ 0 ∷ [])) ≡ true)
+    × (isBag (one "hired" (1 ∷ 6 ∷ bytes "own")) ≡ false)
+    × (isBag (one "tags" (4 ∷ 2 ∷ 1 ∷ 120 ∷ 0 ∷ [])) ≡ true)
+    × (isBag (one "tags" (4 ∷ 17 ∷ 1 ∷ 120 ∷ 0 ∷ [])) ≡ false)
+    × (isBag (one "" (3 ∷ 1 ∷ [])) ≡ false)
+    × (isBag (one "if" (3 ∷ 1 ∷ [])) ≡ false)
+    × (isBag (two "a" "a-b") ≡ true)
+    × (isBag (two "a-b" "a.b") ≡ true)
+    × (isBag (two "a.b" "a0") ≡ true)
+    × (isBag (two "a0" "aA") ≡ true)
+    × (isBag (two "aA" "a_") ≡ true)
+    × (isBag (two "a_" "aa") ≡ true)
+    × (isBag (two "b" "a") ≡ false)
+    × (isBag (two "a" "a") ≡ false)
+unfolding isBag sectionsOf sectionEnd entriesEnd ascending ascends entryEnd valueEnd stringEnd numberEnd flagEnd listEnd numberAt ofBits many each part isPath pieces every isName classOf reserved kindAmong same before
+bags =
+    (refl, refl, refl, refl, refl, refl, refl, refl, refl, refl, refl, refl, refl, refl, refl, refl, refl, refl, refl, refl, refl, refl, refl, refl, refl, refl)

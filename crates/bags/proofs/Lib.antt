@@ -1,0 +1,6 @@
+pub mod ReadLaws
+pub mod PathLaws
+pub mod ValueLaws
+pub mod SectionLaws
+pub mod Accepted
+pub mod Examples

@@ -1,0 +1,230 @@
+-- Laws of paths: the pieces between the dots, as runs of word bytes find them. Assumes nothing.
+use Prim.Native.Nat.{ℕ, suc, _+_, _-_, _<_, _≤_}
+use mathlib.Core.List.{List, [], _∷_}
+use mathlib.Core.Bool.{Bool, true, false, _&&_, cond}
+use mathlib.Core.Logic.{⊎-elim}
+use mathlib.Core.Path.{_≡_, refl, sym, _∙_, ap}
+use native.Mathlib.Nat.{eq-or-lt-of-le}
+use native.Mathlib.Omega.{arith}
+use lib.Dec.{leb, eqb}
+use lib.ListN.{length, getD, take, drop, length-drop}
+use lib.Seq.{take-all, getD-drop, drop-drop}
+use borrow.Author.Tests.{eqb-true, eqb-false, eq-eqb, ne-eqb, le-leb, lt-leb, leb-true}
+use Rattle.tokens.specs.Bytes.{classOf}
+use Rattle.tokens.specs.Kinds.{name}
+use Rattle.tokens.specs.Runs.{is, run, runEnd}
+use Rattle.tokens.specs.Words.{wordKind}
+use Rattle.tokens.specs.declared.classes.Sort.the-variants.{Letters, WordBytes}
+use Rattle.bags.specs.Paths.{every, isName, onto, pieces, joined, isPath}
+use Rattle.bags.proofs.ReadLaws.{and-true}
+
+-- ---- pieces
+
+-- there is a first piece
+record Pieces (l : List ℕ) : Type 0 where
+  first : List ℕ
+  others : List (List ℕ)
+  are : pieces l ≡ first ∷ others
+
+some-piece : (l : List ℕ) → Pieces l
+unfolding pieces
+some-piece [] = record { first = []; others = []; are = refl }
+some-piece (b ∷ rest) = go (eqb b 46) refl (some-piece rest)
+  where
+    go : (t : Bool) → eqb b 46 ≡ t → Pieces rest → Pieces (b ∷ rest)
+    go true e p = record { first = []; others = pieces rest; are = simp e }
+    go false e p = record { first = b ∷ p .first; others = p .others; are = simp (e, p .are) }
+
+-- pieces joined by dots are the whole again
+pub joined-again : (l : List ℕ) → joined (pieces l) ≡ l
+unfolding pieces joined
+joined-again [] = refl
+joined-again (b ∷ rest) = go (eqb b 46) refl (some-piece rest) (joined-again rest)
+  where
+    longer : (p : List ℕ) (ps : List (List ℕ)) → joined ((b ∷ p) ∷ ps) ≡ b ∷ joined (p ∷ ps)
+    longer p [] = refl
+    longer p (q ∷ qs) = refl
+
+    go : (t : Bool) → eqb b 46 ≡ t → Pieces rest → joined (pieces rest) ≡ rest → joined (cond t ([] ∷ pieces rest) (onto b (pieces rest))) ≡ b ∷ rest
+    go true e p j = let h : joined (p .first ∷ p .others) ≡ rest = rw (p .are) at j in rw (p .are) (simp (h, eqb-true b 46 e))
+    go false e p j = let h : joined (p .first ∷ p .others) ≡ rest = rw (p .are) at j in rw (p .are) (longer (p .first) (p .others) ∙ ap (λ (l : List ℕ). b ∷ l) h)
+
+-- ---- a run of word bytes, and the piece that starts with it
+
+dot-is-none : (b : ℕ) → is WordBytes b ≡ true → eqb b 46 ≡ false
+unfolding classOf
+dot-is-none b h = ne-eqb b 46 (λ e. let z : false ≡ true = rw e at h in let k : _≡_ {A = ℕ} 0 1 = cc in omega arith)
+
+run-words : (l : List ℕ) → every (is WordBytes) (take (run WordBytes l) l) ≡ true
+unfolding run every
+run-words [] = refl
+run-words (b ∷ rest) = go (is WordBytes b) refl (run-words rest)
+  where
+    go : (t : Bool) → is WordBytes b ≡ t → every (is WordBytes) (take (run WordBytes rest) rest) ≡ true
+        → every (is WordBytes) (take (cond t (suc (run WordBytes rest)) 0) (b ∷ rest)) ≡ true
+    go true e h = simp (e, h)
+    go false e h = refl
+
+piece-last : (l : List ℕ) → run WordBytes l ≡ length l → pieces l ≡ l ∷ []
+unfolding run pieces
+piece-last [] h = refl
+piece-last (b ∷ rest) h = go (is WordBytes b) refl (piece-last rest) h
+  where
+    go : (t : Bool) → is WordBytes b ≡ t → (run WordBytes rest ≡ length rest → pieces rest ≡ rest ∷ []) → cond t (suc (run WordBytes rest)) 0 ≡ suc (length rest)
+        → cond (eqb b 46) ([] ∷ pieces rest) (onto b (pieces rest)) ≡ (b ∷ rest) ∷ []
+    go true e ih k = simp (dot-is-none b e, ih (omega arith))
+    go false e ih k = absurd (omega arith)
+
+piece-dot : (l : List ℕ) → run WordBytes l < length l → getD l (run WordBytes l) 0 ≡ 46 → pieces l ≡ take (run WordBytes l) l ∷ pieces (drop (suc (run WordBytes l)) l)
+unfolding run pieces
+piece-dot [] h d = absurd (omega arith)
+piece-dot (b ∷ rest) h d = go (is WordBytes b) refl (piece-dot rest) h d
+  where
+    k : ℕ
+    k = run WordBytes rest
+
+    go : (t : Bool) → is WordBytes b ≡ t
+        → (k < length rest → getD rest k 0 ≡ 46 → pieces rest ≡ take k rest ∷ pieces (drop (suc k) rest))
+        → cond t (suc k) 0 < suc (length rest) → getD (b ∷ rest) (cond t (suc k) 0) 0 ≡ 46
+        → cond (eqb b 46) ([] ∷ pieces rest) (onto b (pieces rest)) ≡ take (cond t (suc k) 0) (b ∷ rest) ∷ pieces (drop (suc (cond t (suc k) 0)) (b ∷ rest))
+    go true e ih h′ d′ = simp (dot-is-none b e, ih (omega arith) d′)
+    go false e ih h′ d′ = simp (eq-eqb b 46 d′)
+
+and-false : (a b : Bool) → b ≡ false → a && b ≡ false
+and-false true b h = h
+and-false false b h = refl
+
+-- a piece with a byte that no word has
+record Spoilt (l : List ℕ) : Type 0 where
+  first : List ℕ
+  others : List (List ℕ)
+  are : pieces l ≡ first ∷ others
+  bad : every (is WordBytes) first ≡ false
+
+piece-spoilt : (l : List ℕ) → run WordBytes l < length l → (getD l (run WordBytes l) 0 ≡ 46 → ⊥) → Spoilt l
+unfolding run pieces every
+piece-spoilt [] h d = absurd (omega arith)
+piece-spoilt (b ∷ rest) h d = go (is WordBytes b) refl (piece-spoilt rest) h d
+  where
+    k : ℕ
+    k = run WordBytes rest
+
+    go : (t : Bool) → is WordBytes b ≡ t → (k < length rest → (getD rest k 0 ≡ 46 → ⊥) → Spoilt rest) → cond t (suc k) 0 < suc (length rest)
+        → (getD (b ∷ rest) (cond t (suc k) 0) 0 ≡ 46 → ⊥) → Spoilt (b ∷ rest)
+    go true e ih h′ d′ =
+        let s = ih (omega arith) d′ in
+        record { first = b ∷ s .first; others = s .others; are = simp (dot-is-none b e, s .are); bad = and-false (is WordBytes b) _ (s .bad) }
+    go false e ih h′ d′ =
+        let p = some-piece rest in
+        record { first = b ∷ p .first; others = p .others; are = simp (ne-eqb b 46 d′, p .are); bad = simp e }
+
+-- ---- whether the pieces are names, by the first run of word bytes
+
+-- what is left to ask of a run of word bytes
+abbrev pub starts : List ℕ → Bool
+starts w = is Letters (getD w 0 0) && eqb (wordKind w) name
+
+pub starts-none : (w : List ℕ) → length w ≡ 0 → false ≡ starts w
+unfolding classOf
+starts-none [] h = refl
+starts-none (b ∷ rest) h = absurd (omega arith)
+
+without : (a b c : Bool) → b ≡ true → a && b && c ≡ a && c
+without true b c h = simp h
+without false b c h = refl
+
+unnamed : (a b c : Bool) → b ≡ false → a && b && c ≡ false
+unnamed true b c h = simp h
+unnamed false b c h = refl
+
+module _ (l : List ℕ) where
+  word : List ℕ
+  word = take (run WordBytes l) l
+
+  named : (r : Bool) → starts word ≡ r → isName word ≡ r
+  unfolding isName word
+  named r h = without (is Letters (getD word 0 0)) (every (is WordBytes) word) (eqb (wordKind word) name) (run-words l) ∙ h
+
+  lone : run WordBytes l ≡ length l → pieces l ≡ word ∷ []
+  unfolding word
+  lone h = piece-last l h ∙ ap (λ (w : List ℕ). w ∷ []) (sym (take-all (run WordBytes l) l (omega arith)))
+
+  spoilt : run WordBytes l < length l → (getD l (run WordBytes l) 0 ≡ 46 → ⊥) → every isName (pieces l) ≡ false
+  unfolding every isName
+  spoilt h d =
+      let s = piece-spoilt l h d in
+      rw (s .are) (simp (unnamed (is Letters (getD (s .first) 0 0)) (every (is WordBytes) (s .first)) (eqb (wordKind (s .first)) name) (s .bad)))
+
+  nameless : run WordBytes l ≤ length l → starts word ≡ false → every isName (pieces l) ≡ false
+  unfolding every word
+  nameless m h =
+      ⊎-elim
+      (λ (e : run WordBytes l ≡ length l). rw (lone e) (simp (named false h)))
+      (λ (i : run WordBytes l < length l). go i (eqb (getD l (run WordBytes l) 0) 46) refl)
+      (eq-or-lt-of-le m)
+    where
+      go : run WordBytes l < length l → (t : Bool) → eqb (getD l (run WordBytes l) 0) 46 ≡ t → every isName (pieces l) ≡ false
+      go i true e = rw (piece-dot l i (eqb-true _ 46 e)) (simp (named false h))
+      go i false e = spoilt i (eqb-false _ 46 e)
+
+  lone-name : run WordBytes l ≡ length l → starts word ≡ true → every isName (pieces l) ≡ true
+  unfolding every
+  lone-name e h = rw (lone e) (simp (named true h))
+
+  name-and-dot : run WordBytes l < length l → getD l (run WordBytes l) 0 ≡ 46 → starts word ≡ true
+      → every isName (pieces l) ≡ every isName (pieces (drop (suc (run WordBytes l)) l))
+  unfolding every word
+  name-and-dot i d h = rw (piece-dot l i d) (simp (named true h))
+
+-- the same, by places of a path
+module _ (path : List ℕ) (at end : ℕ) (is-end : end ≡ runEnd WordBytes path at) (high : end ≤ length path) where
+  size : end - at ≡ run WordBytes (drop at path)
+  size = omega arith
+
+  pub not-a-name : starts (take (end - at) (drop at path)) ≡ false → every isName (pieces (drop at path)) ≡ false
+  unfolding word
+  not-a-name h = nameless (drop at path) (omega (arith, length-drop at path)) (rw size at h)
+
+  pub last-name : starts (take (end - at) (drop at path)) ≡ true → end ≡ length path → every isName (pieces (drop at path)) ≡ true
+  unfolding word
+  last-name h e = lone-name (drop at path) (omega (arith, length-drop at path)) (rw size at h)
+
+  byte-at : getD (drop at path) (run WordBytes (drop at path)) 0 ≡ getD path end 0
+  byte-at = rw getD-drop (ap (λ (i : ℕ). getD path i 0) (sym is-end))
+
+  pub no-dot : end < length path → (getD path end 0 ≡ 46 → ⊥) → every isName (pieces (drop at path)) ≡ false
+  no-dot i d = spoilt (drop at path) (omega (arith, length-drop at path)) (λ e. d (sym byte-at ∙ e))
+
+  pub dot-then : starts (take (end - at) (drop at path)) ≡ true → end < length path → getD path end 0 ≡ 46
+      → every isName (pieces (drop at path)) ≡ every isName (pieces (drop (end + 1) path))
+  unfolding word
+  dot-then h i d =
+      name-and-dot (drop at path) (omega (arith, length-drop at path)) (byte-at ∙ d) (rw size at h)
+      ∙ ap (λ (r : List ℕ). every isName (pieces r)) (drop-drop (suc (run WordBytes (drop at path))) at path ∙ ap (λ (i : ℕ). drop i path) past)
+    where
+      past : at + suc (run WordBytes (drop at path)) ≡ end + 1
+      past = omega arith
+
+-- ---- a path
+
+no-empty : every isName (pieces []) ≡ true → ⊥
+unfolding every pieces isName classOf
+no-empty e = let k : _≡_ {A = ℕ} 0 1 = cc in omega arith
+
+module _ (p : List ℕ) where
+  pub path-long : 64 < length p → false ≡ isPath p
+  unfolding isPath
+  path-long h = simp (lt-leb _ _ h)
+
+  pub path-is : (r : Bool) → length p ≤ 64 → every isName (pieces p) ≡ r → r ≡ isPath p
+  unfolding isPath
+  path-is r h e = simp (le-leb _ _ h, e)
+
+  -- a path has a byte, and at most 64
+  pub path-sized : isPath p ≡ true → (0 < length p) × (length p ≤ 64)
+  unfolding isPath
+  path-sized h = let t = and-true (leb (length p) 64) _ h in (go p (t .1), leb-true _ _ (t .0))
+    where
+      go : (p : List ℕ) → every isName (pieces p) ≡ true → 0 < length p
+      go [] e = absurd (no-empty e)
+      go (b ∷ rest) e = omega arith

@@ -1,0 +1,4 @@
+pub mod Reading
+pub mod Paths
+pub mod Values
+pub mod Sections

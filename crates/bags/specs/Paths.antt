@@ -1,0 +1,51 @@
+-- Paths: names joined by dots, 64 bytes at most. A name is a word that is not reserved. Definitions only.
+use Prim.Native.Char.{code}
+use Prim.Native.Nat.{ℕ, _≤_}
+use mathlib.Core.Path.{_≡_}
+use mathlib.Core.Bool.{Bool, true, _&&_, cond}
+use mathlib.Core.List.{List, [], _∷_, _++_}
+use lib.Dec.{leb, eqb}
+use lib.ListN.{length, getD}
+use Rattle.tokens.specs.Kinds.{name}
+use Rattle.tokens.specs.Runs.{is}
+use Rattle.tokens.specs.Words.{wordKind}
+use Rattle.tokens.specs.declared.classes.Sort.the-variants.{Letters, WordBytes}
+
+-- whether a test holds of each
+unfoldable pub every : {A : Type 0} → (A → Bool) → List A → Bool
+every test [] = true
+every test (x ∷ xs) = test x && every test xs
+
+-- a word: a letter, then letters, digits, `_`, `-`
+abbrev pub isWord : List ℕ → Bool
+isWord w = is Letters (getD w 0 0) && every (is WordBytes) w
+
+-- any word but a reserved one
+unfoldable pub isName : List ℕ → Bool
+isName w = isWord w && eqb (wordKind w) name
+
+-- a byte more at the front of the first piece
+abbrev pub onto : ℕ → List (List ℕ) → List (List ℕ)
+onto b [] = (b ∷ []) ∷ []
+onto b (p ∷ ps) = (b ∷ p) ∷ ps
+
+-- the pieces between the dots
+unfoldable pub pieces : List ℕ → List (List ℕ)
+pieces [] = [] ∷ []
+pieces (b ∷ rest) = cond (eqb b (code ".")) ([] ∷ pieces rest) (onto b (pieces rest))
+
+-- pieces joined by dots
+unfoldable pub joined : List (List ℕ) → List ℕ
+joined [] = []
+joined (p ∷ []) = p
+joined (p ∷ q ∷ ps) = p ++ (code "." ∷ joined (q ∷ ps))
+
+unfoldable pub isPath : List ℕ → Bool
+isPath p = leb (length p) 64 && every isName (pieces p)
+
+-- the same without computing: names joined by dots, 64 bytes at most
+pub record Path (p : List ℕ) : Type 0 where
+  pub names : List (List ℕ)
+  pub all : every isName names ≡ true
+  pub joined-by : p ≡ joined names
+  pub few : length p ≤ 64

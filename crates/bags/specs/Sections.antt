@@ -1,0 +1,71 @@
+-- Entries, sections and bags. Definitions only.
+use Prim.Native.Nat.{ℕ, _+_}
+use mathlib.Core.List.{List, [], _∷_}
+use mathlib.Core.Bool.{Bool, true, false, _&&_}
+use lib.Dec.{ltb, leb, eqb}
+use lib.ListN.{length}
+use Rattle.slices.specs.Order.{Before, before}
+use Rattle.bags.specs.Reading.{byte, part, only, many, each}
+use Rattle.bags.specs.Paths.{isPath}
+use Rattle.bags.specs.Values.{valueEnd}
+use Rattle.bags.specs.declared.After.{After}
+use Rattle.bags.specs.declared.After.the-variants.{At, Bad}
+use Rattle.bags.specs.declared.sections.Divided.{Divided}
+use Rattle.bags.specs.declared.sections.Divided.the-variants.{In, Broken}
+
+-- of the entry at a place: its path, after a length byte, and where its kind byte stands
+abbrev pub pathAt : List ℕ → ℕ → List ℕ
+pathAt s at = part s (at + 1) (byte s at)
+
+abbrev pub kindAt : List ℕ → ℕ → ℕ
+kindAt s at = at + 1 + byte s at
+
+-- an entry: a path length byte, the path, a kind byte and a value
+unfoldable pub entryEnd : List ℕ → ℕ → After
+entryEnd s at = only (ltb (kindAt s at) (length s) && isPath (pathAt s at)) (valueEnd (byte s (kindAt s at)) s (kindAt s at + 1))
+
+-- each path stands before the next; `ascends p` is for those after p
+unfoldable pub ascends : List ℕ → List (List ℕ) → Bool
+ascends p [] = true
+ascends p (q ∷ qs) = before p q && ascends q qs
+
+unfoldable pub ascending : List (List ℕ) → Bool
+ascending [] = true
+ascending (p ∷ ps) = ascends p ps
+
+-- the same without computing: every two neighbours are in order
+pub data Ascending : List (List ℕ) → Type 0 where
+  none : Ascending []
+  one : {p : List ℕ} → Ascending (p ∷ [])
+  more : {p q : List ℕ} {ps : List (List ℕ)} → Before p q → Ascending (q ∷ ps) → Ascending (p ∷ q ∷ ps)
+
+-- the paths of n entries
+abbrev pub pathsOf : ℕ → List ℕ → ℕ → List (List ℕ)
+pathsOf n s at = each n (entryEnd s) (λ at e. pathAt s at) at
+
+-- n entries that ascend strictly by path bytes
+unfoldable pub entriesEnd : ℕ → List ℕ → ℕ → After
+entriesEnd n s at = only (ascending (pathsOf n s at)) (many n (entryEnd s) at)
+
+-- a section: a count byte of 0 to 32, and that many entries
+unfoldable pub sectionEnd : List ℕ → ℕ → After
+sectionEnd s at = only (ltb at (length s) && leb (byte s at) 32) (entriesEnd (byte s at) s (at + 1))
+
+-- the sections principal, resource and env from the first byte on: where the second and the third start, and where that one ends
+abbrev pub afterwards : After → (ℕ → Divided) → Divided
+afterwards (At e) next = next e
+afterwards Bad next = Broken
+
+unfoldable pub sectionsOf : List ℕ → Divided
+sectionsOf s =
+    afterwards (sectionEnd s 0) λ resource.
+    afterwards (sectionEnd s resource) λ env.
+    afterwards (sectionEnd s env) λ end. In (record { resource = resource; env = env; end = end })
+
+abbrev pub fill : Divided → ℕ → Bool
+fill (In p) n = eqb (p .end) n
+fill Broken n = false
+
+-- a bag: the three sections, with nothing after them, 4,096 bytes at most
+unfoldable pub isBag : List ℕ → Bool
+isBag s = leb (length s) 4096 && fill (sectionsOf s) (length s)
