@@ -12,14 +12,14 @@ use Rattle.slices.specs.Order.{before}
 use Rattle.slices.proofs.Order.{before-decides}
 use Rattle.bags.specs.Reading.{byte, many}
 use Rattle.bags.specs.Paths.{every, isName, pieces, isPath, Path}
-use Rattle.bags.specs.Sections.{pathAt, entryEnd, ascends, ascending, Ascending, none, one, more, pathsOf, sectionEnd, sectionsOf, fill, isBag}
+use Rattle.bags.specs.Sections.{pathAt, entryEnd, ascends, ascending, Ascending, none, one, more, pathsOf, sectionEnd, sectionsOf, Sectioned, fill, isBag}
 use Rattle.bags.specs.declared.After.the-variants.{At}
 use Rattle.bags.specs.declared.sections.Sections.{Sections}
 use Rattle.bags.specs.declared.sections.Divided.{Divided}
 use Rattle.bags.specs.declared.sections.Divided.the-variants.{In, Broken}
 use Rattle.bags.proofs.ReadLaws.{and-true, first, each-done, each-more}
 use Rattle.bags.proofs.PathLaws.{joined-again}
-use Rattle.bags.proofs.SectionLaws.{entry-at, section-at, Sectioned, sections-at}
+use Rattle.bags.proofs.SectionLaws.{entry-at, section-at, sections-at}
 
 -- a path is names joined by dots
 pub path-is-names : (p : List ℕ) → isPath p ≡ true → Path p

@@ -1,7 +1,7 @@
 -- Laws of paths: the pieces between the dots, as runs of word bytes find them. Assumes nothing.
 use Prim.Native.Nat.{ℕ, suc, _+_, _-_, _<_, _≤_}
 use mathlib.Core.List.{List, [], _∷_}
-use mathlib.Core.Bool.{Bool, true, false, _&&_, cond}
+use mathlib.Core.Bool.{Bool, true, false, _&&_, _||_, cond}
 use mathlib.Core.Logic.{⊎-elim}
 use mathlib.Core.Path.{_≡_, refl, sym, _∙_, ap}
 use native.Mathlib.Nat.{eq-or-lt-of-le}
@@ -228,3 +228,40 @@ module _ (p : List ℕ) where
       go : (p : List ℕ) → every isName (pieces p) ≡ true → 0 < length p
       go [] e = absurd (no-empty e)
       go (b ∷ rest) e = omega arith
+
+-- ---- the bytes of a path
+
+words : (ps : List (List ℕ)) → every isName ps ≡ true → every (every (is WordBytes)) ps ≡ true
+unfolding every isName
+words [] h = refl
+words (p ∷ ps) h =
+    let t = and-true (isName p) (every isName ps) h in
+    let w = and-true (is Letters (getD p 0 0) && every (is WordBytes) p) (eqb (wordKind p) name) (t .0) in
+    simp (and-true (is Letters (getD p 0 0)) (every (is WordBytes) p) (w .0) .1, words ps (t .1))
+
+-- a byte that a path may have
+abbrev pub pathByte : ℕ → Bool
+pathByte b = is WordBytes b || eqb b 46
+
+word-bytes : (l : List ℕ) → every (every (is WordBytes)) (pieces l) ≡ true → every pathByte l ≡ true
+unfolding every pieces
+word-bytes [] h = refl
+word-bytes (b ∷ rest) h = go (eqb b 46) refl h (some-piece rest) (word-bytes rest)
+  where
+    either : (a : Bool) → (a || true) ≡ true
+    either true = refl
+    either false = refl
+
+    go : (t : Bool) → eqb b 46 ≡ t → every (every (is WordBytes)) (cond t ([] ∷ pieces rest) (onto b (pieces rest))) ≡ true → Pieces rest
+        → (every (every (is WordBytes)) (pieces rest) ≡ true → every pathByte rest ≡ true) → every pathByte (b ∷ rest) ≡ true
+    go true e k p ih = simp (e, either (is WordBytes b), ih k)
+    go false e k p ih =
+        let k' : every (every (is WordBytes)) ((b ∷ p .first) ∷ p .others) ≡ true = rw (p .are) at k in
+        let t = and-true (is WordBytes b && every (is WordBytes) (p .first)) (every (every (is WordBytes)) (p .others)) k' in
+        let w = and-true (is WordBytes b) (every (is WordBytes) (p .first)) (t .0) in
+        let r : every (every (is WordBytes)) (pieces rest) ≡ true = rw (p .are) (simp (w .1, t .1)) in
+        simp (w .0, ih r)
+
+pub path-bytes : (p : List ℕ) → isPath p ≡ true → every pathByte p ≡ true
+unfolding isPath
+path-bytes p h = word-bytes p (words (pieces p) (and-true (leb (length p) 64) (every isName (pieces p)) h .1))

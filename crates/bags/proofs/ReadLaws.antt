@@ -7,7 +7,7 @@ use native.Mathlib.Omega.{arith}
 use native.Mathlib.Numerals.{add-one}
 use lib.ListN.{length, take, drop}
 use lib.Seq.{drop-cons}
-use Rattle.bags.specs.Reading.{only, many, each, byte, part}
+use Rattle.bags.specs.Reading.{_then_, only, many, each, byte, part}
 use Rattle.bags.specs.declared.After.{After}
 use Rattle.bags.specs.declared.After.the-variants.{At, Bad}
 
@@ -69,6 +69,44 @@ module _ (next : ℕ → After) where
       let m : suc n - 1 ≡ n = omega arith in
       let j = many-inside most one n (f .stop) e (i .1) (rw m at (f .later)) in
       (omega arith, j .1)
+
+  many-step : (n at e : ℕ) → next at ≡ At e → many (suc n) next at ≡ many n next e
+  unfolding many
+  many-step n at e h = simp h
+
+  many-one : (at : ℕ) → many (suc 0) next at ≡ next at
+  unfolding many
+  many-one at = go (next at) refl
+    where
+      go : (a : After) → next at ≡ a → (next at then λ e. At e) ≡ next at
+      go (At e) q = simp q
+      go Bad q = simp q
+
+  -- the last one after the others
+  pub many-last : (n at x : ℕ) → many n next at ≡ At x → many (n + 1) next at ≡ next x
+  many-last zero at x h =
+      let e : at ≡ x = same-end (many-done 0 at (omega arith)) h in
+      let l : 0 + 1 ≡ suc 0 = omega arith in
+      rw (l, e) (many-one x)
+  many-last (suc n) at x h =
+      let f = first (suc n) at x (omega arith) h in
+      let l : suc n + 1 ≡ suc (n + 1) = omega arith in
+      rw l (many-step (n + 1) at (f .stop) (f .ends) ∙ many-last n (f .stop) x (sym (many-step n at (f .stop) (f .ends)) ∙ h))
+
+  -- of n that end, number j starts somewhere and ends
+  pub record Nth (j at : ℕ) : Type 0 where
+    pub start : ℕ
+    pub stop : ℕ
+    pub starts : many j next at ≡ At start
+    pub stops : next start ≡ At stop
+
+  pub nth : (n j at e : ℕ) → j < n → many n next at ≡ At e → Nth j at
+  nth n zero at e l h = let f = first n at e l h in record { start = at; stop = f .stop; starts = many-done 0 at (omega arith); stops = f .ends }
+  nth zero (suc j) at e l h = absurd (omega arith)
+  nth (suc n) (suc j) at e l h =
+      let f = first (suc n) at e (omega arith) h in
+      let r = nth n j (f .stop) e (omega arith) (sym (many-step n at (f .stop) (f .ends)) ∙ h) in
+      record { start = r .start; stop = r .stop; starts = many-step j at (f .stop) (f .ends) ∙ r .starts; stops = r .stops }
 
 -- ---- what they are
 

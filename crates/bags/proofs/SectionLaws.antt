@@ -13,7 +13,7 @@ use Rattle.slices.proofs.Order.{before-is}
 use Rattle.bags.specs.Reading.{byte, part, only, many}
 use Rattle.bags.specs.Paths.{isPath}
 use Rattle.bags.specs.Values.{valueEnd}
-use Rattle.bags.specs.Sections.{pathAt, kindAt, entryEnd, ascends, ascending, pathsOf, entriesEnd, sectionEnd, sectionsOf, isBag}
+use Rattle.bags.specs.Sections.{pathAt, kindAt, entryEnd, ascends, ascending, pathsOf, entriesEnd, sectionEnd, sectionsOf, Sectioned, isBag}
 use Rattle.bags.specs.declared.After.{After}
 use Rattle.bags.specs.declared.After.the-variants.{At, Bad}
 use Rattle.bags.specs.declared.sections.Sections.{Sections}
@@ -157,12 +157,6 @@ module _ (s : List ℕ) where
       unfolding sectionsOf
       all-whole e h = simp (p, q, h)
 
--- what bytes that are divided into sections tell
-pub record Sectioned (s : List ℕ) (p : Sections) : Type 0 where
-  pub principal : sectionEnd s 0 ≡ At (p .resource)
-  pub resource : sectionEnd s (p .resource) ≡ At (p .env)
-  pub env : sectionEnd s (p .env) ≡ At (p .end)
-
 pub sections-at : (s : List ℕ) (p : Sections) → sectionsOf s ≡ In p → Sectioned s p
 sections-at s p h = first (sectionEnd s 0) refl
   where
@@ -216,11 +210,11 @@ module _ (s : List ℕ) where
     unfolding isBag
     bag-whole e = simp (le-leb _ _ h, q, eq-eqb _ _ e)
 
-  pub is-one : (p : Sections) → bagOnly s ≡ In p → true ≡ isBag s
-  is-one p h = go (isBag s) h
+  pub bag-divided : (p : Sections) → bagOnly s ≡ In p → (isBag s ≡ true) × (sectionsOf s ≡ In p)
+  bag-divided p h = go (isBag s) h
     where
-      go : (b : Bool) → cond b (sectionsOf s) Broken ≡ In p → true ≡ b
-      go true e = refl
+      go : (b : Bool) → cond b (sectionsOf s) Broken ≡ In p → (b ≡ true) × (sectionsOf s ≡ In p)
+      go true e = (refl, e)
       go false e = absurd (let z : _≡_ {A = ℕ} 0 1 = cc in omega arith)
 
   pub is-none : bagOnly s ≡ Broken → false ≡ isBag s

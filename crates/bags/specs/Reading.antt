@@ -23,6 +23,11 @@ abbrev pub endsAt : After → ℕ → Bool
 endsAt (At e) n = eqb e n
 endsAt Bad n = false
 
+-- the place where it ended
+abbrev pub place : After → ℕ
+place (At e) = e
+place Bad = 0
+
 -- n things, one after the other
 unfoldable pub many : ℕ → (ℕ → After) → ℕ → After
 many zero next at = At at

@@ -1,6 +1,7 @@
 -- Entries, sections and bags. Definitions only.
 use Prim.Native.Nat.{ℕ, _+_}
 use mathlib.Core.List.{List, [], _∷_}
+use mathlib.Core.Path.{_≡_}
 use mathlib.Core.Bool.{Bool, true, false, _&&_}
 use lib.Dec.{ltb, leb, eqb}
 use lib.ListN.{length}
@@ -10,6 +11,7 @@ use Rattle.bags.specs.Paths.{isPath}
 use Rattle.bags.specs.Values.{valueEnd}
 use Rattle.bags.specs.declared.After.{After}
 use Rattle.bags.specs.declared.After.the-variants.{At, Bad}
+use Rattle.bags.specs.declared.sections.Sections.{Sections}
 use Rattle.bags.specs.declared.sections.Divided.{Divided}
 use Rattle.bags.specs.declared.sections.Divided.the-variants.{In, Broken}
 
@@ -61,6 +63,12 @@ sectionsOf s =
     afterwards (sectionEnd s 0) λ resource.
     afterwards (sectionEnd s resource) λ env.
     afterwards (sectionEnd s env) λ end. In (record { resource = resource; env = env; end = end })
+
+-- what that says of each section
+pub record Sectioned (s : List ℕ) (p : Sections) : Type 0 where
+  pub principal : sectionEnd s 0 ≡ At (p .resource)
+  pub resource : sectionEnd s (p .resource) ≡ At (p .env)
+  pub env : sectionEnd s (p .env) ≡ At (p .end)
 
 abbrev pub fill : Divided → ℕ → Bool
 fill (In p) n = eqb (p .end) n

@@ -1,12 +1,12 @@
 -- `bags::is_bag` meets its contract. Assumes nothing.
 use borrow.Author.Needs.{needs}
 use mathlib.Core.Path.{sym, _∙_}
-use Rattle.bags.proofs.SectionLaws.{is-one, is-none}
+use Rattle.bags.proofs.SectionLaws.{bag-divided, is-none}
 use Rattle.bags.proofs.is_bag.Statement.{statement}
 use Rattle.bags.proofs.is_bag.Tie as tie
 
 returns : tie.Need-returns
-returns c = is-one _ (c .enum-told .given .0 .0) (sym (c .before .before .bag-sections .ensures) ∙ c .enum-told .given .1)
+returns c = sym (bag-divided _ (c .enum-told .given .0 .0) (sym (c .before .before .bag-sections .ensures) ∙ c .enum-told .given .1) .0)
 
 returns-2 : tie.Need-returns-2
 returns-2 c = is-none _ (sym (c .before .before .bag-sections .ensures) ∙ c .enum-told2 .given .1)

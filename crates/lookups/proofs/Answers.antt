@@ -1,0 +1,100 @@
+-- The answers of a look-up by their cases, the part that a string's bytes are, and that a call has one answer. Assumes nothing.
+use Prim.Native.Nat.{ℕ, _+_, _-_, _≤_}
+use mathlib.Core.List.{List}
+use mathlib.Core.Bool.{Bool, true, false, cond}
+use mathlib.Core.Path.{_≡_, sym, _∙_, ap}
+use borrow.Author.Tests.{ne-eqb}
+use native.Mathlib.Omega.{arith}
+use lib.ListN.{length, take, drop}
+use denote.Ref.{RefT, now}
+use Rattle.bags.specs.Reading.{byte, part}
+use Rattle.bags.specs.Paths.{isPath}
+use Rattle.bags.specs.Sections.{sectionsOf, isBag}
+use Rattle.bags.specs.declared.sections.Sections.{Sections}
+use Rattle.bags.specs.declared.sections.Divided.the-variants.{In}
+use Rattle.lookups.specs.Blanks.{unblanked}
+use Rattle.lookups.specs.Values.{absent}
+use Rattle.lookups.specs.Lookups.{lookIn, baseOf, bagOf, lookupOf, said, startOf, lengthOf, IsPart}
+use Rattle.lookups.specs.declared.values.Value.{Value}
+use Rattle.lookups.specs.declared.Answer.{Answer}
+use Rattle.lookups.specs.declared.Answer.the-variants.{Refused, Found}
+use Rattle.lookups.proofs.StepLaws.{as-string}
+use Rattle.lookups.proofs.FindLaws.{bag-is-base}
+use Rattle.lookups.proofs.BagLaws.{path-clear, bag-whole, impossible-path}
+
+-- ---- the cases
+
+module _ (s : List ℕ) (root : ℕ) (path : List ℕ) where
+  pub refused : isBag s ≡ false → Refused 24 ≡ lookupOf s root path
+  unfolding lookupOf
+  refused b = simp b
+
+  module _ (b : isBag s ≡ true) where
+    pub found : Found (lookIn absent (bagOf s root) path) ≡ lookupOf s root path
+    unfolding lookupOf
+    found = simp b
+
+    pub found-under : (p : Sections) (v : Value) → sectionsOf s ≡ In p → isPath path ≡ true → v ≡ lookIn absent (baseOf s p root) (unblanked path) → Found v ≡ lookupOf s root path
+    found-under p v d t e =
+        ap Found (e ∙ ap (lookIn absent (baseOf s p root)) (path-clear path t) ∙ ap (λ es. lookIn absent es path) (sym (bag-is-base s p root d))) ∙ found
+
+    pub found-nowhere : (v : Value) → isPath path ≡ false → v ≡ absent → Found v ≡ lookupOf s root path
+    found-nowhere v t e = ap Found (e ∙ sym (impossible-path s path t root)) ∙ found
+
+  -- a string that is found lies in the bag
+  pub string-inside : (v : Value) → lookupOf s root path ≡ Found v → v .kind ≡ 1 → v .place + 1 + byte s (v .place) ≤ length s
+  unfolding lookupOf
+  string-inside v h k = go (isBag s) h
+    where
+      go : (b : Bool) → cond b (Found (lookIn absent (bagOf s root) path)) (Refused 24) ≡ Found v → v .place + 1 + byte s (v .place) ≤ length s
+      go false q = absurd (let z : _≡_ {A = ℕ} 0 1 = cc in omega arith)
+      go true q =
+          let is : lookIn absent (bagOf s root) path ≡ v = cc in
+          let w = bag-whole s path root in
+          let u = rw is at w in
+          let e = u (λ z. omega arith) in
+          as-string (v .kind) s (v .place) (e .0) (e .1) k .fits
+
+-- ---- the part
+
+module _ (s : List ℕ) (answer : Answer) (v : Value) (is : answer ≡ Found v) where
+  pub string-start : v .kind ≡ 1 → startOf answer ≡ v .place + 1
+  unfolding startOf
+  string-start k = simp (is, k)
+
+  pub string-length : v .kind ≡ 1 → lengthOf s answer ≡ byte s (v .place)
+  unfolding lengthOf
+  string-length k = simp (is, k)
+
+  pub other-start : (v .kind ≡ 1 → ⊥) → startOf answer ≡ 0
+  unfolding startOf
+  other-start k = simp (is, ne-eqb _ _ k)
+
+  pub other-length : (v .kind ≡ 1 → ⊥) → lengthOf s answer ≡ 0
+  unfolding lengthOf
+  other-length k = simp (is, ne-eqb _ _ k)
+
+module _ (s : List ℕ) (answer : Answer) (n : ℕ) (is : answer ≡ Refused n) where
+  pub refused-start : startOf answer ≡ 0
+  unfolding startOf
+  refused-start = simp is
+
+  pub refused-length : lengthOf s answer ≡ 0
+  unfolding lengthOf
+  refused-length = simp is
+
+-- `&s[a..e]` is the part from a of e - a bytes
+pub part-is : (s r : RefT (List ℕ)) (a e start n : ℕ) → start ≡ a → n ≡ e - a
+    → now r ≡ take (e - a) (drop a (now s)) → r .ptr ≡ (s .ptr .0, a + s .ptr .1) → IsPart s r start n
+unfolding part
+part-is s r a e start n p q b o = record { bytes = simp (p, q) b; block = ap (λ (x : ℕ × ℕ). x .0) o; offset = rw p (ap (λ (x : ℕ × ℕ). x .1) o) }
+
+-- ---- one answer
+
+-- any two answers that the contract of `lookup` allows are the same, and so is what they say
+pub one-lookup : (s : List ℕ) (root : ℕ) (path : List ℕ) {r r' : Answer} → r ≡ lookupOf s root path → r' ≡ lookupOf s root path → (r ≡ r') × (said r ≡ said r')
+one-lookup s root path p q = (p ∙ sym q, ap said (p ∙ sym q))
+
+-- any two parts that the contract of `string_part` allows coincide, in their bytes and in where they lie
+pub one-part : {s r r' : RefT (List ℕ)} {a n : ℕ} → IsPart s r a n → IsPart s r' a n → (now r ≡ now r') × (r .ptr .0 ≡ r' .ptr .0) × (r .ptr .1 ≡ r' .ptr .1)
+one-part p q = (p .bytes ∙ sym (q .bytes), p .block ∙ sym (q .block), p .offset ∙ sym (q .offset))

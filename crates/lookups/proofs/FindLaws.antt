@@ -1,0 +1,108 @@
+-- Laws of paths with blanks, and of the search for an entry. Assumes nothing.
+use Prim.Native.Nat.{ℕ, zero, suc, _+_, _-_, _<_, _≤_}
+use mathlib.Core.List.{List, []}
+use mathlib.Core.Bool.{true, false, _||_}
+use mathlib.Core.Path.{_≡_, refl, ap}
+use borrow.Author.Tests.{eq-eqb, ne-eqb}
+use native.Mathlib.Numerals.{add-one}
+use native.Mathlib.Omega.{arith}
+use lib.Dec.{eqb}
+use lib.ListN.{length, drop, drop-of-length-le}
+use lib.Seq.{drop-cons}
+use Rattle.slices.specs.Same.{same}
+use Rattle.tokens.specs.Bytes.{classOf}
+use Rattle.tokens.specs.Runs.{is}
+use Rattle.tokens.proofs.Table.{agree}
+use Rattle.tokens.specs.declared.classes.Sort.the-variants.{Blanks}
+use Rattle.bags.specs.Reading.{byte, part, each}
+use Rattle.bags.specs.Sections.{sectionsOf}
+use Rattle.bags.specs.declared.After.{After}
+use Rattle.bags.specs.declared.After.the-variants.{At}
+use Rattle.bags.specs.declared.sections.Sections.{Sections}
+use Rattle.bags.specs.declared.sections.Divided.the-variants.{In}
+use Rattle.bags.proofs.ReadLaws.{part-cons, part-none, each-done, each-more}
+use Rattle.lookups.specs.Blanks.{unblanked}
+use Rattle.lookups.specs.Values.{absent}
+use Rattle.lookups.specs.Lookups.{Entry, lookIn, sectionAt, baseOf, bagOf}
+use Rattle.lookups.specs.declared.values.Value.{Value}
+
+-- the blanks by their bytes, at all 256
+pub blank-is : (b : ℕ) → b < 256 → (eqb b 32 || eqb b 9 || eqb b 10 || eqb b 13) ≡ is Blanks b
+unfolding classOf
+blank-is b h = agree (λ (b : ℕ). eqb b 32 || eqb b 9 || eqb b 10 || eqb b 13) (is Blanks) 256 b refl h
+
+-- ---- the bytes of a part, and those of a path but its blanks
+
+module _ (s : List ℕ) (x left : ℕ) (p : List ℕ) (y : ℕ) where
+  pub path-end : length p ≤ y → x + left ≤ length s → eqb left 0 ≡ same (part s x left) (unblanked (drop y p))
+  unfolding unblanked same
+  path-end h f = rw (drop-of-length-le p h) (go left f)
+    where
+      go : (n : ℕ) → x + n ≤ length s → eqb n 0 ≡ same (part s x n) []
+      go zero f = rw (part-none s x)
+      go (suc n) f = rw (part-cons s x (suc n) (omega arith) f) (ne-eqb (suc n) 0 (λ e. omega arith))
+
+  module _ (h : y < length p) where
+    pub path-blank : is Blanks (byte p y) ≡ true → same (part s x left) (unblanked (drop (y + 1) p)) ≡ same (part s x left) (unblanked (drop y p))
+    unfolding unblanked
+    path-blank b = rw (add-one, drop-cons p y 0 h) (simp b)
+
+    module _ (n : is Blanks (byte p y) ≡ false) where
+      pub path-short : left ≡ 0 → false ≡ same (part s x left) (unblanked (drop y p))
+      unfolding unblanked same
+      path-short e = rw (e, part-none, drop-cons p y 0 h) (simp n)
+
+      module _ (some : 0 < left) (fits : x + left ≤ length s) where
+        pub path-differs : (byte s x ≡ byte p y → ⊥) → false ≡ same (part s x left) (unblanked (drop y p))
+        unfolding unblanked same
+        path-differs d = rw (part-cons s x left some fits, drop-cons p y 0 h) (simp (n, ne-eqb _ _ d))
+
+        pub path-on : byte s x ≡ byte p y → same (part s (x + 1) (left - 1)) (unblanked (drop (y + 1) p)) ≡ same (part s x left) (unblanked (drop y p))
+        unfolding unblanked same
+        path-on e = rw (part-cons s x left some fits, drop-cons p y 0 h, add-one y) (simp (n, eq-eqb _ _ e))
+
+-- ---- the entry with a path
+
+module _ {A : Type 0} (none : A) (next : ℕ → After) (what : ℕ → ℕ → Entry A) (path : List ℕ) (n at : ℕ) where
+  pub look-done : n ≤ 0 → none ≡ lookIn none (each n next what at) path
+  unfolding lookIn
+  look-done h = rw (each-done next what n at h)
+
+  module _ (h : 0 < n) (e : ℕ) (q : next at ≡ At e) where
+    pub look-here : same (what at e .path) path ≡ true → what at e .value ≡ lookIn none (each n next what at) path
+    unfolding lookIn
+    look-here t = rw (each-more next what n at e h q) (simp t)
+
+    pub look-on : same (what at e .path) path ≡ false → lookIn none (each (n - 1) next what e) path ≡ lookIn none (each n next what at) path
+    unfolding lookIn
+    look-on t = rw (each-more next what n at e h q) (simp t)
+
+-- ---- the section of a root byte
+
+module _ (s : List ℕ) (p : Sections) (root : ℕ) where
+  pub base-1 : root ≡ 1 → sectionAt s 0 ≡ baseOf s p root
+  unfolding baseOf
+  base-1 h = rw h
+
+  pub base-2 : root ≡ 2 → sectionAt s (p .resource) ≡ baseOf s p root
+  unfolding baseOf
+  base-2 h = rw h
+
+  pub base-3 : root ≡ 3 → sectionAt s (p .env) ≡ baseOf s p root
+  unfolding baseOf
+  base-3 h = rw h
+
+  pub base-none : (root ≡ 1 → ⊥) → (root ≡ 2 → ⊥) → (root ≡ 3 → ⊥) → [] ≡ baseOf s p root
+  unfolding baseOf
+  base-none a b c = simp (ne-eqb _ _ a, ne-eqb _ _ b, ne-eqb _ _ c)
+
+  pub look-base : {es : List (Entry Value)} → es ≡ baseOf s p root → (path : List ℕ) → lookIn absent es path ≡ lookIn absent (baseOf s p root) path
+  look-base e path = ap (λ (l : List (Entry Value)). lookIn absent l path) e
+
+  pub look-none : (root ≡ 1 → ⊥) → (root ≡ 2 → ⊥) → (root ≡ 3 → ⊥) → (path : List ℕ) → absent ≡ lookIn absent (baseOf s p root) path
+  unfolding lookIn
+  look-none a b c path = look-base (base-none a b c) path
+
+  pub bag-is-base : sectionsOf s ≡ In p → bagOf s root ≡ baseOf s p root
+  unfolding bagOf
+  bag-is-base h = simp h

@@ -1,0 +1,5 @@
+pub mod StepLaws
+pub mod FindLaws
+pub mod BagLaws
+pub mod Answers
+pub mod Examples

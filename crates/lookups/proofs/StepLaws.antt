@@ -1,0 +1,113 @@
+-- What a value that is whole tells of the step over it and of its number. Assumes nothing.
+use Prim.Native.Nat.{ℕ, _+_, _-_, _<_, _≤_}
+use mathlib.Core.List.{List}
+use mathlib.Core.Bool.{Bool, true, false}
+use mathlib.Core.Path.{_≡_}
+use borrow.Author.Tests.{eq-eqb, ne-eqb}
+use native.Mathlib.Omega.{arith}
+use lib.Dec.{T}
+use lib.Ieee.{Float}
+use lib.ListN.{length}
+use Rattle.numbers.specs.Bits.{numberAt}
+use Rattle.bags.specs.Reading.{byte, many}
+use Rattle.bags.specs.Values.{stringEnd, valueEnd}
+use Rattle.bags.specs.declared.After.the-variants.{At}
+use Rattle.bags.proofs.ReadLaws.{same-end, first}
+use Rattle.bags.proofs.ValueLaws.{String, Number, Flag, Strings, string-at, Ended, string, number, flag, list, value-at}
+use Rattle.lookups.specs.Values.{nought, unit, absent, numberOf, valueAt}
+
+-- ---- strings
+
+-- the first of n strings, and those after it
+pub record StringFirst (s : List ℕ) (n at e : ℕ) : Type 0 where
+  pub fits : at + 1 + byte s at ≤ length s
+  pub later : many (n - 1) (stringEnd s) (at + 1 + byte s at) ≡ At e
+
+pub string-first : (s : List ℕ) (n at e : ℕ) → 0 < n → many n (stringEnd s) at ≡ At e → StringFirst s n at e
+string-first s n at e h p =
+    let f = first (stringEnd s) n at e h p in
+    let w = string-at s at (f .stop) (f .ends) in
+    record { fits = w .fits; later = rw (w .stop) at (f .later) }
+
+-- ---- values
+
+module _ (kind : ℕ) (s : List ℕ) (at e : ℕ) (h : valueEnd kind s at ≡ At e) where
+  pub as-string : kind ≡ 1 → String s at e
+  as-string k = go (value-at kind s at e h)
+    where
+      go : Ended kind s at e → String s at e
+      go (string _ w) = w
+      go (number j w) = absurd (omega arith)
+      go (flag j w) = absurd (omega arith)
+      go (list j w) = absurd (omega arith)
+
+  pub as-number : kind ≡ 2 → Number s at e
+  as-number k = go (value-at kind s at e h)
+    where
+      go : Ended kind s at e → Number s at e
+      go (string j w) = absurd (omega arith)
+      go (number _ w) = w
+      go (flag j w) = absurd (omega arith)
+      go (list j w) = absurd (omega arith)
+
+  pub as-flag : kind ≡ 3 → Flag s at e
+  as-flag k = go (value-at kind s at e h)
+    where
+      go : Ended kind s at e → Flag s at e
+      go (string j w) = absurd (omega arith)
+      go (number j w) = absurd (omega arith)
+      go (flag _ w) = w
+      go (list j w) = absurd (omega arith)
+
+  pub as-list : (kind ≡ 1 → ⊥) → (kind ≡ 2 → ⊥) → (kind ≡ 3 → ⊥) → Strings s at e
+  as-list n1 n2 n3 = go (value-at kind s at e h)
+    where
+      go : Ended kind s at e → Strings s at e
+      go (string j w) = absurd (n1 j)
+      go (number j w) = absurd (n2 j)
+      go (flag j w) = absurd (n3 j)
+      go (list _ w) = w
+
+  pub string-next : kind ≡ 1 → valueEnd kind s at ≡ At (at + 1 + byte s at)
+  string-next k = rw (as-string k .stop) at h
+
+  pub number-next : kind ≡ 2 → valueEnd kind s at ≡ At (at + 8)
+  number-next k = rw (as-number k .stop) at h
+
+  pub flag-next : kind ≡ 3 → valueEnd kind s at ≡ At (at + 1)
+  flag-next k = rw (as-flag k .stop) at h
+
+  pub list-next : (kind ≡ 1 → ⊥) → (kind ≡ 2 → ⊥) → (kind ≡ 3 → ⊥) → (x : ℕ) → many (byte s at) (stringEnd s) (at + 1) ≡ At x → valueEnd kind s at ≡ At x
+  list-next n1 n2 n3 x q = rw (same-end (as-list n1 n2 n3 .are) q) at h
+
+-- ---- numbers
+
+pub told : (b : Bool) → b ≡ true → T b
+told true h = tt
+told false h = absurd (let z : _≡_ {A = ℕ} 0 1 = cc in omega arith)
+
+module _ (kind : ℕ) (s : List ℕ) (at : ℕ) where
+  pub number-is : (x : Float) → kind ≡ 2 → x ≡ numberAt s at → x ≡ numberOf kind s at
+  unfolding numberOf
+  number-is x k p = simp (k, p)
+
+  pub flag-on : kind ≡ 3 → byte s at ≡ 1 → unit ≡ numberOf kind s at
+  unfolding numberOf
+  flag-on k b = simp (k, eq-eqb _ _ b)
+
+  pub flag-off : kind ≡ 3 → (byte s at ≡ 1 → ⊥) → nought ≡ numberOf kind s at
+  unfolding numberOf
+  flag-off k b = simp (k, ne-eqb _ _ b)
+
+  pub no-number : (kind ≡ 2 → ⊥) → (kind ≡ 3 → ⊥) → nought ≡ numberOf kind s at
+  unfolding numberOf
+  no-number a b = simp (ne-eqb _ _ a, ne-eqb _ _ b)
+
+module _ (s : List ℕ) (k : ℕ) where
+  pub value-absent : byte s k ≡ 0 → absent ≡ valueAt s k
+  unfolding valueAt
+  value-absent e = simp (eq-eqb _ _ e)
+
+  pub value-is : (x : Float) → (byte s k ≡ 0 → ⊥) → x ≡ numberOf (byte s k) s (k + 1) → record { kind = byte s k; number = x; place = k + 1 } ≡ valueAt s k
+  unfolding valueAt
+  value-is x n e = simp (ne-eqb _ _ n, e)

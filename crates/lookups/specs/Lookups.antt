@@ -1,0 +1,79 @@
+-- What a look-up by bag, root byte and dotted path answers. Definitions only.
+use Prim.Native.Nat.{ℕ, _+_}
+use mathlib.Core.List.{List, [], _∷_}
+use mathlib.Core.Bool.{cond}
+use mathlib.Core.Path.{_≡_}
+use lib.Dec.{eqb}
+use lib.Ieee.{Float}
+use denote.Ref.{RefT, now}
+use Rattle.slices.specs.Same.{same}
+use Rattle.bags.specs.Reading.{byte, part, each}
+use Rattle.bags.specs.Sections.{pathAt, kindAt, entryEnd, sectionsOf, isBag}
+use Rattle.bags.specs.declared.sections.Sections.{Sections}
+use Rattle.bags.specs.declared.sections.Divided.{Divided}
+use Rattle.bags.specs.declared.sections.Divided.the-variants.{In, Broken}
+use Rattle.lookups.specs.Values.{nought, absent, valueAt}
+use Rattle.lookups.specs.declared.values.Value.{Value}
+use Rattle.lookups.specs.declared.Answer.{Answer}
+use Rattle.lookups.specs.declared.Answer.the-variants.{Refused, Found}
+
+-- a path and what stands under it
+pub record Entry (A : Type 0) : Type 0 where
+  pub path : List ℕ
+  pub value : A
+
+-- the value of the entry with this path, or else none
+unfoldable pub lookIn : {A : Type 0} → A → List (Entry A) → List ℕ → A
+lookIn none [] path = none
+lookIn none (e ∷ es) path = cond (same (e .path) path) (e .value) (lookIn none es path)
+
+-- the entries of the section whose count byte stands at b
+abbrev pub entryAt : List ℕ → ℕ → ℕ → Entry Value
+entryAt s at e = record { path = pathAt s at; value = valueAt s (kindAt s at) }
+
+unfoldable pub sectionAt : List ℕ → ℕ → List (Entry Value)
+sectionAt s b = each (byte s b) (entryEnd s) (entryAt s) (b + 1)
+
+-- the section of a root byte: 1 principal, 2 resource, 3 env; any other has none
+unfoldable pub baseOf : List ℕ → Sections → ℕ → List (Entry Value)
+baseOf s p root =
+    cond (eqb root 1) (sectionAt s 0) (cond (eqb root 2) (sectionAt s (p .resource)) (cond (eqb root 3) (sectionAt s (p .env)) []))
+
+abbrev pub divided : Divided → (Sections → List (Entry Value)) → List (Entry Value)
+divided (In p) f = f p
+divided Broken f = []
+
+unfoldable pub bagOf : List ℕ → ℕ → List (Entry Value)
+bagOf s root = divided (sectionsOf s) λ p. baseOf s p root
+
+-- the attribute of a bag; 24 where the bytes are no bag
+unfoldable pub lookupOf : List ℕ → ℕ → List ℕ → Answer
+lookupOf s root path = cond (isBag s) (Found (lookIn absent (bagOf s root) path)) (Refused 24)
+
+-- what each answer says: the refusal's number, or 0; the kind, the number and the place
+pub record Said : Type 0 where
+  pub refusal : ℕ
+  pub kind : ℕ
+  pub number : Float
+  pub place : ℕ
+
+abbrev pub said : Answer → Said
+said (Refused n) = record { refusal = n; kind = 0; number = nought; place = 0 }
+said (Found v) = record { refusal = 0; kind = v .kind; number = v .number; place = v .place }
+
+-- ---- the part of the bag that a string's bytes are
+
+-- where the bytes start, and how many they are: none unless it is a string
+unfoldable pub startOf : Answer → ℕ
+startOf (Refused n) = 0
+startOf (Found v) = cond (eqb (v .kind) 1) (v .place + 1) 0
+
+unfoldable pub lengthOf : List ℕ → Answer → ℕ
+lengthOf s (Refused n) = 0
+lengthOf s (Found v) = cond (eqb (v .kind) 1) (byte s (v .place)) 0
+
+-- r is the n bytes of the slice s from a on: the bytes, and where they lie
+pub record IsPart (s r : RefT (List ℕ)) (a n : ℕ) : Type 0 where
+  pub bytes : now r ≡ part (now s) a n
+  pub block : r .ptr .0 ≡ s .ptr .0
+  pub offset : r .ptr .1 ≡ a + s .ptr .1

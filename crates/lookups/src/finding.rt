@@ -1,0 +1,95 @@
+// The entry with a path, among those of a section.
+ghost use mathlib.Core.Path.{_≡_};
+ghost use Prim.Native.Nat.{ℕ, _+_, _≤_};
+ghost use lib.ListN.{length};
+ghost use Rattle.slices.specs.Same.{same};
+ghost use Rattle.tokens.specs.Runs.{is};
+ghost use Rattle.tokens.specs.declared.classes.Sort.the-variants.{Blanks};
+ghost use Rattle.bags.specs.Reading.{part, many, each};
+ghost use Rattle.bags.specs.Sections.{entryEnd, sectionEnd, Sectioned};
+ghost use Rattle.bags.specs.declared.After.the-variants.{At};
+ghost use Rattle.lookups.specs.Blanks.{unblanked};
+ghost use Rattle.lookups.specs.Values.{absent};
+ghost use Rattle.lookups.specs.Lookups.{lookIn, entryAt, sectionAt, baseOf};
+use crate::steps::value_next;
+use crate::values::Value;
+use crate::values::absent_value;
+use crate::values::value_from;
+use bags::sections::Sections;
+
+fn is_blank(c: u8) -> bool
+    ensures { λ r. ⌜ r ≡ is Blanks c ⌝ }
+{
+    (c == b' ') | (c == b'\t') | (c == b'\n') | (c == b'\r')
+}
+
+// Whether the `n` bytes of `s` from `at` are those of `path` but its blanks.
+pub fn same_path(s: &[u8], at: usize, n: usize, path: &[u8]) -> bool
+    requires { ⌜ at + n ≤ length (now s) ⌝ }
+    ensures { λ r. ⌜ r ≡ same (part (now (s .entry)) at n) (unblanked (now (path .entry))) ⌝ }
+{
+    let mut x = at;
+    let mut left = n;
+    let mut y = 0;
+    while y < path.len() {
+        let c = path[y];
+        y += 1;
+        if is_blank(c) {
+            continue;
+        }
+        if left == 0 {
+            return false;
+        }
+        if s[x] != c {
+            return false;
+        }
+        x += 1;
+        left -= 1;
+    }
+    left == 0
+}
+
+// Among the `n` entries from `at`, the value of the one with this path.
+fn find_in(n: usize, path: &[u8], s: &[u8], at: usize) -> Value
+    requires { ⌜ ((e : ℕ) × (many n (entryEnd (now s)) at ≡ At e)) ⌝ }
+    ensures { λ r. ⌜ r ≡ lookIn absent (each n (entryEnd (now (s .entry))) (entryAt (now (s .entry))) at) (unblanked (now (path .entry))) ⌝ }
+{
+    let mut left = n;
+    let mut next = at;
+    while 0 < left {
+        let size = s[next] as usize;
+        let start = next + 1;
+        let kind_at = start + size;
+        if same_path(s, start, size, path) {
+            return value_from(s, kind_at);
+        }
+        next = value_next(s[kind_at], s, kind_at + 1);
+        left -= 1;
+    }
+    absent_value()
+}
+
+// The attribute in the section whose count byte stands at `b`.
+fn section_value(s: &[u8], b: usize, path: &[u8]) -> Value
+    requires { ⌜ ((e : ℕ) × (sectionEnd (now s) b ≡ At e)) ⌝ }
+    ensures { λ r. ⌜ r ≡ lookIn absent (sectionAt (now (s .entry)) b) (unblanked (now (path .entry))) ⌝ }
+{
+    find_in(s[b] as usize, path, s, b + 1)
+}
+
+// The attribute in the section of a root byte.
+pub fn base_value(s: &[u8], p: Sections, root: u8, path: &[u8]) -> Value
+    requires { ⌜ Sectioned (now s) p ⌝ }
+    ensures { λ r. ⌜ r ≡ lookIn absent (baseOf (now (s .entry)) p root) (unblanked (now (path .entry))) ⌝ }
+{
+    if root == 1 {
+        return section_value(s, 0, path);
+    }
+    if root == 2 {
+        return section_value(s, p.resource, path);
+    }
+    if root == 3 {
+        return section_value(s, p.env, path);
+    }
+    absent_value()
+}
