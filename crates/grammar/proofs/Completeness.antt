@@ -1,0 +1,340 @@
+-- What is in the grammar under limits L the reader of rule texts takes, but for the refusals that L asks to excuse. Assumes nothing.
+use mathlib.Core.Path.{_≡_, refl, sym, _∙_}
+use mathlib.Core.Bool.{Bool, true, false, _||_}
+use mathlib.Core.List.{List, [], _∷_, _++_}
+use mathlib.Core.Logic.{⊎-elim}
+use mathlib.Core.Option.{Option}
+use Prim.Native.Nat.{ℕ, zero, suc, _≤_, _<_}
+use native.Mathlib.Omega.{arith}
+use lib.Dec.{eqb, leb, ltb}
+use lib.ListN.{length}
+use borrow.Author.Tests.{eqb-true, eq-eqb, ne-eqb, leb-true}
+use Rattle.tokens.specs.Kinds as kinds
+use Rattle.tokens.proofs.TokenLaws.{never, and-left, and-right, or-cases}
+use Rattle.reading.specs.Lexemes.{Lexeme, is, choose}
+use Rattle.reading.specs.Reads.{Reads, Chain, Chain.alone, Chain.more, Onto, Onto.onto, Before, Before.ended, After.begun}
+use Rattle.reading.specs.Reader.{Answer, took, Reader, refuseBy, numbered, bind, on, need, mapped, upTo, onwards}
+use Rattle.reading.proofs.Readers.{Shrinks, shrinks-onto, Without, on-without, on-token, on-other}
+use Rattle.reading.proofs.Complete.{Nearly, exact, excused, nearly-bind, nearly-on, Complete, complete-mapped, complete-before, complete-chain}
+use Rattle.grammar.specs.Policies.{Span, Root, Literal, truth, Operand, attribute, literal, Tree, within, contains, both, either, Part, typed, Actions, Policy}
+use Rattle.grammar.specs.Rules.{inside, isEffect, isRoot, rootOf, isTruth, isLiteral, literalOf, isComparator, isContains, whichOf, principalTypes, resourceTypes, typeOf, isType, admitted, mostLiterals, mostPolicies, isPattern}
+use Rattle.grammar.specs.Grammar.{Limits, Path, spanned, FirstName, first, NextName, next, Names, rooted, AnOperand, given, Element, element, Simple, comparison, likeness, listed, held, call, having, Conjunction, Disjunction, Form, simple, negation, bracketed, conditional, Nothing, Condition, Typed, ResourceRest, ActionRest, When, PolicyRest, Policies, policy, RuleText}
+use Rattle.grammar.specs.Grammar as grammar
+use Rattle.grammar.specs.Parser.{Way, calling, noName, bare, noLevel, noPattern, tooMany, noPolicy, fits, read-first-name, goesOn, read-next-name, read-way, noExit, spannedBy, read-path, read-attribute, read-operand, isElement, read-element, read-list, read-bare, read-in, isLike, read-pattern, read-operator, read-call, read-rest, read-rooted, read-simple, read-joined, read-conjunction, read-disjunction, read-negated, read-bracketed, read-conditional, read-deeper, read-condition, read-conditions, read-type, read-principal, read-action, read-resource, read-when, read-policy, begins, read-next-policy, atEnd, read-text}
+use Rattle.grammar.specs.Parser as parser
+use Rattle.grammar.proofs.Begun.{made}
+use Rattle.grammar.proofs.Framing.{shrinks-element, shrinks-condition, shrinks-conjunction, shrinks-policy}
+
+-- Z excuses each refusal of what L admits and the sizes do not.
+pub record Excuses (L : Limits) (Z : ℕ → List Lexeme → Type 0) : Type 0 where
+  pub no-name : (root : Root) (used : ℕ) (x : Lexeme) (r : List Lexeme) → x .kind ≡ kinds.name → L .Name root used x r → admitted root used x ≡ false → Z (numbered (noName root) x) (x ∷ r)
+  pub no-pattern : (x : Lexeme) (r : List Lexeme) → x .kind ≡ kinds.string → L .Pattern x r → isPattern (inside x) ≡ false → Z (numbered noPattern x) (x ∷ r)
+  pub too-many : (sort : Lexeme → Bool) (k : ℕ) (x : Lexeme) (r : List Lexeme) → sort x ≡ true → L .Count k r → ltb k mostLiterals ≡ false → Z (numbered (tooMany sort) x) (x ∷ r)
+  pub no-policy : (k : ℕ) (x : Lexeme) (r : List Lexeme) → isEffect x ≡ true → L .Number k r → ltb k mostPolicies ≡ false → Z (numbered noPolicy x) (x ∷ r)
+
+abbrev Any : List Lexeme → Type 0
+Any r = Unit {0}
+
+abbrev NoDot : List Lexeme → Type 0
+NoDot = Without (is kinds.dot)
+
+-- what may follow a condition
+abbrev Free : List Lexeme → Type 0
+Free r = Without isComparator r × Without (is kinds.likeWord) r × Without (is kinds.inWord) r × NoDot r
+
+-- what may follow a conjunction, and a disjunction
+abbrev Free-and : List Lexeme → Type 0
+Free-and r = Free r × Without (is kinds.and) r
+
+abbrev Ends : List Lexeme → Type 0
+Ends r = Free-and r × Without (is kinds.or) r
+
+-- it goes by the kind of the next token
+frees : (k : ℕ) → Free (made k ∷ []) → (x : Lexeme) (m : List Lexeme) → x .kind ≡ k → Free (x ∷ m)
+unfolding Without
+frees k h x m e = rw e h
+
+closes : (k : ℕ) → Ends (made k ∷ []) → (x : Lexeme) (m : List Lexeme) → x .kind ≡ k → Ends (x ∷ m)
+unfolding Without
+closes k h x m e = rw e h
+
+-- ---- kinds
+
+-- a token that passes a test is not of a kind that fails it
+pub other-kind : (test : ℕ → Bool) (n k : ℕ) → test n ≡ true → test k ≡ false → eqb n k ≡ false
+other-kind test n k t f = ne-eqb n k (λ (q : n ≡ k). never (sym f ∙ (rw q at t)))
+
+root-no-literal : (x : Lexeme) → isRoot x ≡ true → isLiteral x ≡ false
+root-no-literal x t =
+    let low : 204 ≤ x .kind = leb-true _ _ (and-left _ _ t) in let high : x .kind ≤ 207 = leb-true _ _ (and-right (leb 204 (x .kind)) (leb (x .kind) 207) t) in
+    rw (ne-eqb (x .kind) 34 (λ q. omega arith), ne-eqb (x .kind) 48 (λ q. omega arith), ne-eqb (x .kind) 212 (λ q. omega arith), ne-eqb (x .kind) 213 (λ q. omega arith))
+
+truth-literal : (x : Lexeme) → isTruth x ≡ true → isLiteral x ≡ true
+truth-literal x t = go (is kinds.string x) (is kinds.number x)
+  where
+    go : (s n : Bool) → ((s || n) || isTruth x) ≡ true
+    go true n = refl
+    go false true = refl
+    go false false = t
+
+literal-truth : (x : Lexeme) → isTruth x ≡ true → literalOf x ≡ truth (is kinds.trueWord x)
+unfolding literalOf
+literal-truth x t = ⊎-elim (λ (e : is kinds.trueWord x ≡ true). rw (eqb-true (x .kind) 212 e)) (λ (e : is kinds.falseWord x ≡ true). rw (eqb-true (x .kind) 213 e)) (or-cases (is kinds.trueWord x) (is kinds.falseWord x) t)
+
+-- a test that a name fails
+record Passes (exit : Lexeme → Bool) : Type 0 where
+  at : (x : Lexeme) → x .kind ≡ kinds.name → exit x ≡ false
+
+contains-passes : Passes isContains
+contains-passes = record { at = λ x e. rw e }
+
+-- what reads nothing is the beginning of no chain
+none-read : {sep : Tree → Lexeme → Bool} {R : Reads Tree} {Q : Tree → Lexeme → Reads Tree} {i r : List Lexeme} {t : Tree} → ((i r : List Lexeme) (t : Tree) → R i r t → ⊥) → Chain sep R Q i r t → ⊥
+none-read f (alone h) = f _ _ _ h
+none-read f (more j e h) = none-read f j
+
+-- ---- each reader
+
+-- a name more, or the word that ends a path
+data NextWay (L : Limits) (exit : Lexeme → Bool) (root : Root) : Way → List Lexeme → List Lexeme → Way → Type 0 where
+  onward : {i r : List Lexeme} {p q : Path} → NextName L root p i r q → NextWay L exit root (parser.Way.plain p) i r (parser.Way.plain q)
+  exits : {x : Lexeme} {r : List Lexeme} {p : Path} → exit x ≡ true → NextWay L exit root (parser.Way.plain p) (x ∷ r) r (calling p (whichOf x))
+
+abbrev Ways : Limits → (Lexeme → Bool) → Root → Reads Way
+Ways L exit root = Chain goesOn (Onto (λ p. parser.Way.plain p) (FirstName L root)) (λ w d. NextWay L exit root w)
+
+ways-of : {L : Limits} {exit : Lexeme → Bool} {root : Root} {i r : List Lexeme} {p : Path} → Names L root i r p → Ways L exit root i r (parser.Way.plain p)
+unfolding goesOn
+ways-of (alone h) = alone (onto h)
+ways-of (more j e h) = more (ways-of j) e (onward h)
+
+shrinks-next-way : (L : Limits) (exit : Lexeme → Bool) (root : Root) (w : Way) → Shrinks (NextWay L exit root w)
+shrinks-next-way L exit root w = record { at = go }
+  where
+    go : {i r : List Lexeme} {v w : Way} → NextWay L exit root v i r w → length r < length i
+    go (onward (next e l)) = omega arith
+    go (exits e) = omega arith
+
+module _ {L : Limits} {Z : ℕ → List Lexeme → Type 0} (ok : Excuses L Z) where
+  fitting : {A : Type 0} {a : A} {s : List Lexeme} (root : Root) (used : ℕ) (f : Lexeme → Reader A) (x : Lexeme) (r : List Lexeme) → x .kind ≡ kinds.name → L .Name root used x r
+      → Nearly Z a s (f x r) → Nearly Z a s (on (fits root used) f (refuseBy (noName root)) (x ∷ r))
+  unfolding fits
+  fitting root used f x r e l h = nearly-on _ _ _ x r h (λ u. ok .no-name root used x r e l (rw (eq-eqb _ _ e) at u))
+
+  complete-first : (root : Root) → Complete Z Any (read-first-name root) (Onto (λ p. parser.Way.plain p) (FirstName L root))
+  unfolding read-first-name
+  complete-first root = record { at = go }
+    where
+      go : {i r : List Lexeme} {w : Way} → Onto (λ p. parser.Way.plain p) (FirstName L root) i r w → Any r → Nearly Z w r (read-first-name root i)
+      go (onto (first e l)) u = fitting root 0 _ _ _ e l exact
+
+  module _ (exit : Lexeme → Bool) (pass : Passes exit) (root : Root) where
+    complete-next : (w : Way) (d : Lexeme) → Complete Z Any (read-next-name exit root w) (NextWay L exit root w)
+    unfolding read-next-name
+    complete-next w d = record { at = go }
+      where
+        go : {i r : List Lexeme} {v w : Way} → NextWay L exit root v i r w → Any r → Nearly Z w r (read-next-name exit root v i)
+        go (onward (next {x = x} {r = r} e l)) u = rw (on-other exit _ _ x r (pass .at x e)) (fitting root _ _ x r e l exact)
+        go (exits {x = x} {r = r} e) u = rw (on-token exit _ _ x r e) exact
+
+    complete-ways : {i r : List Lexeme} {w : Way} → Ways L exit root i r w → Without (goesOn w) r → Nearly Z w r (read-way exit root i)
+    unfolding read-way
+    complete-ways j w = complete-chain goesOn _ _ (complete-first root) complete-next (λ w d. shrinks-next-way L exit root w) (λ w x m e. tt) j tt w
+
+    complete-plain : {i r : List Lexeme} {p : Path} → Names L root i r p → NoDot r → Nearly Z (parser.Way.plain p) r (read-way exit root i)
+    unfolding goesOn
+    complete-plain j w = complete-ways (ways-of j) w
+
+    complete-calling : {i r : List Lexeme} {d x : Lexeme} {p : Path} → Names L root i (d ∷ x ∷ r) p → d .kind ≡ kinds.dot → exit x ≡ true → Nearly Z (calling p (whichOf x)) r (read-way exit root i)
+    unfolding goesOn Without
+    complete-calling {r = r} j e t = complete-ways (more (ways-of j) (eq-eqb _ _ e) (exits t)) (go r)
+      where
+        go : (r : List Lexeme) → Without (λ x. false) r
+        go [] = tt
+        go (x ∷ r) = refl
+
+  complete-path : (root : Root) {i r : List Lexeme} {p : Path} → Names L root i r p → NoDot r → Nearly Z (spanned p) r (read-path root i)
+  unfolding read-path spannedBy
+  complete-path root j w = nearly-bind _ (complete-plain noExit (record { at = λ x e. refl }) root j w) exact
+
+  complete-attribute : {A : Type 0} (root : Root) (f : Root → Span → A) (d : Lexeme) {i r : List Lexeme} {p : Path} → d .kind ≡ kinds.dot → Names L root i r p → NoDot r
+      → Nearly Z (f root (spanned p)) r (read-attribute root f (d ∷ i))
+  unfolding read-attribute need
+  complete-attribute root f d {i = i} e j w = rw (on-token (is kinds.dot) _ _ d i (eq-eqb _ _ e)) (nearly-bind _ (complete-path root j w) exact)
+
+  complete-operand : {i r : List Lexeme} {a : Operand} → AnOperand L i r a → NoDot r → Nearly Z a r (read-operand i)
+  unfolding read-operand
+  complete-operand (given (rooted {x = x} {d = d} t e j)) w =
+      rw (on-other isLiteral _ _ x _ (root-no-literal x t), on-token isRoot _ _ x _ t) (complete-attribute (rootOf x) attribute d e j w)
+  complete-operand (grammar.AnOperand.plain {x = x} {r = r} t) w = rw (on-token isLiteral _ _ x r t) exact
+
+  complete-element : (sort : Lexeme → Bool) (ls : List Literal) → Complete Z Any (read-element sort ls) (Element L sort ls)
+  unfolding read-element isElement
+  complete-element sort ls = record { at = go }
+    where
+      go : {i r : List Lexeme} {ks : List Literal} → Element L sort ls i r ks → Any r → Nearly Z ks r (read-element sort ls i)
+      go (element {x = x} {r = r} t c) u = nearly-on _ _ _ x r exact (λ f. ok .too-many sort (length ls) x r t c (rw t at f))
+
+  complete-list : (sort : Lexeme → Bool) {i r : List Lexeme} {ls : List Literal}
+      → Before kinds.rightSquare (Chain (λ ls. is kinds.comma) (Element L sort []) (λ ls comma. Element L sort ls)) i r ls → Nearly Z ls r (read-list sort i)
+  unfolding read-list Without
+  complete-list sort h =
+      complete-before {S = Without (is kinds.comma)} (record { at = λ j w. complete-chain _ _ _ (complete-element sort []) (λ ls x. complete-element sort ls) (λ ls x. shrinks-element L sort ls) (λ ls x m e. tt) j tt w })
+      kinds.rightSquare (λ x m e. rw e) h
+
+  -- Where an operand stands, the reader goes on after it.
+  complete-left : {i r s : List Lexeme} {a : Operand} {t : Tree} (deeper : Reader Tree) → AnOperand L i r a → NoDot r → Nearly Z t s (read-operator a r) → Nearly Z t s (read-simple deeper i)
+  unfolding read-simple read-rooted read-rest
+  complete-left deeper (given (rooted {x = x} {d = d} t e j)) w k =
+      rw (on-other isLiteral _ _ x _ (root-no-literal x t), on-token isRoot _ _ x _ t, on-token (is kinds.dot) _ _ d _ (eq-eqb _ _ e))
+      (nearly-bind _ (complete-plain isContains contains-passes (rootOf x) j w) k)
+  complete-left deeper (grammar.AnOperand.plain {x = x} {r = r} t) w k = rw (on-token isLiteral _ _ x r t) k
+
+  complete-bare : (a : Operand) (r : List Lexeme) → Free r → read-operator a r ≡ read-bare a r
+  unfolding read-operator
+  complete-bare a r f = rw (on-without isComparator _ _ r (f .0), on-without (is kinds.likeWord) _ _ r (f .1), on-without (is kinds.inWord) _ _ r (f .2))
+
+  complete-simple : (deeper : Reader Tree) {i r : List Lexeme} {t : Tree} → Simple L i r t → Free r → Nearly Z t r (read-simple deeper i)
+  unfolding read-simple read-rooted read-rest read-operator read-bare read-pattern read-in read-call isLike mapped need Without
+  complete-simple deeper (grammar.Simple.bare {x = x} {r = r} t) f = rw (on-token isLiteral _ _ x r (truth-literal x t), literal-truth x t) (rw (complete-bare (literal (truth (is kinds.trueWord x))) r f) exact)
+  complete-simple deeper (comparison {x = x} {m = m} h t k) f =
+      complete-left deeper h (other-kind (λ k. isComparator (made k)) (x .kind) kinds.dot t refl) (rw (on-token isComparator _ _ x m t) (nearly-bind _ (complete-operand k (f .3)) exact))
+  complete-simple deeper (likeness {x = x} {s = s} {r = r} h e e′ l) f =
+      complete-left deeper h (rw e) (rw (on-other isComparator _ _ x (s ∷ r) (rw e), on-token (is kinds.likeWord) _ _ x (s ∷ r) (eq-eqb _ _ e))
+      (nearly-on _ _ _ s r exact (λ u. ok .no-pattern s r e′ l (rw (eq-eqb _ _ e′) at u))))
+  complete-simple deeper (listed {x = x} h e (begun {x = y} e′ k)) f =
+      complete-left deeper h (rw e) (rw (on-other isComparator _ _ x _ (rw e), on-other (is kinds.likeWord) _ _ x _ (rw e), on-token (is kinds.inWord) _ _ x _ (eq-eqb _ _ e), on-token (is kinds.leftSquare) _ _ y _ (eq-eqb _ _ e′))
+      (nearly-bind _ (complete-list isLiteral k) exact))
+  complete-simple deeper (held {x = x} {a = a} h e (rooted {x = y} {d = d} t e′ j)) f =
+      complete-left deeper h (rw e) (rw (
+        on-other isComparator _ _ x _ (rw e),
+        on-other (is kinds.likeWord) _ _ x _ (rw e),
+        on-token (is kinds.inWord) _ _ x _ (eq-eqb _ _ e),
+        on-other (is kinds.leftSquare) _ _ y _ (other-kind (λ k. isRoot (made k)) (y .kind) kinds.leftSquare t refl),
+        on-token isRoot _ _ y _ t,
+      )
+      (complete-attribute (rootOf y) (within a) d e′ j (f .3)))
+  complete-simple deeper (call {w = w} {o = o} (rooted {x = x} {d = d} {p = p} t e j) e′ t′ e″ (ended (begun {x = l} k h) k′)) f =
+      rw (on-other isLiteral _ _ x _ (root-no-literal x t), on-token isRoot _ _ x _ t, on-token (is kinds.dot) _ _ d _ (eq-eqb _ _ e))
+      (nearly-bind _ (complete-calling isContains contains-passes (rootOf x) j e′ t′)
+      (rw (on-token (is kinds.leftRound) _ _ o _ (eq-eqb _ _ e″), on-token (is kinds.leftSquare) _ _ l _ (eq-eqb _ _ k))
+      (complete-before (complete-mapped {S = Any} (record { at = λ h u. complete-list isLiteral h }) (contains (whichOf w) (rootOf x) (spanned p))) kinds.rightRound (λ x m e. tt) (ended (onto h) k′))))
+  complete-simple deeper (having {x = x} {h = h} t e j) f =
+      rw (on-other isLiteral _ _ x _ (root-no-literal x t), on-token isRoot _ _ x _ t, on-other (is kinds.dot) _ _ h _ (rw e), on-token (is kinds.hasWord) _ _ h _ (eq-eqb _ _ e))
+      (nearly-bind _ (complete-path (rootOf x) j (f .3)) exact)
+
+  -- ---- conditions
+
+  complete-conjunction : {p : Reader Tree} {R : Reads Tree} → Shrinks R → Complete Z Free p R → Complete Z Free-and (read-conjunction p) (Conjunction R)
+  unfolding read-conjunction read-joined Without
+  complete-conjunction s c = record {
+    at = λ j e. complete-chain _ _ _ c (λ a x. complete-mapped c (both a)) (λ a x. shrinks-onto s)
+        (λ a x m t. frees kinds.and (refl, refl, refl, refl) x m (eqb-true _ _ t)) j (e .0) (e .1);
+  }
+
+  complete-disjunction : {p : Reader Tree} {R : Reads Tree} → Shrinks R → Complete Z Free p R → Complete Z Ends (read-disjunction p) (Disjunction R)
+  unfolding read-disjunction read-joined Without
+  complete-disjunction s c =
+      let k = complete-conjunction s c in
+      record {
+        at = λ j e. complete-chain _ _ _ k (λ a x. complete-mapped k (either a)) (λ a x. shrinks-onto (shrinks-conjunction L s))
+            (λ a x m t. (frees kinds.or (refl, refl, refl, refl) x m (eqb-true _ _ t), rw (eqb-true (x .kind) kinds.or t))) j (e .0) (e .1);
+      }
+
+  complete-form : {p : Reader Tree} {R : Reads Tree} → Shrinks R → Complete Z Free p R → {i r : List Lexeme} {t : Tree} → Form L R i r t → Free r → Nearly Z t r (read-simple (read-deeper p) i)
+  unfolding read-simple read-deeper read-negated read-bracketed read-conditional mapped on choose Without
+  complete-form {p = p} s c (simple h) f = complete-simple (read-deeper p) h f
+  complete-form s c (negation e h) f = rw e (nearly-bind _ (c .at h f) exact)
+  complete-form s c (bracketed e h) f = rw e (nearly-bind _ (complete-before (complete-disjunction s c) kinds.rightRound (closes kinds.rightRound (((refl, refl, refl, refl), refl), refl)) h) exact)
+  complete-form s c (conditional e h₁ h₂ h₃) f =
+      rw e (nearly-bind _ (complete-before c kinds.thenWord (frees kinds.thenWord (refl, refl, refl, refl)) h₁)
+      (nearly-bind _ (complete-before c kinds.elseWord (frees kinds.elseWord (refl, refl, refl, refl)) h₂) (nearly-bind _ (c .at h₃ f) exact)))
+
+  -- at the last level all conditions are simple
+  complete-last : {i r : List Lexeme} {t : Tree} → Form L Nothing i r t → Free r → Nearly Z t r (read-simple (refuseBy noLevel) i)
+  complete-last (simple h) f = complete-simple _ h f
+  complete-last (negation e h) f = elim h [ ]
+  complete-last (bracketed e (ended h k)) f = absurd (none-read (λ i r t h. none-read (λ i r t h. elim h [ ]) h) h)
+  complete-last (conditional e (ended h k) h₂ h₃) f = elim h [ ]
+
+  complete-condition : (d : ℕ) → Complete Z Free (read-condition d) (Condition L d)
+  unfolding read-condition
+  complete-condition zero = record { at = complete-last }
+  complete-condition (suc d) = record { at = λ h f. complete-form (shrinks-condition L d) (complete-condition d) h f }
+
+  -- ---- policies
+
+  complete-type : (types : List (List ℕ)) (n : Lexeme) (r : List Lexeme) → isType types n ≡ true → Nearly Z (typed (typeOf types n)) r (read-type types (n ∷ r))
+  unfolding read-type
+  complete-type types n r t = rw (on-token (isType types) _ _ n r t) exact
+
+  complete-principal : Complete Z (Without (is kinds.isWord)) read-principal (Typed principalTypes)
+  unfolding read-principal
+  complete-principal = record { at = go }
+    where
+      go : {i r : List Lexeme} {p : Part} → Typed principalTypes i r p → Without (is kinds.isWord) r → Nearly Z p r (read-principal i)
+      go (grammar.Typed.bare {r = r}) w = rw (on-without (is kinds.isWord) _ _ r w) exact
+      go (grammar.Typed.one {x = x} {n = n} {r = r} e t) w = rw (on-token (is kinds.isWord) _ _ x (n ∷ r) (eq-eqb _ _ e)) (complete-type principalTypes n r t)
+
+  complete-action : Complete Z (Without (is kinds.inWord)) read-action (ActionRest L)
+  unfolding read-action need mapped
+  complete-action = record { at = go }
+    where
+      go : {i r : List Lexeme} {a : Actions} → ActionRest L i r a → Without (is kinds.inWord) r → Nearly Z a r (read-action i)
+      go (grammar.ActionRest.bare {r = r}) w = rw (on-without (is kinds.inWord) _ _ r w) exact
+      go (grammar.ActionRest.list {x = x} e (begun {i = i} {x = y} k h)) w =
+          rw (on-token (is kinds.inWord) _ _ x (y ∷ i) (eq-eqb _ _ e), on-token (is kinds.leftSquare) _ _ y i (eq-eqb _ _ k)) (nearly-bind _ (complete-list (is kinds.string) h) exact)
+
+  complete-resource : Complete Z (λ r. Without (is kinds.isWord) r × Without (is kinds.equal) r) read-resource ResourceRest
+  unfolding read-resource
+  complete-resource = record { at = go }
+    where
+      go : {i r : List Lexeme} {p : Part} → ResourceRest i r p → Without (is kinds.isWord) r × Without (is kinds.equal) r → Nearly Z p r (read-resource i)
+      go (grammar.ResourceRest.sort (grammar.Typed.bare {r = r})) w = rw (on-without (is kinds.isWord) _ _ r (w .0), on-without (is kinds.equal) _ _ r (w .1)) exact
+      go (grammar.ResourceRest.sort (grammar.Typed.one {x = x} {n = n} {r = r} e t)) w = rw (on-token (is kinds.isWord) _ _ x (n ∷ r) (eq-eqb _ _ e)) (complete-type resourceTypes n r t)
+      go (grammar.ResourceRest.string {x = x} {s = s} {r = r} e k) w =
+          rw (on-other (is kinds.isWord) _ _ x (s ∷ r) (rw e), on-token (is kinds.equal) _ _ x (s ∷ r) (eq-eqb _ _ e), on-token (is kinds.string) _ _ s r (eq-eqb _ _ k)) exact
+
+  complete-when : Complete Z (Without (is kinds.whenWord)) read-when (When L)
+  unfolding read-when read-conditions need mapped Without
+  complete-when = record { at = go }
+    where
+      go : {i r : List Lexeme} {c : Option Tree} → When L i r c → Without (is kinds.whenWord) r → Nearly Z c r (read-when i)
+      go (grammar.When.bare {r = r}) w = rw (on-without (is kinds.whenWord) _ _ r w) exact
+      go (grammar.When.braces {x = x} e (begun {i = i} {x = y} k h)) w =
+          rw (on-token (is kinds.whenWord) _ _ x (y ∷ i) (eq-eqb _ _ e), on-token (is kinds.leftBrace) _ _ y i (eq-eqb _ _ k))
+          (nearly-bind _ (complete-before (complete-disjunction (shrinks-condition L 31) (complete-condition 31)) kinds.rightBrace (closes kinds.rightBrace (((refl, refl, refl, refl), refl), refl)) h) exact)
+
+  complete-policy : (permits : Bool) {i r : List Lexeme} {p : Policy} → PolicyRest L permits i r p → Nearly Z p r (read-policy permits i)
+  unfolding read-policy need Without
+  complete-policy permits (grammar.PolicyRest.rest (begun {x = u} k₁ (begun {x = v} k₂ h₁)) (begun {x = w} k₃ h₂) (begun {x = z} k₄ h₃) h₄) =
+      rw (on-token (is kinds.leftRound) _ _ u _ (eq-eqb _ _ k₁), on-token (is kinds.principalWord) _ _ v _ (eq-eqb _ _ k₂))
+      (nearly-bind _ (complete-before complete-principal kinds.comma (λ x m e. rw e) h₁)
+      (rw (on-token (is kinds.actionWord) _ _ w _ (eq-eqb _ _ k₃))
+      (nearly-bind _ (complete-before complete-action kinds.comma (λ x m e. rw e) h₂)
+      (rw (on-token (is kinds.resourceWord) _ _ z _ (eq-eqb _ _ k₄))
+      (nearly-bind _ (complete-before complete-resource kinds.rightRound (λ x m e. (rw e, rw e)) h₃)
+      (nearly-bind _ (complete-before complete-when kinds.semicolon (λ x m e. rw e) h₄) exact))))))
+
+  complete-policies : {ps qs : List Policy} {i : List Lexeme} → Policies L ps i qs → (n : ℕ) → length i ≤ n → Nearly Z qs [] (bind (upTo n begins read-next-policy ps i) atEnd)
+  unfolding upTo bind atEnd on choose begins read-next-policy mapped refuseBy
+  complete-policies grammar.Policies.end zero l = exact
+  complete-policies grammar.Policies.end (suc n) l = exact
+  complete-policies (policy e c h k) zero l = absurd (omega arith)
+  complete-policies {ps = ps} {qs = qs} (policy {x = x} {i = i} {m = m} {p = p} e c h k) (suc n) l =
+      let s = shrinks-policy L _ .at h in
+      rw e (go (ltb (length ps) mostPolicies) refl (complete-policy (is kinds.permitWord x) h) (complete-policies k n (omega arith)))
+    where
+      turn : {y : Answer Policy} → Nearly Z p m y → Nearly Z qs [] (bind (upTo n begins read-next-policy (ps ++ p ∷ []) m) atEnd)
+          → Nearly Z qs [] (bind (bind (bind y (λ a. took (ps ++ a ∷ []))) (upTo n begins read-next-policy)) atEnd)
+      turn exact k = k
+      turn (excused z) k = excused z
+
+      go : (o : Bool) → ltb (length ps) mostPolicies ≡ o → Nearly Z p m (read-policy (is kinds.permitWord x) i) → Nearly Z qs [] (bind (upTo n begins read-next-policy (ps ++ p ∷ []) m) atEnd)
+          → Nearly Z qs [] (bind (choose o (λ _. bind (read-next-policy ps x i) (upTo n begins read-next-policy)) (λ _. took ps (x ∷ i))) atEnd)
+      go true u h′ k′ = turn h′ k′
+      go false u h′ k′ = excused (ok .no-policy (length ps) x i e c u)
+
+  pub complete-text : (i : List Lexeme) {ps : List Policy} → RuleText L i ps → Nearly Z ps [] (read-text i)
+  unfolding read-text onwards
+  complete-text i h = complete-policies h (length i) (omega arith)

@@ -1,0 +1,12 @@
+pub mod Begun
+pub mod Framing
+pub mod Viable
+pub mod Steps
+pub mod Completeness
+pub mod Exactly
+pub mod Refused
+pub mod Theorems
+pub mod Telling
+pub mod Spots
+pub mod Numbered
+pub mod Examples

@@ -1,0 +1,293 @@
+-- Places in a rule text, by the last tokens before them, and the numbers that the table has there. Assumes nothing.
+use mathlib.Core.Path.{_≡_, refl, sym, _∙_}
+use mathlib.Core.Bool.{Bool, true, false, cond, _&&_, _||_}
+use mathlib.Core.List.{List, [], _∷_}
+use Prim.Native.Nat.{ℕ, zero, suc, _≤_}
+use native.Mathlib.Omega.{arith}
+use lib.Dec.{eqb, ltb}
+use borrow.Author.Tests.{eqb-true, eq-eqb, ne-eqb, ltb-false}
+use Rattle.tokens.specs.Kinds as kinds
+use Rattle.tokens.proofs.TokenLaws.{never}
+use Rattle.reading.specs.Lexemes.{Lexeme, is}
+use Rattle.reading.specs.Reader.{numbered, ten}
+use Rattle.grammar.specs.Policies.{Root, Root.Principal, Root.Resource, Root.Env, Root.Action}
+use Rattle.grammar.specs.Rules.{isEffect, isReserved, isRoot, rootOf, isLiteral, isComparator, isContains, mostLiterals}
+use Rattle.grammar.specs.Parser.{noName, bare, noType, noLevel, noPattern, tooMany, noPolicy}
+use Rattle.grammar.specs.Numbers.{behind, atName, atType, atPattern, afterPolicy, atCondition, leftRoot, afterLeft, afterAction, actionIn, oneMore, endsBare, deepens, numberOf}
+use Rattle.grammar.proofs.Begun.{made}
+use Rattle.grammar.proofs.Completeness.{other-kind}
+
+-- what the tests say of a place that is none of a literal in a list
+pub record Place (n l t b p s : Bool) (c : List Lexeme) : Type 0 where
+  pub name : atName c ≡ n
+  pub left : afterLeft c ≡ l
+  pub type : atType c ≡ t
+  pub begins : atCondition c ≡ b
+  pub pattern : atPattern c ≡ p
+  pub policy : afterPolicy c ≡ s
+  pub list : (x : Lexeme) → oneMore mostLiterals c x ≡ false
+
+-- where no test holds, where a condition must begin, behind an attribute as left operand
+abbrev pub Quiet : List Lexeme → Type 0
+Quiet = Place false false false false false false
+
+abbrev pub Begins : List Lexeme → Type 0
+Begins = Place false false false true false false
+
+abbrev pub Left : List Lexeme → Type 0
+Left = Place false true false false false false
+
+-- ---- numbers
+
+number-is : {n l t b p s : Bool} {c : List Lexeme} → Place n l t b p s c → (x : Lexeme) → numberOf c x
+    ≡ cond (ltb (x .kind) 7) (x .kind) (cond (n && isReserved x) 7 (cond (l && endsBare x) 8 (cond (t && is kinds.name x) 9 (cond (n && is kinds.name x && afterAction c) 11
+    (cond (b && deepens x) 12 (cond (p && is kinds.string x) 13 (cond (s && isEffect x) 15 (cond (n && is kinds.name x) 16 10))))))))
+unfolding numberOf
+number-is h x = rw (h .name, h .left, h .type, h .begins, h .pattern, h .policy, h .list x)
+
+pub quiet-ten : {c : List Lexeme} → Quiet c → (x : Lexeme) → numbered ten x ≡ numberOf c x
+unfolding numbered
+quiet-ten h x = sym (number-is h x)
+
+pub begins-deepest : {c : List Lexeme} → Begins c → (x : Lexeme) → numbered noLevel x ≡ numberOf c x
+unfolding numbered noLevel deepens
+begins-deepest h x = sym (number-is h x)
+
+pub begins-ten : {c : List Lexeme} → Begins c → (x : Lexeme) → deepens x ≡ false → numbered ten x ≡ numberOf c x
+unfolding numbered
+begins-ten h x e = rw (number-is h x, e)
+
+pub left-bare : {c : List Lexeme} → Left c → (x : Lexeme) → numbered bare x ≡ numberOf c x
+unfolding numbered bare endsBare
+left-bare h x = sym (number-is h x)
+
+pub type-number : {c : List Lexeme} → Place false false true false false false c → (x : Lexeme) → numbered noType x ≡ numberOf c x
+unfolding numbered noType
+type-number h x = sym (number-is h x)
+
+pub pattern-number : {c : List Lexeme} → Place false false false false true false c → (x : Lexeme) → numbered noPattern x ≡ numberOf c x
+unfolding numbered noPattern
+pattern-number h x = sym (number-is h x)
+
+pub policy-number : {c : List Lexeme} → Place false false false false false true c → (x : Lexeme) → numbered noPolicy x ≡ numberOf c x
+unfolding numbered noPolicy
+policy-number h x = sym (number-is h x)
+
+abbrev isAction : Root → Bool
+isAction Principal = false
+isAction Resource = false
+isAction Env = false
+isAction Action = true
+
+pub name-number : {c : List Lexeme} → Place true false false false false false c → (root : Root) → afterAction c ≡ isAction root → (x : Lexeme) → numbered (noName root) x ≡ numberOf c x
+unfolding numbered noName
+name-number {c = c} h root e x = go root (is kinds.name x) refl ∙ sym (rw e at (number-is h x))
+  where
+    go : (root : Root) (o : Bool) → is kinds.name x ≡ o → numbered (noName root) x
+        ≡ cond (ltb (x .kind) 7) (x .kind) (cond (isReserved x) 7 (cond (is kinds.name x && isAction root) 11 (cond (is kinds.name x) 16 10)))
+    go Principal true q = rw (eqb-true (x .kind) kinds.name q)
+    go Resource true q = rw (eqb-true (x .kind) kinds.name q)
+    go Env true q = rw (eqb-true (x .kind) kinds.name q)
+    go Action true q = rw (eqb-true (x .kind) kinds.name q)
+    go Principal false q = rw q
+    go Resource false q = rw q
+    go Env false q = rw q
+    go Action false q = rw q
+
+-- ---- the place behind a token
+
+-- neither behind an attribute nor in a list, by the last token
+no-left : (y : Lexeme) (c : List Lexeme) → is kinds.name y ≡ false → afterLeft (y ∷ c) ≡ false
+unfolding afterLeft
+no-left y [] e = refl
+no-left y (d ∷ c) e = rw e
+
+no-list : (y : Lexeme) (c : List Lexeme) → is kinds.comma y ≡ false → (x : Lexeme) → oneMore mostLiterals (y ∷ c) x ≡ false
+unfolding oneMore
+no-list y [] e x = refl
+no-list y (l ∷ c) e x = rw e
+
+-- a token behind which a condition begins, but for `(`
+abbrev opens : ℕ → Bool
+opens k = eqb k kinds.leftBrace || eqb k kinds.bang || eqb k kinds.ifWord || eqb k kinds.thenWord || eqb k kinds.elseWord || eqb k kinds.and || eqb k kinds.or
+
+-- behind a token of the kind k, which is no name, no comma and no `(`
+pub at-kind : (k : ℕ) → (eqb k kinds.name ≡ false) × (eqb k kinds.comma ≡ false) × (eqb k kinds.leftRound ≡ false) → (y : Lexeme) (c : List Lexeme) → y .kind ≡ k
+    → Place (eqb k kinds.dot || eqb k kinds.hasWord) false (eqb k kinds.isWord) (opens k) (eqb k kinds.likeWord) (eqb k kinds.semicolon) (y ∷ c)
+unfolding behind atCondition
+at-kind k h y c e = record {
+  name = rw e;
+  left = no-left y c (rw e (h .0));
+  type = rw e;
+  begins = rw (e, h .2);
+  pattern = rw e;
+  policy = rw e;
+  list = no-list y c (rw e (h .1));
+}
+
+-- no kind behind which something is to be told passes the test
+abbrev Silent : (ℕ → Bool) → Type 0
+Silent test =
+    (test kinds.dot ≡ false) × (test kinds.hasWord ≡ false) × (test kinds.name ≡ false) × (test kinds.isWord ≡ false) × (test kinds.leftRound ≡ false) × (test kinds.leftBrace ≡ false)
+    × (test kinds.bang ≡ false) × (test kinds.ifWord ≡ false) × (test kinds.thenWord ≡ false) × (test kinds.elseWord ≡ false) × (test kinds.and ≡ false) × (test kinds.or ≡ false)
+    × (test kinds.likeWord ≡ false) × (test kinds.semicolon ≡ false) × (test kinds.comma ≡ false)
+
+quiet-by : (test : ℕ → Bool) → Silent test → (y : Lexeme) (c : List Lexeme) → test (y .kind) ≡ true → Quiet (y ∷ c)
+unfolding behind atCondition
+quiet-by test f y c t = record {
+  name = rw (no kinds.dot (f .0), no kinds.hasWord (f .1));
+  left = no-left y c (no kinds.name (f .2));
+  type = no kinds.isWord (f .3);
+  begins = rw (no kinds.leftRound (f .4), no kinds.leftBrace (f .5), no kinds.bang (f .6), no kinds.ifWord (f .7), no kinds.thenWord (f .8), no kinds.elseWord (f .9), no kinds.and (f .10), no kinds.or (f .11));
+  pattern = no kinds.likeWord (f .12);
+  policy = no kinds.semicolon (f .13);
+  list = no-list y c (no kinds.comma (f .14));
+}
+  where
+    no : (k : ℕ) → test k ≡ false → eqb (y .kind) k ≡ false
+    no k e = other-kind test (y .kind) k t e
+
+pub quiet-root : (y : Lexeme) (c : List Lexeme) → isRoot y ≡ true → Quiet (y ∷ c)
+quiet-root y c t = quiet-by (λ k. isRoot (made k)) (refl, refl, refl, refl, refl, refl, refl, refl, refl, refl, refl, refl, refl, refl, refl) y c t
+
+pub quiet-literal : (y : Lexeme) (c : List Lexeme) → isLiteral y ≡ true → Quiet (y ∷ c)
+quiet-literal y c t = quiet-by (λ k. isLiteral (made k)) (refl, refl, refl, refl, refl, refl, refl, refl, refl, refl, refl, refl, refl, refl, refl) y c t
+
+pub quiet-comparator : (y : Lexeme) (c : List Lexeme) → isComparator y ≡ true → Quiet (y ∷ c)
+quiet-comparator y c t = quiet-by (λ k. isComparator (made k)) (refl, refl, refl, refl, refl, refl, refl, refl, refl, refl, refl, refl, refl, refl, refl) y c t
+
+pub quiet-contains : (y : Lexeme) (c : List Lexeme) → isContains y ≡ true → Quiet (y ∷ c)
+quiet-contains y c t = quiet-by (λ k. isContains (made k)) (refl, refl, refl, refl, refl, refl, refl, refl, refl, refl, refl, refl, refl, refl, refl) y c t
+
+pub quiet-effect : (y : Lexeme) (c : List Lexeme) → isEffect y ≡ true → Quiet (y ∷ c)
+quiet-effect y c t = quiet-by (λ k. isEffect (made k)) (refl, refl, refl, refl, refl, refl, refl, refl, refl, refl, refl, refl, refl, refl, refl) y c t
+
+-- what a bracket stands behind that is a target's or a call's
+abbrev pub other : List Lexeme → Bool
+other = behind (λ z. isEffect z || isContains z)
+
+pub quiet-round : (y : Lexeme) (c : List Lexeme) → y .kind ≡ kinds.leftRound → other c ≡ true → Quiet (y ∷ c)
+unfolding behind atCondition
+quiet-round y c e f = record { name = rw e; left = no-left y c (rw e); type = rw e; begins = rw (e, f); pattern = rw e; policy = rw e; list = no-list y c (rw e) }
+
+pub quiet-comma : (y : Lexeme) (c : List Lexeme) → y .kind ≡ kinds.comma → behind isLiteral c ≡ false → Quiet (y ∷ c)
+unfolding behind atCondition oneMore
+quiet-comma y c e f = record { name = rw e; left = no-left y c (rw e); type = rw e; begins = rw e; pattern = rw e; policy = rw e; list = go c f }
+  where
+    go : (c : List Lexeme) → behind isLiteral c ≡ false → (x : Lexeme) → oneMore mostLiterals (y ∷ c) x ≡ false
+    go [] f x = refl
+    go (l ∷ c) f x = rw (e, f)
+
+-- behind a name: it goes by what the name is of
+pub at-left : (l : Bool) (y : Lexeme) (c : List Lexeme) → y .kind ≡ kinds.name → afterLeft (y ∷ c) ≡ l → Place false l false false false false (y ∷ c)
+unfolding behind atCondition
+at-left l y c e f = record { name = rw e; left = f; type = rw e; begins = rw e; pattern = rw e; policy = rw e; list = no-list y c (rw e) }
+
+-- a bracket where a condition begins
+pub begins-round : (y : Lexeme) {c : List Lexeme} → y .kind ≡ kinds.leftRound → Begins c → Begins (y ∷ c)
+unfolding behind atCondition
+begins-round y {c = c} e h = record { name = rw e; left = no-left y c (rw e); type = rw e; begins = rw (e, no-other c (h .begins)); pattern = rw e; policy = rw e; list = no-list y c (rw e) }
+  where
+    no-other : (c : List Lexeme) → atCondition c ≡ true → other c ≡ false
+    no-other [] f = refl
+    no-other (z ∷ c) f =
+        rw (
+          ne-eqb (z .kind) 201 (λ (q : z .kind ≡ 201). never (rw q at f)),
+          ne-eqb (z .kind) 202 (λ (q : z .kind ≡ 202). never (rw q at f)),
+          ne-eqb (z .kind) 217 (λ (q : z .kind ≡ 217). never (rw q at f)),
+          ne-eqb (z .kind) 218 (λ (q : z .kind ≡ 218). never (rw q at f)),
+        )
+
+-- ---- paths
+
+-- where a name must stand on a path after the root; whether the path is a left operand's
+pub data OnPath (left : Bool) : Root → List Lexeme → Type 0 where
+  dotted : {x d : Lexeme} {c : List Lexeme} → isRoot x ≡ true → d .kind ≡ kinds.dot → atCondition c ≡ left → OnPath left (rootOf x) (d ∷ x ∷ c)
+  had : {x h : Lexeme} {c : List Lexeme} → isRoot x ≡ true → h .kind ≡ kinds.hasWord → left ≡ false → OnPath left (rootOf x) (h ∷ x ∷ c)
+  longer : {root : Root} {n d : Lexeme} {c : List Lexeme} → OnPath left root c → n .kind ≡ kinds.name → d .kind ≡ kinds.dot → OnPath left root (d ∷ n ∷ c)
+
+path-place : {left : Bool} {root : Root} {c : List Lexeme} → OnPath left root c → Place true false false false false false c
+path-place (dotted {d = d} t e k) = at-kind kinds.dot (refl, refl, refl) d _ e
+path-place (had {h = h} t e k) = at-kind kinds.hasWord (refl, refl, refl) h _ e
+path-place (longer {d = d} h k e) = at-kind kinds.dot (refl, refl, refl) d _ e
+
+root-kind : (x : Lexeme) → isRoot x ≡ true → isAction (rootOf x) ≡ is kinds.actionWord x
+unfolding rootOf
+root-kind x t = go (is kinds.principalWord x) (is kinds.resourceWord x) (is kinds.actionWord x) refl refl
+  where
+    go : (p r a : Bool) → is kinds.principalWord x ≡ p → is kinds.resourceWord x ≡ r → isAction (rootOf x) ≡ is kinds.actionWord x
+    go true r a e f = rw (eqb-true (x .kind) 204 e)
+    go false true a e f = rw (eqb-true (x .kind) 205 f)
+    go false false a e f = rw (e, f) (last (is kinds.actionWord x))
+      where
+        last : (a : Bool) → isAction (cond a Action Env) ≡ a
+        last true = refl
+        last false = refl
+
+path-action : {left : Bool} {root : Root} {c : List Lexeme} → OnPath left root c → afterAction c ≡ isAction root
+unfolding afterAction
+path-action (dotted {x = x} t e k) = rw (e, t) (sym (root-kind x t))
+path-action (had {x = x} t e k) = rw (e, t) (sym (root-kind x t))
+path-action (longer h k e) = rw (e, k) (path-action h)
+
+pub path-number : {left : Bool} {root : Root} {c : List Lexeme} → OnPath left root c → (x : Lexeme) → numbered (noName root) x ≡ numberOf c x
+path-number {root = root} h x = name-number (path-place h) root (path-action h) x
+
+after-name : {left : Bool} {root : Root} {c : List Lexeme} → OnPath left root c → (n : Lexeme) → n .kind ≡ kinds.name → afterLeft (n ∷ c) ≡ left
+unfolding afterLeft leftRoot
+after-name (dotted {x = x} {c = c} t e k) n f = rw (f, e, t, k) (go _ (no-left x c (other-kind (λ k. isRoot (made k)) (x .kind) kinds.name t refl)))
+  where
+    go : (l : Bool) {b : Bool} → b ≡ false → (l || b) ≡ l
+    go true e = refl
+    go false e = e
+after-name (had t e k) n f = rw (f, e, k)
+after-name (longer {n = m} {d = d} {c = c} h k e) n f = rw (eq-eqb (n .kind) kinds.name f, eq-eqb (d .kind) kinds.dot e, no-root m k) (after-name h m k)
+  where
+    no-root : (m : Lexeme) → m .kind ≡ kinds.name → isRoot m ≡ false
+    no-root m k = rw k
+
+-- behind a name of the path
+pub data Named (left : Bool) (root : Root) : List Lexeme → Type 0 where
+  named : {n : Lexeme} {c : List Lexeme} → OnPath left root c → n .kind ≡ kinds.name → Named left root (n ∷ c)
+
+pub named-place : {left : Bool} {root : Root} {c : List Lexeme} → Named left root c → Place false left false false false false c
+named-place (named {n = n} h e) = at-left _ n _ e (after-name h n e)
+
+-- ---- lists
+
+-- where a literal must stand in a list, with k literals before it
+pub data InList (sort : Lexeme → Bool) : ℕ → List Lexeme → Type 0 where
+  opened : {s : Lexeme} {c : List Lexeme} → s .kind ≡ kinds.leftSquare → ((x : Lexeme) → cond (actionIn c) (is kinds.string x) (isLiteral x) ≡ sort x) → InList sort 0 (s ∷ c)
+  further : {k : ℕ} {y l : Lexeme} {c : List Lexeme} → InList sort k c → isLiteral l ≡ true → y .kind ≡ kinds.comma → InList sort (suc k) (y ∷ l ∷ c)
+
+one-more : {sort : Lexeme → Bool} {k : ℕ} {c : List Lexeme} → InList sort k c → (x : Lexeme) → oneMore k c x ≡ sort x
+unfolding oneMore
+one-more (opened e f) x = rw e (f x)
+one-more (further h t e) x = rw (e, t) (one-more h x)
+
+no-more : {sort : Lexeme → Bool} {k : ℕ} {c : List Lexeme} → InList sort k c → (n : ℕ) (x : Lexeme) → sort x ≡ false → oneMore n c x ≡ false
+unfolding oneMore
+no-more (opened e f) zero x g = rw e (f x ∙ g)
+no-more (opened {c = []} e f) (suc n) x g = refl
+no-more (opened {c = l ∷ c} e f) (suc n) x g = rw e
+no-more (further h t e) zero x g = rw e
+no-more (further h t e) (suc n) x g = rw (e, t) (no-more h n x g)
+
+in-list-number : (c : List Lexeme) → atName c ≡ false → afterLeft c ≡ false → atType c ≡ false → atCondition c ≡ false → atPattern c ≡ false → afterPolicy c ≡ false
+    → (x : Lexeme) → numberOf c x ≡ cond (ltb (x .kind) 7) (x .kind) (cond (oneMore mostLiterals c x) 14 10)
+unfolding numberOf
+in-list-number c n l t b p s x = rw (n, l, t, b, p, s)
+
+list-number : {sort : Lexeme → Bool} {k : ℕ} {c : List Lexeme} → InList sort k c → (x : Lexeme) → numberOf c x ≡ cond (ltb (x .kind) 7) (x .kind) (cond (oneMore mostLiterals c x) 14 10)
+unfolding behind atCondition
+list-number (opened {s = s} {c = c} e f) x = in-list-number (s ∷ c) (rw e) (no-left s c (rw e)) (rw e) (rw e) (rw e) (rw e) x
+list-number (further {y = y} {l = l} {c = c} h t e) x = in-list-number (y ∷ l ∷ c) (rw e) (no-left y (l ∷ c) (rw e)) (rw e) (rw e) (rw e) (rw e) x
+
+pub element-number : {sort : Lexeme → Bool} {k : ℕ} {c : List Lexeme} → InList sort k c → k ≤ mostLiterals → (x : Lexeme) → (sort x && ltb k mostLiterals) ≡ false
+    → numbered (tooMany sort) x ≡ numberOf c x
+unfolding numbered tooMany
+element-number {sort = sort} {k = k} {c = c} h l x f = rw (list-number h x) (go (sort x) refl)
+  where
+    go : (o : Bool) → sort x ≡ o → cond (ltb (x .kind) 7) (x .kind) (cond (sort x) 14 10) ≡ cond (ltb (x .kind) 7) (x .kind) (cond (oneMore mostLiterals c x) 14 10)
+    go false e = rw (e, no-more h mostLiterals x e)
+    go true e = let q : k ≡ mostLiterals = (let m = ltb-false k mostLiterals (rw e at f) in omega arith) in rw (e, (rw q at (one-more h x)) ∙ e)

@@ -1,0 +1,178 @@
+-- The grammar of rule texts over their tokens: the drafts' productions under document 01's rulings and limits. Definitions only.
+use mathlib.Core.Path.{_≡_}
+use mathlib.Core.Logic.{_⊎_}
+use mathlib.Core.Bool.{Bool, true}
+use mathlib.Core.List.{List, [], _∷_, _++_}
+use mathlib.Core.Option.{Option, none, some}
+use Prim.Native.Nat.{ℕ, zero, suc, _+_, _<_}
+use lib.ListN.{length}
+use Rattle.tokens.specs.Kinds as kinds
+use Rattle.reading.specs.Lexemes.{Lexeme, is, size}
+use Rattle.reading.specs.Reads.{Reads, Chain, Onto, Before, After}
+use Rattle.grammar.specs.Policies.{Span, span, Root, Literal, Operand, attribute, literal, Tree, constant, compare, like, among, within, contains, has, not, brackets, both, either, choice, Part, any, typed, pinned, Actions, every, oneOf, Policy}
+use Rattle.grammar.specs.Rules.{inside, spanOf, isEffect, isRoot, rootOf, isTruth, isLiteral, literalOf, isComparator, comparatorOf, isContains, whichOf, principalTypes, resourceTypes, typeOf, isType, admitted, mostLiterals, mostPolicies, isPattern}
+
+-- ---- limits
+
+-- What the limits ask of a name on a path of which so many bytes are used, of a pattern, of a literal with so many before it in its list, and of a policy's effect
+-- with so many policies before it; each with the tokens behind it. (Depth is counted by Condition.)
+pub record Limits : Type 1 where
+  pub Name : Root → ℕ → Lexeme → List Lexeme → Type 0
+  pub Pattern : Lexeme → List Lexeme → Type 0
+  pub Count : ℕ → List Lexeme → Type 0
+  pub Number : ℕ → List Lexeme → Type 0
+
+-- document 01's
+abbrev pub sizes : Limits
+sizes = record {
+  Name = λ root used x r. admitted root used x ≡ true;
+  Pattern = λ x r. isPattern (inside x) ≡ true;
+  Count = λ k r. k < mostLiterals;
+  Number = λ k r. k < mostPolicies;
+}
+
+-- the same, asked only of what stands before the last tokens `on`
+abbrev pub sizesBefore : List Lexeme → Limits
+sizesBefore on = record {
+  Name = λ root used x r. (admitted root used x ≡ true) ⊎ (length r < length on);
+  Pattern = λ x r. (isPattern (inside x) ≡ true) ⊎ (length r < length on);
+  Count = λ k r. (k < mostLiterals) ⊎ (length r < length on);
+  Number = λ k r. (k < mostPolicies) ⊎ (length r < length on);
+}
+
+-- ---- paths: names joined by dots
+
+-- a path that is being read: where it starts and ends, and its bytes with its dots, without blanks
+pub record Path : Type 0 where
+  pub start : ℕ
+  pub end : ℕ
+  pub used : ℕ
+
+abbrev pub firstPath : Lexeme → Path
+firstPath x = record { start = x .start; end = x .end; used = size x }
+
+abbrev pub longerPath : Path → Lexeme → Path
+longerPath p x = record { start = p .start; end = x .end; used = p .used + 1 + size x }
+
+abbrev pub spanned : Path → Span
+spanned p = span (p .start) (p .end)
+
+pub data FirstName (L : Limits) (root : Root) : List Lexeme → List Lexeme → Path → Type 0 where
+  first : {x : Lexeme} {r : List Lexeme} → x .kind ≡ kinds.name → L .Name root 0 x r → FirstName L root (x ∷ r) r (firstPath x)
+
+pub data NextName (L : Limits) (root : Root) (p : Path) : List Lexeme → List Lexeme → Path → Type 0 where
+  next : {x : Lexeme} {r : List Lexeme} → x .kind ≡ kinds.name → L .Name root (p .used + 1) x r → NextName L root p (x ∷ r) r (longerPath p x)
+
+abbrev pub Names : Limits → Root → Reads Path
+Names L root = Chain (λ p. is kinds.dot) (FirstName L root) (λ p d. NextName L root p)
+
+-- ---- operands
+
+-- an attribute: a root, a dot and a path
+pub data Attribute (L : Limits) : List Lexeme → List Lexeme → Operand → Type 0 where
+  rooted : {x d : Lexeme} {i r : List Lexeme} {p : Path} → isRoot x ≡ true → d .kind ≡ kinds.dot → Names L (rootOf x) i r p
+    → Attribute L (x ∷ d ∷ i) r (attribute (rootOf x) (spanned p))
+
+pub data AnOperand (L : Limits) : List Lexeme → List Lexeme → Operand → Type 0 where
+  given : {i r : List Lexeme} {a : Operand} → Attribute L i r a → AnOperand L i r a
+  plain : {x : Lexeme} {r : List Lexeme} → isLiteral x ≡ true → AnOperand L (x ∷ r) r (literal (literalOf x))
+
+-- ---- lists: at least one literal, with commas between them, in square brackets
+
+-- one literal more after ls, of the sort that the test says
+pub data Element (L : Limits) (sort : Lexeme → Bool) (ls : List Literal) : List Lexeme → List Lexeme → List Literal → Type 0 where
+  element : {x : Lexeme} {r : List Lexeme} → sort x ≡ true → L .Count (length ls) r → Element L sort ls (x ∷ r) r (ls ++ literalOf x ∷ [])
+
+abbrev pub Listing : Limits → (Lexeme → Bool) → Reads (List Literal)
+Listing L sort =
+    After kinds.leftSquare (Before kinds.rightSquare (Chain (λ ls. is kinds.comma) (Element L sort []) (λ ls comma. Element L sort ls)))
+
+-- ---- conditions that hold no other
+
+pub data Simple (L : Limits) : List Lexeme → List Lexeme → Tree → Type 0 where
+  bare : {x : Lexeme} {r : List Lexeme} → isTruth x ≡ true → Simple L (x ∷ r) r (constant (is kinds.trueWord x))
+  comparison : {x : Lexeme} {i m r : List Lexeme} {a b : Operand}
+    → AnOperand L i (x ∷ m) a → isComparator x ≡ true → AnOperand L m r b → Simple L i r (compare (comparatorOf x) a b)
+  likeness : {x s : Lexeme} {i r : List Lexeme} {a : Operand}
+    → AnOperand L i (x ∷ s ∷ r) a → x .kind ≡ kinds.likeWord → s .kind ≡ kinds.string → L .Pattern s r → Simple L i r (like a (spanOf s))
+  listed : {x : Lexeme} {i m r : List Lexeme} {a : Operand} {ls : List Literal}
+    → AnOperand L i (x ∷ m) a → x .kind ≡ kinds.inWord → Listing L isLiteral m r ls → Simple L i r (among a ls)
+  held : {x : Lexeme} {i m r : List Lexeme} {a : Operand} {root : Root} {p : Span}
+    → AnOperand L i (x ∷ m) a → x .kind ≡ kinds.inWord → Attribute L m r (attribute root p) → Simple L i r (within a root p)
+  call : {d w o : Lexeme} {i m r : List Lexeme} {root : Root} {p : Span} {ls : List Literal}
+    → Attribute L i (d ∷ w ∷ o ∷ m) (attribute root p) → d .kind ≡ kinds.dot → isContains w ≡ true → o .kind ≡ kinds.leftRound
+    → Before kinds.rightRound (Listing L isLiteral) m r ls → Simple L i r (contains (whichOf w) root p ls)
+  having : {x h : Lexeme} {i r : List Lexeme} {p : Path}
+    → isRoot x ≡ true → h .kind ≡ kinds.hasWord → Names L (rootOf x) i r p → Simple L (x ∷ h ∷ i) r (has (rootOf x) (spanned p))
+
+-- ---- conditions
+
+-- one or more of what C reads, joined from the left
+abbrev pub Joined : ℕ → (Tree → Tree → Tree) → Reads Tree → Reads Tree
+Joined sep join C = Chain (λ a. is sep) C (λ a x. Onto (join a) C)
+
+abbrev pub Conjunction : Reads Tree → Reads Tree
+Conjunction C = Joined kinds.and both C
+
+abbrev pub Disjunction : Reads Tree → Reads Tree
+Disjunction C = Joined kinds.or either (Conjunction C)
+
+-- a condition, where Inner reads the conditions one level deeper
+pub data Form (L : Limits) (Inner : Reads Tree) : List Lexeme → List Lexeme → Tree → Type 0 where
+  simple : {i r : List Lexeme} {t : Tree} → Simple L i r t → Form L Inner i r t
+  negation : {x : Lexeme} {i r : List Lexeme} {t : Tree} → x .kind ≡ kinds.bang → Inner i r t → Form L Inner (x ∷ i) r (not t)
+  bracketed : {x : Lexeme} {i r : List Lexeme} {t : Tree} → x .kind ≡ kinds.leftRound → Before kinds.rightRound (Disjunction Inner) i r t
+    → Form L Inner (x ∷ i) r (brackets t)
+  conditional : {x : Lexeme} {i m n r : List Lexeme} {c a b : Tree}
+    → x .kind ≡ kinds.ifWord → Before kinds.thenWord Inner i m c → Before kinds.elseWord Inner m n a → Inner n r b → Form L Inner (x ∷ i) r (choice c a b)
+
+pub data Nothing : List Lexeme → List Lexeme → Tree → Type 0 where
+
+-- a condition with at most d levels inside it
+abbrev pub Condition : Limits → ℕ → Reads Tree
+Condition L zero = Form L Nothing
+Condition L (suc d) = Form L (Condition L d)
+
+-- what stands in the braces after `when`, which are the first of 32 levels
+abbrev pub Conditions : Limits → Reads Tree
+Conditions L = Disjunction (Condition L 31)
+
+-- ---- policies
+
+-- a part that is bare, or `is` one of the types
+pub data Typed (types : List (List ℕ)) : List Lexeme → List Lexeme → Part → Type 0 where
+  bare : {r : List Lexeme} → Typed types r r any
+  one : {x n : Lexeme} {r : List Lexeme} → x .kind ≡ kinds.isWord → isType types n ≡ true → Typed types (x ∷ n ∷ r) r (typed (typeOf types n))
+
+pub data ResourceRest : List Lexeme → List Lexeme → Part → Type 0 where
+  sort : {i r : List Lexeme} {p : Part} → Typed resourceTypes i r p → ResourceRest i r p
+  string : {x s : Lexeme} {r : List Lexeme} → x .kind ≡ kinds.equal → s .kind ≡ kinds.string → ResourceRest (x ∷ s ∷ r) r (pinned (spanOf s))
+
+pub data ActionRest (L : Limits) : List Lexeme → List Lexeme → Actions → Type 0 where
+  bare : {r : List Lexeme} → ActionRest L r r every
+  list : {x : Lexeme} {i r : List Lexeme} {ls : List Literal} → x .kind ≡ kinds.inWord → Listing L (is kinds.string) i r ls → ActionRest L (x ∷ i) r (oneOf ls)
+
+-- the `when` part, if there is one
+pub data When (L : Limits) : List Lexeme → List Lexeme → Option Tree → Type 0 where
+  bare : {r : List Lexeme} → When L r r none
+  braces : {x : Lexeme} {i r : List Lexeme} {t : Tree} → x .kind ≡ kinds.whenWord
+    → After kinds.leftBrace (Before kinds.rightBrace (Conditions L)) i r t → When L (x ∷ i) r (some t)
+
+-- a policy's tokens behind its effect
+pub data PolicyRest (L : Limits) (permits : Bool) : List Lexeme → List Lexeme → Policy → Type 0 where
+  rest : {i j k l r : List Lexeme} {p : Part} {a : Actions} {s : Part} {c : Option Tree}
+    → After kinds.leftRound (After kinds.principalWord (Before kinds.comma (Typed principalTypes))) i j p
+    → After kinds.actionWord (Before kinds.comma (ActionRest L)) j k a
+    → After kinds.resourceWord (Before kinds.rightRound ResourceRest) k l s
+    → Before kinds.semicolon (When L) l r c
+    → PolicyRest L permits i r (record { permits = permits; principal = p; action = a; resource = s; condition = c })
+
+-- a text: zero or more policies
+pub data Policies (L : Limits) : List Policy → List Lexeme → List Policy → Type 0 where
+  end : {ps : List Policy} → Policies L ps [] ps
+  policy : {x : Lexeme} {i m : List Lexeme} {p : Policy} {ps qs : List Policy}
+    → isEffect x ≡ true → L .Number (length ps) i → PolicyRest L (is kinds.permitWord x) i m p → Policies L (ps ++ p ∷ []) m qs → Policies L ps (x ∷ i) qs
+
+-- the tokens of a rule text that says these policies
+abbrev pub RuleText : Limits → List Lexeme → List Policy → Type 0
+RuleText L i ps = Policies L [] i ps

@@ -1,0 +1,6 @@
+pub mod Policies
+pub mod Rules
+pub mod Grammar
+pub mod Parser
+pub mod Promise
+pub mod Numbers

@@ -1,0 +1,64 @@
+-- What a rule text says: its policies, with the places of the words, paths, strings and numbers that they have. Definitions only.
+use mathlib.Core.Bool.{Bool}
+use mathlib.Core.List.{List}
+use mathlib.Core.Option.{Option}
+use Prim.Native.Nat.{ℕ}
+
+-- from its first byte up to the byte after its last: a path from its first name to its last, a string with its quotes
+pub record Span : Type 0 where
+  pub start : ℕ
+  pub end : ℕ
+
+abbrev pub span : ℕ → ℕ → Span
+span start end = record { start = start; end = end }
+
+pub data Root : Type 0 where
+  Principal Resource Env Action : Root
+
+pub data Comparator : Type 0 where
+  Equal NotEqual More AtLeast Less AtMost : Comparator
+
+pub data Literal : Type 0 where
+  text : Span → Literal
+  number : Span → Literal
+  truth : Bool → Literal
+
+pub data Operand : Type 0 where
+  attribute : Root → Span → Operand
+  literal : Literal → Operand
+
+-- containsAll, containsAny
+pub data Which : Type 0 where
+  All Any : Which
+
+-- a condition; brackets are kept
+pub data Tree : Type 0 where
+  constant : Bool → Tree
+  compare : Comparator → Operand → Operand → Tree
+  like : Operand → Span → Tree
+  among : Operand → List Literal → Tree
+  within : Operand → Root → Span → Tree
+  contains : Which → Root → Span → List Literal → Tree
+  has : Root → Span → Tree
+  not : Tree → Tree
+  brackets : Tree → Tree
+  both either : Tree → Tree → Tree
+  choice : Tree → Tree → Tree → Tree
+
+-- what the principal part or the resource part asks: nothing, a type, by its number among that part's types from 1 on, or a string
+pub data Part : Type 0 where
+  any : Part
+  typed : ℕ → Part
+  pinned : Span → Part
+
+-- what the action part asks: nothing, or one of these strings
+pub data Actions : Type 0 where
+  every : Actions
+  oneOf : List Literal → Actions
+
+pub record Policy : Type 0 where
+  pub permits : Bool
+  pub principal : Part
+  pub action : Actions
+  pub resource : Part
+  pub condition : Option Tree

@@ -1,0 +1,113 @@
+-- Rules of document 01 about single tokens and their bytes: which are roots, literals, comparators, types, names that may go on a path, patterns. Definitions only.
+use mathlib.Core.Bool.{Bool, true, false, cond, not, _&&_, _||_}
+use mathlib.Core.List.{List, [], _∷_, map}
+use Prim.Native.Nat.{ℕ, suc, _+_, _-_}
+use Prim.Native.Char.{code}
+use lib.Dec.{eqb, leb}
+use lib.ListN.{length, take, drop}
+use Rattle.slices.specs.Ascii.{bytes}
+use Rattle.slices.specs.Same.{same}
+use Rattle.tokens.specs.Kinds as kinds
+use Rattle.reading.specs.Lexemes.{Lexeme, is, size}
+use Rattle.grammar.specs.Policies.{Span, span, Root, Root.Principal, Root.Resource, Root.Env, Root.Action, Comparator, Comparator.Equal, Comparator.NotEqual, Comparator.More, Comparator.AtLeast, Comparator.Less, Comparator.AtMost, Literal, text, number, truth, Which, Which.All, Which.Any}
+
+-- a string's bytes without its quotes
+abbrev pub inside : Lexeme → List ℕ
+inside x = take (size x - 2) (drop 1 (x .bytes))
+
+abbrev pub spanOf : Lexeme → Span
+spanOf x = span (x .start) (x .end)
+
+-- ---- kinds
+
+abbrev pub isEffect : Lexeme → Bool
+isEffect x = is kinds.permitWord x || is kinds.forbidWord x
+
+abbrev pub isReserved : Lexeme → Bool
+isReserved x = leb kinds.permitWord (x .kind)
+
+abbrev pub isRoot : Lexeme → Bool
+isRoot x = leb kinds.principalWord (x .kind) && leb (x .kind) kinds.envWord
+
+unfoldable pub rootOf : Lexeme → Root
+rootOf x = cond (is kinds.principalWord x) Principal (cond (is kinds.resourceWord x) Resource (cond (is kinds.actionWord x) Action Env))
+
+abbrev pub isTruth : Lexeme → Bool
+isTruth x = is kinds.trueWord x || is kinds.falseWord x
+
+abbrev pub isLiteral : Lexeme → Bool
+isLiteral x = is kinds.string x || is kinds.number x || isTruth x
+
+unfoldable pub literalOf : Lexeme → Literal
+literalOf x = cond (is kinds.string x) (text (spanOf x)) (cond (is kinds.number x) (number (spanOf x)) (truth (is kinds.trueWord x)))
+
+abbrev pub isComparator : Lexeme → Bool
+isComparator x =
+    is kinds.equal x || is kinds.notEqual x || is kinds.more x || is kinds.atLeast x || is kinds.less x || is kinds.atMost x
+
+unfoldable pub comparatorOf : Lexeme → Comparator
+comparatorOf x =
+    cond (is kinds.equal x) Equal
+    (cond (is kinds.notEqual x) NotEqual
+    (cond (is kinds.more x) More
+    (cond (is kinds.atLeast x) AtLeast
+    (cond (is kinds.less x) Less AtMost))))
+
+abbrev pub isContains : Lexeme → Bool
+isContains x = is kinds.containsAllWord x || is kinds.containsAnyWord x
+
+unfoldable pub whichOf : Lexeme → Which
+whichOf x = cond (is kinds.containsAllWord x) All Any
+
+-- ---- types
+
+unfoldable pub principalTypes : List (List ℕ)
+principalTypes = map bytes ("person" ∷ "tool" ∷ [])
+
+unfoldable pub resourceTypes : List (List ℕ)
+resourceTypes = map bytes ("controller" ∷ "shaft" ∷ "parameter" ∷ "record" ∷ [])
+
+-- the number of a name among types that count from `first` on, and 0 where it is none of them
+unfoldable pub typeAmong : List (List ℕ) → ℕ → List ℕ → ℕ
+typeAmong [] first name = 0
+typeAmong (t ∷ types) first name = cond (same name t) first (typeAmong types (suc first) name)
+
+abbrev pub typeOf : List (List ℕ) → Lexeme → ℕ
+typeOf types x = typeAmong types 1 (x .bytes)
+
+abbrev pub isType : List (List ℕ) → Lexeme → Bool
+isType types x = is kinds.name x && not (eqb (typeOf types x) 0)
+
+-- ---- paths
+
+-- the name x may go on a path after the root: after action only `name` makes a path; any other path has at most 64 bytes with its dots, `used` of them before the name
+unfoldable pub admitted : Root → ℕ → Lexeme → Bool
+admitted Principal used x = leb (used + size x) 64
+admitted Resource used x = leb (used + size x) 64
+admitted Env used x = leb (used + size x) 64
+admitted Action used x = eqb used 0 && same (x .bytes) (bytes "name")
+
+-- ---- lists, policies
+
+abbrev pub mostLiterals : ℕ
+mostLiterals = 16
+
+abbrev pub mostPolicies : ℕ
+mostPolicies = 64
+
+-- ---- patterns
+
+abbrev pub isWildcard : ℕ → Bool
+isWildcard b = eqb b (code "*") || eqb b (code "?")
+
+unfoldable pub wildcards : List ℕ → ℕ
+wildcards [] = 0
+wildcards (b ∷ rest) = cond (isWildcard b) (suc (wildcards rest)) (wildcards rest)
+
+-- none of `[`, `{`, and no `*` after a `*`
+unfoldable pub plain : Bool → List ℕ → Bool
+plain star [] = true
+plain star (b ∷ rest) = not (eqb b (code "[")) && not (eqb b (code "{")) && not (star && eqb b (code "*")) && plain (eqb b (code "*")) rest
+
+unfoldable pub isPattern : List ℕ → Bool
+isPattern s = leb (length s) 100 && leb (wildcards s) 5 && plain false s

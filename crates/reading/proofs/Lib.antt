@@ -1,0 +1,4 @@
+pub mod Readers
+pub mod Complete
+pub mod Local
+pub mod Stream

@@ -1,0 +1,52 @@
+-- Tokens with their bytes, and the tokens of a text in order. Definitions only.
+use mathlib.Core.Bool.{Bool, true, false}
+use mathlib.Core.List.{List, [], _∷_}
+use Prim.Native.Nat.{ℕ, zero, suc, _-_}
+use lib.Dec.{eqb}
+use lib.ListN.{length, take, drop}
+use Rattle.tokens.specs.declared.reader.Token.{Token}
+use Rattle.tokens.specs.Kinds.{endOfText}
+use Rattle.tokens.specs.Tokens.{tokenAt}
+
+-- a token: its kind, where it stands, and its bytes
+pub record Lexeme : Type 0 where
+  pub kind : ℕ
+  pub start : ℕ
+  pub end : ℕ
+  pub bytes : List ℕ
+
+-- a token of a text
+abbrev pub lexeme : List ℕ → Token → Lexeme
+lexeme text t = record { kind = t .kind; start = t .start; end = t .end; bytes = take (t .end - t .start) (drop (t .start) text) }
+
+-- a token of this kind
+abbrev pub is : ℕ → Lexeme → Bool
+is k x = eqb (x .kind) k
+
+-- how many bytes a token has
+abbrev pub size : Lexeme → ℕ
+size x = x .end - x .start
+
+unfoldable pub choose : {A : Type 0} → Bool → (Unit {0} → A) → (Unit {0} → A) → A
+choose true f g = f tt
+choose false f g = g tt
+
+-- a token of a text, and those that `rest` gives from its end on; none where it is the end of the text
+unfoldable pub following : List ℕ → Token → (ℕ → List Lexeme) → List Lexeme
+following text t rest = choose (eqb (t .kind) endOfText) (λ _. []) (λ _. lexeme text t ∷ rest (t .end))
+
+unfoldable pub tokensUpTo : ℕ → List ℕ → ℕ → List Lexeme
+tokensUpTo zero text at = []
+tokensUpTo (suc n) text at = following text (tokenAt text at) (tokensUpTo n text)
+
+-- the tokens of a text from a place on, up to its end: no text has more tokens than bytes. What is no token stands there too, with its refusal's number as its kind
+unfoldable pub tokensFrom : List ℕ → ℕ → List Lexeme
+tokensFrom text at = tokensUpTo (suc (length text)) text at
+
+-- the tokens of a text from a token on that was read there
+unfoldable pub stream : List ℕ → Token → List Lexeme
+stream text t = following text t (tokensFrom text)
+
+-- all tokens of a text
+abbrev pub tokensOf : List ℕ → List Lexeme
+tokensOf text = tokensFrom text 0

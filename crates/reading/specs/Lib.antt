@@ -1,0 +1,3 @@
+pub mod Lexemes
+pub mod Reads
+pub mod Reader
