@@ -48,86 +48,87 @@ abbrev pub times : {A : Type 0} → ℕ → List A → List A
 times zero s = []
 times (suc n) s = s ++ times n s
 
-pub cases :
-    (of "" ≡ policies 0)
-    × (of "permit(principal,action,resource);" ≡ policies 1)
-    × (of "permit(principal,action,resource)" ≡ refused 10 (place 1 34))
-    × (of "permit(principal,action,resource)when{principal.a};" ≡ refused 8 (place 1 50))
-    × (of "permit(principal,action,resource)when{principal.if==1};" ≡ refused 7 (place 1 49))
-    × (of "permit(principal,action,resource)when{action.kind==\"x\"};" ≡ refused 11 (place 1 46))
-unfolding classOf run same reserved kindAmong sized wordAt stringAt numberAt markOf markAt tokenAt past pastAll choose following tokensUpTo tokensFrom numbered refuseBy bind on need before mapped upTo onwards chain rootOf literalOf comparatorOf whichOf principalTypes resourceTypes typeAmong admitted wildcards plain isPattern noName bare noType noLevel noPattern tooMany noPolicy fits read-first-name goesOn read-next-name read-way spannedBy read-path read-attribute read-operand isElement read-element read-list read-bare read-in isLike read-pattern read-operator read-call read-rest read-rooted read-simple read-joined read-conjunction read-disjunction read-negated read-bracketed read-conditional read-deeper read-condition read-conditions read-type read-principal read-action read-resource read-when read-policy begins read-next-policy atEnd read-text
-cases = (refl, refl, refl, refl, refl, refl)
-
--- case H: the parts of `if` are single conditions
-pub case-h : read-conditions (tokensOf (bytes "if true then true else true && false")) ≡ took (both (choice (constant true) (constant true) (constant true)) (constant false)) []
-unfolding classOf run same reserved kindAmong sized wordAt stringAt numberAt markOf markAt tokenAt past pastAll choose following tokensUpTo tokensFrom numbered refuseBy bind on need before mapped upTo onwards chain rootOf literalOf comparatorOf whichOf principalTypes resourceTypes typeAmong admitted wildcards plain isPattern noName bare noType noLevel noPattern tooMany noPolicy fits read-first-name goesOn read-next-name read-way spannedBy read-path read-attribute read-operand isElement read-element read-list read-bare read-in isLike read-pattern read-operator read-call read-rest read-rooted read-simple read-joined read-conjunction read-disjunction read-negated read-bracketed read-conditional read-deeper read-condition read-conditions read-type read-principal read-action read-resource read-when read-policy begins read-next-policy atEnd read-text
-case-h = refl
-
--- containsAll and containsAny begin a call only after a left operand's path and dot
-pub calls :
-    (when (bytes "principal.containsAll([\"x\"])") ≡ refused 7 (place 1 49))
-    × (when (bytes "principal.a.containsAll") ≡ refused 10 (place 1 62))
-    × (when (bytes "principal.a.containsAny([\"x\",1])") ≡ policies 1)
-    × (when (bytes "1==principal.a.containsAll([\"x\"])") ≡ refused 7 (place 1 54))
-    × (when (bytes "principal has a.containsAll") ≡ refused 7 (place 1 55))
-    × (when (bytes "\"x\".containsAll([\"x\"])") ≡ refused 10 (place 1 42))
-    × (when (bytes "action.name.containsAll([\"x\"])") ≡ policies 1)
-unfolding classOf run same reserved kindAmong sized wordAt stringAt numberAt markOf markAt tokenAt past pastAll choose following tokensUpTo tokensFrom numbered refuseBy bind on need before mapped upTo onwards chain rootOf literalOf comparatorOf whichOf principalTypes resourceTypes typeAmong admitted wildcards plain isPattern noName bare noType noLevel noPattern tooMany noPolicy fits read-first-name goesOn read-next-name read-way spannedBy read-path read-attribute read-operand isElement read-element read-list read-bare read-in isLike read-pattern read-operator read-call read-rest read-rooted read-simple read-joined read-conjunction read-disjunction read-negated read-bracketed read-conditional read-deeper read-condition read-conditions read-type read-principal read-action read-resource read-when read-policy begins read-next-policy atEnd read-text
-calls = (refl, refl, refl, refl, refl, refl, refl)
-
--- after action only `name` makes a path
-pub action-paths :
-    (when (bytes "action has name") ≡ policies 1)
-    × (when (bytes "action has kind") ≡ refused 11 (place 1 50))
-    × (when (bytes "action.name.x==1") ≡ refused 11 (place 1 51))
-    × (when (bytes "action.if==1") ≡ refused 7 (place 1 46))
-unfolding classOf run same reserved kindAmong sized wordAt stringAt numberAt markOf markAt tokenAt past pastAll choose following tokensUpTo tokensFrom numbered refuseBy bind on need before mapped upTo onwards chain rootOf literalOf comparatorOf whichOf principalTypes resourceTypes typeAmong admitted wildcards plain isPattern noName bare noType noLevel noPattern tooMany noPolicy fits read-first-name goesOn read-next-name read-way spannedBy read-path read-attribute read-operand isElement read-element read-list read-bare read-in isLike read-pattern read-operator read-call read-rest read-rooted read-simple read-joined read-conjunction read-disjunction read-negated read-bracketed read-conditional read-deeper read-condition read-conditions read-type read-principal read-action read-resource read-when read-policy begins read-next-policy atEnd read-text
-action-paths = (refl, refl, refl, refl)
-
--- bare operands, `in`, `has`, the parts of `if`, types
-pub rulings :
-    (when (bytes "principal.a then") ≡ refused 8 (place 1 51))
-    × (when (bytes "principal.a;") ≡ refused 10 (place 1 50))
-    × (when (bytes "1") ≡ refused 10 (place 1 40))
-    × (when (bytes "1 in 2") ≡ refused 10 (place 1 44))
-    × (when (bytes "principal.a has b") ≡ refused 10 (place 1 51))
-    × (when (bytes "if true&&true then true else true") ≡ refused 10 (place 1 46))
-    × (when (bytes "!principal.a==1") ≡ policies 1)
-    × (when (bytes "principal.a like \"a**b\"") ≡ refused 13 (place 1 56))
-    × (of "permit(principal is dog,action,resource);" ≡ refused 9 (place 1 21))
-    × (of "permit(principal is if,action,resource);" ≡ refused 10 (place 1 21))
-    × (of "permit(principal is shaft,action,resource);" ≡ refused 9 (place 1 21))
-    × (of "permit(principal is tool,action,resource is shaft);" ≡ policies 1)
-unfolding classOf run same reserved kindAmong sized wordAt stringAt numberAt markOf markAt tokenAt past pastAll choose following tokensUpTo tokensFrom numbered refuseBy bind on need before mapped upTo onwards chain rootOf literalOf comparatorOf whichOf principalTypes resourceTypes typeAmong admitted wildcards plain isPattern noName bare noType noLevel noPattern tooMany noPolicy fits read-first-name goesOn read-next-name read-way spannedBy read-path read-attribute read-operand isElement read-element read-list read-bare read-in isLike read-pattern read-operator read-call read-rest read-rooted read-simple read-joined read-conjunction read-disjunction read-negated read-bracketed read-conditional read-deeper read-condition read-conditions read-type read-principal read-action read-resource read-when read-policy begins read-next-policy atEnd read-text
-rulings = (refl, refl, refl, refl, refl, refl, refl, refl, refl, refl, refl, refl)
-
--- brackets, `!` and `if` nest to 32 levels
-pub levels :
-    (when (times 31 (bytes "(") ++ bytes "true" ++ times 31 (bytes ")")) ≡ policies 1)
-    × (when (times 32 (bytes "(") ++ bytes "true" ++ times 32 (bytes ")")) ≡ refused 12 (place 1 70))
-    × (when (times 10 (bytes "(!if ") ++ bytes "((true") ≡ refused 12 (place 1 90))
-    × (when (times 31 (bytes "!") ++ bytes "(true)") ≡ refused 12 (place 1 70))
-    × (when (times 31 (bytes "if true then true else ") ++ bytes "true") ≡ policies 1)
-    × (when (times 32 (bytes "if true then true else ") ++ bytes "true") ≡ refused 12 (place 1 752))
-unfolding classOf run same reserved kindAmong sized wordAt stringAt numberAt markOf markAt tokenAt past pastAll choose following tokensUpTo tokensFrom numbered refuseBy bind on need before mapped upTo onwards chain rootOf literalOf comparatorOf whichOf principalTypes resourceTypes typeAmong admitted wildcards plain isPattern noName bare noType noLevel noPattern tooMany noPolicy fits read-first-name goesOn read-next-name read-way spannedBy read-path read-attribute read-operand isElement read-element read-list read-bare read-in isLike read-pattern read-operator read-call read-rest read-rooted read-simple read-joined read-conjunction read-disjunction read-negated read-bracketed read-conditional read-deeper read-condition read-conditions read-type read-principal read-action read-resource read-when read-policy begins read-next-policy atEnd read-text
-levels = (refl, refl, refl, refl, refl, refl)
-
--- a list has at most 16 literals, an action list only strings
-pub lists :
-    (when (bytes "principal.a in[" ++ times 15 (bytes "1,") ++ bytes "1]") ≡ policies 1)
-    × (when (bytes "principal.a in[" ++ times 16 (bytes "1,") ++ bytes "1]") ≡ refused 14 (place 1 86))
-    × (when (bytes "principal.a in[" ++ times 16 (bytes "1,") ++ bytes "]") ≡ refused 10 (place 1 86))
-    × (ofBytes (bytes "permit(principal,action in[" ++ times 16 (bytes "\"a\",") ++ bytes "\"a\"],resource);") ≡ refused 14 (place 1 92))
-    × (ofBytes (bytes "permit(principal,action in[" ++ times 16 (bytes "\"a\",") ++ bytes "1],resource);") ≡ refused 10 (place 1 92))
-unfolding classOf run same reserved kindAmong sized wordAt stringAt numberAt markOf markAt tokenAt past pastAll choose following tokensUpTo tokensFrom numbered refuseBy bind on need before mapped upTo onwards chain rootOf literalOf comparatorOf whichOf principalTypes resourceTypes typeAmong admitted wildcards plain isPattern noName bare noType noLevel noPattern tooMany noPolicy fits read-first-name goesOn read-next-name read-way spannedBy read-path read-attribute read-operand isElement read-element read-list read-bare read-in isLike read-pattern read-operator read-call read-rest read-rooted read-simple read-joined read-conjunction read-disjunction read-negated read-bracketed read-conditional read-deeper read-condition read-conditions read-type read-principal read-action read-resource read-when read-policy begins read-next-policy atEnd read-text
-lists = (refl, refl, refl, refl, refl)
-
 -- the tokens of a policy that asks for nothing
 abbrev pub plainest : List Lexeme
 plainest =
     map made (kinds.permitWord ∷ kinds.leftRound ∷ kinds.principalWord ∷ kinds.comma ∷ kinds.actionWord ∷ kinds.comma ∷ kinds.resourceWord ∷ kinds.rightRound ∷ kinds.semicolon ∷ [])
 
--- a text has at most 64 policies
-pub sixty-four : (seen [] (read-text (times 64 plainest)) ≡ policies 64) × (read-text (times 65 plainest) ≡ refuse 15 plainest)
+pub record Computed : Type 0 where
+  -- cases A to F
+  pub cases :
+      (of "" ≡ policies 0)
+      × (of "permit(principal,action,resource);" ≡ policies 1)
+      × (of "permit(principal,action,resource)" ≡ refused 10 (place 1 34))
+      × (of "permit(principal,action,resource)when{principal.a};" ≡ refused 8 (place 1 50))
+      × (of "permit(principal,action,resource)when{principal.if==1};" ≡ refused 7 (place 1 49))
+      × (of "permit(principal,action,resource)when{action.kind==\"x\"};" ≡ refused 11 (place 1 46))
+
+  -- case H: the parts of `if` are single conditions
+  pub case-h :
+      read-conditions (tokensOf (bytes "if true then true else true && false")) ≡ took (both (choice (constant true) (constant true) (constant true)) (constant false)) []
+
+  -- containsAll and containsAny begin a call only after a left operand's path and dot
+  pub calls :
+      (when (bytes "principal.containsAll([\"x\"])") ≡ refused 7 (place 1 49))
+      × (when (bytes "principal.a.containsAll") ≡ refused 10 (place 1 62))
+      × (when (bytes "principal.a.containsAny([\"x\",1])") ≡ policies 1)
+      × (when (bytes "1==principal.a.containsAll([\"x\"])") ≡ refused 7 (place 1 54))
+      × (when (bytes "principal has a.containsAll") ≡ refused 7 (place 1 55))
+      × (when (bytes "\"x\".containsAll([\"x\"])") ≡ refused 10 (place 1 42))
+      × (when (bytes "action.name.containsAll([\"x\"])") ≡ policies 1)
+
+  -- after action only `name` makes a path
+  pub action-paths :
+      (when (bytes "action has name") ≡ policies 1)
+      × (when (bytes "action has kind") ≡ refused 11 (place 1 50))
+      × (when (bytes "action.name.x==1") ≡ refused 11 (place 1 51))
+      × (when (bytes "action.if==1") ≡ refused 7 (place 1 46))
+
+  -- bare operands, `in`, `has`, the parts of `if`, types
+  pub rulings :
+      (when (bytes "principal.a then") ≡ refused 8 (place 1 51))
+      × (when (bytes "principal.a;") ≡ refused 10 (place 1 50))
+      × (when (bytes "1") ≡ refused 10 (place 1 40))
+      × (when (bytes "1 in 2") ≡ refused 10 (place 1 44))
+      × (when (bytes "principal.a has b") ≡ refused 10 (place 1 51))
+      × (when (bytes "if true&&true then true else true") ≡ refused 10 (place 1 46))
+      × (when (bytes "!principal.a==1") ≡ policies 1)
+      × (when (bytes "principal.a like \"a**b\"") ≡ refused 13 (place 1 56))
+      × (of "permit(principal is dog,action,resource);" ≡ refused 9 (place 1 21))
+      × (of "permit(principal is if,action,resource);" ≡ refused 10 (place 1 21))
+      × (of "permit(principal is shaft,action,resource);" ≡ refused 9 (place 1 21))
+      × (of "permit(principal is tool,action,resource is shaft);" ≡ policies 1)
+
+  -- brackets, `!` and `if` nest to 32 levels
+  pub levels :
+      (when (times 31 (bytes "(") ++ bytes "true" ++ times 31 (bytes ")")) ≡ policies 1)
+      × (when (times 32 (bytes "(") ++ bytes "true" ++ times 32 (bytes ")")) ≡ refused 12 (place 1 70))
+      × (when (times 10 (bytes "(!if ") ++ bytes "((true") ≡ refused 12 (place 1 90))
+      × (when (times 31 (bytes "!") ++ bytes "(true)") ≡ refused 12 (place 1 70))
+      × (when (times 31 (bytes "if true then true else ") ++ bytes "true") ≡ policies 1)
+      × (when (times 32 (bytes "if true then true else ") ++ bytes "true") ≡ refused 12 (place 1 752))
+
+  -- a list has at most 16 literals, an action list only strings
+  pub lists :
+      (when (bytes "principal.a in[" ++ times 15 (bytes "1,") ++ bytes "1]") ≡ policies 1)
+      × (when (bytes "principal.a in[" ++ times 16 (bytes "1,") ++ bytes "1]") ≡ refused 14 (place 1 86))
+      × (when (bytes "principal.a in[" ++ times 16 (bytes "1,") ++ bytes "]") ≡ refused 10 (place 1 86))
+      × (ofBytes (bytes "permit(principal,action in[" ++ times 16 (bytes "\"a\",") ++ bytes "\"a\"],resource);") ≡ refused 14 (place 1 92))
+      × (ofBytes (bytes "permit(principal,action in[" ++ times 16 (bytes "\"a\",") ++ bytes "1],resource);") ≡ refused 10 (place 1 92))
+
+  -- a text has at most 64 policies
+  pub sixty-four :
+      (seen [] (read-text (times 64 plainest)) ≡ policies 64) × (read-text (times 65 plainest) ≡ refuse 15 plainest)
+
+pub computed : Computed
 unfolding classOf run same reserved kindAmong sized wordAt stringAt numberAt markOf markAt tokenAt past pastAll choose following tokensUpTo tokensFrom numbered refuseBy bind on need before mapped upTo onwards chain rootOf literalOf comparatorOf whichOf principalTypes resourceTypes typeAmong admitted wildcards plain isPattern noName bare noType noLevel noPattern tooMany noPolicy fits read-first-name goesOn read-next-name read-way spannedBy read-path read-attribute read-operand isElement read-element read-list read-bare read-in isLike read-pattern read-operator read-call read-rest read-rooted read-simple read-joined read-conjunction read-disjunction read-negated read-bracketed read-conditional read-deeper read-condition read-conditions read-type read-principal read-action read-resource read-when read-policy begins read-next-policy atEnd read-text
-sixty-four = (refl, refl)
+computed = record {
+  cases = (refl, refl, refl, refl, refl, refl);
+  case-h = refl;
+  calls = (refl, refl, refl, refl, refl, refl, refl);
+  action-paths = (refl, refl, refl, refl);
+  rulings = (refl, refl, refl, refl, refl, refl, refl, refl, refl, refl, refl, refl);
+  levels = (refl, refl, refl, refl, refl, refl);
+  lists = (refl, refl, refl, refl, refl);
+  sixty-four = (refl, refl);
+}
