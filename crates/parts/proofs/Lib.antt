@@ -1,0 +1,9 @@
+pub mod Standing
+pub mod Writing
+pub mod Sorts
+pub mod Roots
+pub mod Ways
+pub mod Literals
+pub mod Wildcards
+pub mod Simple
+pub mod Types

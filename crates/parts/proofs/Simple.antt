@@ -1,0 +1,161 @@
+-- Conditions that hold no other, by the token that stands next. Assumes nothing.
+use mathlib.Core.Path.{_≡_, refl, _∙_, sym, ap, subst}
+use mathlib.Core.Bool.{Bool, true, false, cond, _&&_, _||_}
+use mathlib.Core.List.{List, [], _∷_, _++_}
+use Prim.Native.Nat.{ℕ, _+_, _-_, _≤_, _<_}
+use native.Mathlib.Omega.{arith}
+use lib.ListN.{length, length-map}
+use lib.Dec.{eqb}
+use borrow.Author.Tests.{eq-eqb, ne-eqb}
+use Rattle.tokens.specs.Kinds as kinds
+use Rattle.tokens.specs.declared.reader.Token.{Token}
+use Rattle.tokens.specs.Tokens.{tokenAt}
+use Rattle.reading.specs.Lexemes.{Lexeme, lexeme, is, choose, stream}
+use Rattle.reading.specs.Reader as reader
+use Rattle.reading.specs.Reader.{Reader, took, refuse, refuseBy, ten, bind, on, need, mapped}
+use Rattle.reading.proofs.Stream.{next-on, next-off}
+use Rattle.grammar.specs.Policies.{Span, Root, Comparator, Literal, text, number, truth, Operand, attribute, literal, Which, Tree, constant, among}
+use Rattle.grammar.specs.Rules.{isComparator, comparatorOf, isPattern, inside}
+use Rattle.grammar.specs.Parser.{Way, plain, calling, spannedBy, bare, noPattern, isLike, read-path, read-attribute, read-bare, read-pattern, read-operator, read-call, read-rest}
+use Rattle.table.specs.declared.Entry.{Entry}
+use Rattle.table.specs.Entries.{entry, rootKind, comparatorKind, whichKind, literalEntry, literalEntries, operandEntry, treeEntries}
+use Rattle.parts.specs.Names.{ofKind, comparing}
+use Rattle.parts.specs.Answers.{callAfter}
+use Rattle.parts.proofs.Sorts.{false-true}
+
+-- ---- attributes
+
+bind-took : {A B : Type 0} (p : reader.Answer A) (f : A → B) → bind p (λ a. took (f a)) ≡ bind (bind p took) (λ a. took (f a))
+unfolding bind
+bind-took (took a r) f = refl
+bind-took (refuse n r) f = refl
+
+-- an attribute is its place, with its root
+pub attribute-is : {A : Type 0} (root : Root) (f : Root → Span → A) (i : List Lexeme) → read-attribute root f i ≡ bind (read-attribute root (λ root s. s) i) (λ s. took (f root s))
+unfolding read-attribute need on choose refuseBy bind
+attribute-is root f [] = refl
+attribute-is root f (x ∷ i) = go (is kinds.dot x)
+  where
+    go : (b : Bool) → choose b (λ _. bind (read-path root i) (λ s. took (f root s))) (λ _. refuseBy ten (x ∷ i))
+        ≡ bind (choose b (λ _. bind (read-path root i) (λ s. took s)) (λ _. refuseBy ten (x ∷ i))) (λ s. took (f root s))
+    go true = bind-took (read-path root i) (f root)
+    go false = refl
+
+-- ---- comparators
+
+kind-some : (c : Comparator) → comparatorKind c ≡ 0 → ⊥
+kind-some Comparator.Equal e = omega arith
+kind-some Comparator.NotEqual e = omega arith
+kind-some Comparator.More e = omega arith
+kind-some Comparator.AtLeast e = omega arith
+kind-some Comparator.Less e = omega arith
+kind-some Comparator.AtMost e = omega arith
+
+module _ (x : Lexeme) where
+  pub compares : (comparing (x .kind) ≡ 0 → ⊥) → isComparator x ≡ true
+  unfolding comparing
+  compares n = go (isComparator x) n
+    where
+      go : (b : Bool) → (cond b (comparatorKind (comparatorOf (ofKind (x .kind)))) 0 ≡ 0 → ⊥) → b ≡ true
+      go true n = refl
+      go false n = absurd (n refl)
+
+  pub no-compare : comparing (x .kind) ≡ 0 → isComparator x ≡ false
+  unfolding comparing
+  no-compare e = go (isComparator x) e
+    where
+      go : (b : Bool) → cond b (comparatorKind (comparatorOf (ofKind (x .kind)))) 0 ≡ 0 → b ≡ false
+      go true e = absurd (kind-some (comparatorOf (ofKind (x .kind))) e)
+      go false e = refl
+
+  pub compare-is : (comparing (x .kind) ≡ 0 → ⊥) → comparatorKind (comparatorOf x) ≡ comparing (x .kind)
+  unfolding comparing comparatorOf
+  compare-is n = rw (compares n)
+
+-- ---- patterns
+
+module _ (s : List ℕ) (t : Token) where
+  pub no-string : (t .kind ≡ kinds.string → ⊥) → isLike (lexeme s t) ≡ false
+  unfolding isLike
+  no-string n = rw (ne-eqb _ _ n)
+
+  pub string-like : t .kind ≡ kinds.string → isLike (lexeme s t) ≡ isPattern (inside (lexeme s t))
+  unfolding isLike
+  string-like e = rw (eq-eqb _ _ e)
+
+  pub ten-for : (t .kind ≡ kinds.string → ⊥) → noPattern (lexeme s t) ≡ 10
+  unfolding noPattern
+  ten-for n = rw (ne-eqb _ _ n)
+
+  pub thirteen-for : t .kind ≡ kinds.string → noPattern (lexeme s t) ≡ 13
+  unfolding noPattern
+  thirteen-for e = rw (eq-eqb _ _ e)
+
+-- ---- left operands, by the kinds of their entries
+
+module _ {left : Entry} where
+  pub bare-attribute : (a : Operand) → operandEntry a ≡ left → left .kind ≤ 4 → read-bare a ≡ refuseBy bare
+  unfolding read-bare operandEntry literalEntry
+  bare-attribute (attribute root p) e h = refl
+  bare-attribute (literal (text s)) e h = absurd (let k = ap (λ (x : Entry). x .kind) e in omega arith)
+  bare-attribute (literal (number s)) e h = absurd (let k = ap (λ (x : Entry). x .kind) e in omega arith)
+  bare-attribute (literal (truth true)) e h = absurd (let k = ap (λ (x : Entry). x .kind) e in omega arith)
+  bare-attribute (literal (truth false)) e h = absurd (let k = ap (λ (x : Entry). x .kind) e in omega arith)
+
+  pub bare-other : (a : Operand) → operandEntry a ≡ left → 4 < left .kind → left .kind ≤ 10 → read-bare a ≡ refuseBy ten
+  unfolding read-bare operandEntry literalEntry
+  bare-other (attribute Root.Principal p) e l h = absurd (let k = ap (λ (x : Entry). x .kind) e in omega arith)
+  bare-other (attribute Root.Resource p) e l h = absurd (let k = ap (λ (x : Entry). x .kind) e in omega arith)
+  bare-other (attribute Root.Env p) e l h = absurd (let k = ap (λ (x : Entry). x .kind) e in omega arith)
+  bare-other (attribute Root.Action p) e l h = absurd (let k = ap (λ (x : Entry). x .kind) e in omega arith)
+  bare-other (literal (text s)) e l h = refl
+  bare-other (literal (number s)) e l h = refl
+  bare-other (literal (truth true)) e l h = absurd (let k = ap (λ (x : Entry). x .kind) e in omega arith)
+  bare-other (literal (truth false)) e l h = absurd (let k = ap (λ (x : Entry). x .kind) e in omega arith)
+
+-- true or false, alone
+pub record Alone (left : Entry) (a : Operand) : Type 0 where
+  pub value : Bool
+  pub reads : read-bare a ≡ took (constant value)
+  pub entries : (e : ℕ) → treeEntries e (constant value) ≡ left ∷ []
+
+pub bare-truth : {left : Entry} (a : Operand) → operandEntry a ≡ left → 10 < left .kind → Alone left a
+unfolding read-bare operandEntry literalEntry treeEntries
+bare-truth (attribute Root.Principal p) e h = absurd (let k = ap (λ (x : Entry). x .kind) e in omega arith)
+bare-truth (attribute Root.Resource p) e h = absurd (let k = ap (λ (x : Entry). x .kind) e in omega arith)
+bare-truth (attribute Root.Env p) e h = absurd (let k = ap (λ (x : Entry). x .kind) e in omega arith)
+bare-truth (attribute Root.Action p) e h = absurd (let k = ap (λ (x : Entry). x .kind) e in omega arith)
+bare-truth (literal (text s)) e h = absurd (let k = ap (λ (x : Entry). x .kind) e in omega arith)
+bare-truth (literal (number s)) e h = absurd (let k = ap (λ (x : Entry). x .kind) e in omega arith)
+bare-truth (literal (truth true)) e h = record { value = true; reads = refl; entries = λ n. ap (λ (x : Entry). x ∷ []) e }
+bare-truth (literal (truth false)) e h = record { value = false; reads = refl; entries = λ n. ap (λ (x : Entry). x ∷ []) e }
+
+-- ---- what follows an attribute as left operand
+
+which-some : (w : Which) → whichKind w ≡ 0 → ⊥
+which-some Which.All e = omega arith
+which-some Which.Any e = omega arith
+
+pub rest-plain : (root : Root) (way : Way) {s : Span} → spannedBy way ≡ s → callAfter way ≡ 0 → read-rest root way ≡ read-operator (attribute root s)
+unfolding spannedBy callAfter read-rest
+rest-plain root (plain p) e h = ap (λ (s : Span). read-operator (attribute root s)) e
+rest-plain root (calling p w) e h = absurd (which-some w h)
+
+pub record Called (root : Root) (way : Way) (s : Span) (kind : ℕ) : Type 0 where
+  pub which : Which
+  pub kind-is : whichKind which ≡ kind
+  pub reads : read-rest root way ≡ read-call which root s
+
+pub rest-call : (root : Root) (way : Way) {s : Span} {kind : ℕ} → spannedBy way ≡ s → callAfter way ≡ kind → (kind ≡ 0 → ⊥) → Called root way s kind
+unfolding spannedBy callAfter read-rest
+rest-call root (plain p) e h n = absurd (n (sym h))
+rest-call root (calling p w) e h n = record { which = w; kind-is = h; reads = ap (read-call w root) e }
+
+-- ---- lists
+
+-- after the entries `a` and those of the literals comes an entry that counts them
+pub list-count : (a : List Entry) (ls : List Literal) (kind first n : ℕ) → n ≡ first + length (literalEntries ls) → (a ++ literalEntries ls) ++ entry kind (length ls) 0 ∷ [] ≡ (a ++ literalEntries ls) ++ entry kind (n - first) 0 ∷ []
+list-count a ls kind first n e =
+    let l = length-map ls literalEntry in
+    let k : length ls ≡ n - first = omega arith in
+    rw k

@@ -1,0 +1,110 @@
+-- A pattern looked at byte by byte. Assumes nothing.
+use mathlib.Core.Path.{_≡_, refl, sym, _∙_, ap}
+use mathlib.Core.Bool.{Bool, true, false, cond, not, _&&_, _||_}
+use mathlib.Core.List.{List, [], _∷_}
+use Prim.Native.Nat.{ℕ, zero, suc, _+_, _-_, _≤_, _<_}
+use native.Mathlib.Omega.{arith}
+use native.Mathlib.Nat.{zero-add}
+use native.Mathlib.Numerals.{add-one}
+use lib.Dec.{eqb, leb}
+use lib.ListN.{length, take, drop, getD, length-drop}
+use lib.Seq.{drop-cons, drop-drop, take-take, take-nil, length-take-le}
+use borrow.Author.Tests.{lt-leb, le-leb}
+use mir.Val.{boolByte}
+use Rattle.tokens.specs.declared.reader.Token.{Token}
+use Rattle.tokens.specs.Tokens.{Reads}
+use Rattle.reading.specs.Lexemes.{Lexeme, lexeme, size}
+use Rattle.grammar.specs.Rules.{inside, isWildcard, wildcards, plain, isPattern}
+
+-- the bytes from a place up to the last before `end`, which is a quote
+abbrev pub between : List ℕ → ℕ → ℕ → List ℕ
+between text end i = take (end - 1 - i) (drop i text)
+
+between-byte : (text : List ℕ) (end i : ℕ) → i + 1 < end → end ≤ length text → between text end i ≡ getD text i 0 ∷ between text end (i + 1)
+between-byte text end i h l =
+    let n : end - 1 - i ≡ suc (end - 1 - (i + 1)) = omega arith in
+    rw (n, drop-cons text i 0 (omega arith), add-one i)
+
+between-none : (text : List ℕ) (end i : ℕ) → end ≤ i + 1 → between text end i ≡ []
+between-none text end i h = let n : end - 1 - i ≡ 0 = omega arith in rw n
+
+rest-of-take : (n : ℕ) (l : List ℕ) → drop 1 (take n l) ≡ take (n - 1) (drop 1 l)
+rest-of-take zero [] = refl
+rest-of-take zero (x ∷ l) = refl
+rest-of-take (suc n) [] = sym (take-nil (suc n - 1))
+rest-of-take (suc n) (x ∷ l) = let e : suc n - 1 ≡ n = omega arith in rw e
+
+pub inside-is : (text : List ℕ) (t : Token) → inside (lexeme text t) ≡ between text (t .end) (t .start + 1)
+inside-is text t =
+    let n : t .end - t .start - 2 ≡ t .end - 1 - (t .start + 1) = omega arith in
+    rw (rest-of-take (t .end - t .start) (drop (t .start) text), drop-drop 1 (t .start) text, n)
+    (take-take (t .end - 1 - (t .start + 1)) (t .end - t .start - 1) (drop (t .start + 1) text) (omega arith))
+
+-- what was seen of a pattern that starts at `start`, up to i
+pub record Seen (text : List ℕ) (end start : ℕ) (many : ℕ) (star : Bool) (i : ℕ) : Type 0 where
+  pub low : start ≤ i
+  pub high : i ≤ end + 1
+  pub few : many ≤ i
+  pub fits : end ≤ length text
+  pub wild : wildcards (between text end start) ≡ many + wildcards (between text end i)
+  pub plainly : plain false (between text end start) ≡ plain star (between text end i)
+
+pub seen-none : (text : List ℕ) (end start : ℕ) → start ≤ end + 1 → end ≤ length text → Seen text end start 0 false start
+seen-none text end start h l = record { low = omega arith; high = h; few = omega arith; fits = l; wild = sym (zero-add _); plainly = refl }
+
+module _ {text : List ℕ} {end start many : ℕ} {star : Bool} {i : ℕ} (s : Seen text end start many star i) where
+  -- one byte more
+  pub seen-more : i + 1 < end → (eqb (getD text i 0) 91 || eqb (getD text i 0) 123 || star && eqb (getD text i 0) 42) ≡ false
+      → Seen text end start (many + boolByte (isWildcard (getD text i 0))) (eqb (getD text i 0) 42) (i + 1)
+  unfolding wildcards plain
+  seen-more h e = record {
+      low = let x = s .low in omega arith; high = omega arith; fits = s .fits;
+      few = few-more (isWildcard (getD text i 0)) (s .few);
+      wild = s .wild ∙ rw (between-byte text end i h (s .fits)) (count (isWildcard (getD text i 0)) (wildcards (between text end (i + 1))));
+      plainly = s .plainly ∙ rw (between-byte text end i h (s .fits)) (goes (eqb (getD text i 0) 91) (eqb (getD text i 0) 123) (star && eqb (getD text i 0) 42) _ e) }
+    where
+      few-more : (b : Bool) → many ≤ i → many + boolByte b ≤ i + 1
+      few-more true h = omega arith
+      few-more false h = omega arith
+      count : (b : Bool) (n : ℕ) → many + cond b (suc n) n ≡ many + boolByte b + n
+      count true n = omega arith
+      count false n = omega arith
+      goes : (a b d f : Bool) → (a || b || d) ≡ false → not a && not b && not d && f ≡ f
+      goes false false false f e = refl
+      goes true b d f e = absurd (let z : _≡_ {A = ℕ} 0 1 = cc in omega arith)
+      goes false true d f e = absurd (let z : _≡_ {A = ℕ} 0 1 = cc in omega arith)
+      goes false false true f e = absurd (let z : _≡_ {A = ℕ} 0 1 = cc in omega arith)
+
+  -- a byte that no pattern has there
+  pub seen-bad : i + 1 < end → (eqb (getD text i 0) 91 || eqb (getD text i 0) 123 || star && eqb (getD text i 0) 42) ≡ true → false ≡ isPattern (between text end start)
+  unfolding isPattern plain
+  seen-bad h e =
+      rw (s .plainly, between-byte text end i h (s .fits), stops (eqb (getD text i 0) 91) (eqb (getD text i 0) 123) (star && eqb (getD text i 0) 42) (plain (eqb (getD text i 0) 42) (between text end (i + 1))) e)
+      (no-right (leb (length (between text end start)) 100 && leb (wildcards (between text end start)) 5))
+    where
+      stops : (a b d f : Bool) → (a || b || d) ≡ true → not a && not b && not d && f ≡ false
+      stops true b d f e = refl
+      stops false true d f e = refl
+      stops false false true f e = refl
+      stops false false false f e = absurd (let z : _≡_ {A = ℕ} 0 1 = cc in omega arith)
+      no-right : (b : Bool) → false ≡ b && false
+      no-right true = refl
+      no-right false = refl
+
+  -- all bytes were seen
+  pub seen-all : end ≤ i + 1 → end - start ≤ 101 → leb many 5 ≡ isPattern (between text end start)
+  unfolding isPattern plain wildcards
+  seen-all h l =
+      let short : length (between text end start) ≤ 100 = rw (length-take-le (end - 1 - start) (drop start text) (rw (length-drop start text) (let x = s .fits in omega arith))) (omega arith) in
+      let many-is : many + 0 ≡ many = omega arith in
+      sym (rw (s .plainly, s .wild, between-none text end i h, le-leb _ _ short, many-is) (right (leb many 5)))
+    where
+      right : (b : Bool) → b && true ≡ b
+      right true = refl
+      right false = refl
+
+pub too-long : (text : List ℕ) (end start : ℕ) → end ≤ length text → 101 < end - start → false ≡ isPattern (between text end start)
+unfolding isPattern
+too-long text end start l h =
+    let long : 100 < length (between text end start) = rw (length-take-le (end - 1 - start) (drop start text) (rw (length-drop start text) (omega arith))) (omega arith) in
+    rw (lt-leb _ _ long)

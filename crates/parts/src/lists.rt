@@ -1,0 +1,88 @@
+// Literals, and lists of them.
+ghost use mathlib.Core.Path.{_≡_};
+ghost use mathlib.Core.List.{[]};
+ghost use Prim.Native.Nat.{ℕ, _<_, _≤_, _^_};
+ghost use lib.ListN.{length};
+ghost use Rattle.tokens.specs.Table.{classTable};
+ghost use Rattle.tokens.specs.Tokens.{Reads};
+ghost use Rattle.reading.specs.Lexemes.{lexeme, stream};
+ghost use Rattle.grammar.specs.Rules.{isLiteral, literalOf};
+ghost use Rattle.grammar.specs.Parser.{read-list};
+ghost use Rattle.table.specs.Entries.{literalEntry, literalEntries};
+ghost use Rattle.parts.specs.Answers.{Ready, Done};
+ghost use Rattle.parts.specs.Names.{sortOf};
+use crate::answers::Answer;
+use crate::answers::expected;
+use crate::answers::turned_away;
+use table::Entry;
+use table::append;
+use tokens::kinds;
+use tokens::reader::Token;
+use tokens::reader::next_token;
+
+// Whether a token is a literal.
+pub fn is_literal(t: Token) -> bool
+    ensures { λ r. ⌜ r ≡ isLiteral (lexeme [] t) ⌝ }
+{
+    let k = t.kind;
+    (k == kinds::STRING) | (k == kinds::NUMBER) | ((k == kinds::TRUE) | (k == kinds::FALSE))
+}
+
+// The entry of a literal.
+pub fn literal_entry(t: Token) -> Entry
+    ensures { λ r. ⌜ r ≡ literalEntry (literalOf (lexeme [] t)) ⌝ }
+{
+    if t.kind == kinds::STRING {
+        return Entry { kind: 9, first: t.start, second: t.end };
+    }
+    if t.kind == kinds::NUMBER {
+        return Entry { kind: 10, first: t.start, second: t.end };
+    }
+    if t.kind == kinds::TRUE {
+        Entry { kind: 11, first: 0, second: 0 }
+    } else {
+        Entry { kind: 12, first: 0, second: 0 }
+    }
+}
+
+// Whether a token may stand in a list, which may be one of strings only.
+fn is_sort(strings: bool, t: Token) -> bool
+    ensures { λ r. ⌜ r ≡ sortOf strings (lexeme [] t) ⌝ }
+{
+    if strings { t.kind == kinds::STRING } else { is_literal(t) }
+}
+
+// A list after its `[`: 1 to 16 literals with commas between them, and `]`.
+pub fn read_list(
+    classes: &[u8; 256],
+    text: &[u8],
+    table: &mut [u8],
+    seen: &[u8],
+    strings: bool,
+    t: Token,
+    number: usize,
+    same: bool,
+) -> Answer
+    requires { ⌜ Ready (now classes) (now text) number t ⌝ }
+    ensures { λ r. ⌜ Done (λ e. literalEntries) (now (text .entry)) (now (seen .entry)) (t .start) number same (now (table .entry)) (now (table .exit))
+        (read-list (sortOf strings) (stream (now (text .entry)) t)) r ⌝ }
+{
+    let mut at = t;
+    let mut free = number;
+    let mut ok = same;
+    loop {
+        if !is_sort(strings, at) {
+            return Answer::Refused(turned_away(text, at, 10));
+        }
+        if 16 <= free - number {
+            return Answer::Refused(turned_away(text, at, 14));
+        }
+        ok = append(table, seen, free, ok, literal_entry(at));
+        free += 1;
+        let comma = next_token(classes, text, at.end);
+        if comma.kind != b',' {
+            return expected(classes, text, Answer::Read(comma, free, ok), b']');
+        }
+        at = next_token(classes, text, comma.end);
+    }
+}

@@ -1,0 +1,242 @@
+-- Entries put into a table one after another, and a table compared with them. Assumes nothing.
+use mathlib.Core.Path.{_≡_, refl, sym, _∙_, ap}
+use mathlib.Core.Logic.{_↔_}
+use mathlib.Core.Bool.{Bool, true, false, cond, _&&_}
+use mathlib.Core.List.{List, [], _∷_, _++_, append-assoc, append-nil}
+use Prim.Native.Nat.{ℕ, zero, suc, _+_, _*_, _/_, _%_, _≤_, _<_}
+use native.Mathlib.Omega.{arith}
+use native.Mathlib.Nat.{add-zero}
+use native.Mathlib.Numerals.{towards-suc}
+use lib.ListN.{length, take, drop, getD, length-append, length-drop}
+use lib.Seq.{sets, sets-eq, length-sets, drop-cons, drop-drop, take-at, drop-append-add}
+use lib.Dec.{eqb, leb}
+use borrow.Author.Tests.{eqb-true, eqb-false, eq-eqb, le-leb, lt-leb, leb-true, leb-false}
+use Rattle.table.specs.declared.Entry.{Entry}
+use Rattle.table.specs.Entries.{entry}
+use Rattle.table.specs.Layout.{entrySize, entryBytes, bytesOf, fits, putAt, puts, numberOf, entryAt, entryIs, held, startsWith, Begins}
+use Rattle.slices.specs.Decides.{Decides, yes-to, no-to, refuted}
+use Rattle.table.proofs.Fields.{field-back}
+
+-- ---- one list of entries after another
+
+pub puts-append : (T : List ℕ) (e : ℕ) (a b : List Entry) → puts T e (a ++ b) ≡ puts (puts T e a) (e + length a) b
+unfolding puts
+puts-append T e [] b = rw add-zero
+puts-append T e (x ∷ a) b =
+    let q : e + suc (length a) ≡ e + 1 + length a = omega arith in
+    rw q (puts-append (putAt T e x) (e + 1) a b)
+
+pub and-assoc : (a b c : Bool) → (a && b) && c ≡ a && (b && c)
+and-assoc true b c = refl
+and-assoc false b c = refl
+
+pub and-true : (a : Bool) → a && true ≡ a
+and-true true = refl
+and-true false = refl
+
+pub held-append : (T : List ℕ) (e : ℕ) (a b : List Entry) → held T e (a ++ b) ≡ held T e a && held T (e + length a) b
+unfolding held
+held-append T e [] b = rw add-zero
+held-append T e (x ∷ a) b =
+    let q : e + suc (length a) ≡ e + 1 + length a = omega arith in
+    rw (q, held-append T (e + 1) a b, and-assoc (entryIs T e x))
+
+pub bytesOf-append : (a b : List Entry) → bytesOf (a ++ b) ≡ bytesOf a ++ bytesOf b
+unfolding bytesOf
+bytesOf-append [] b = refl
+bytesOf-append (x ∷ a) b = rw (bytesOf-append a b) (sym (append-assoc (entryBytes x) (bytesOf a) (bytesOf b)))
+
+pub length-bytesOf : (es : List Entry) → length (bytesOf es) ≡ entrySize * length es
+unfolding bytesOf entryBytes
+length-bytesOf [] = refl
+length-bytesOf (x ∷ es) = let h = length-bytesOf es in omega arith
+
+length-next : (e : ℕ) (x : Entry) → entrySize * e + length (entryBytes x) ≡ entrySize * (e + 1)
+unfolding entryBytes
+length-next e x = omega arith
+
+-- ---- a table that holds entries begins with their bytes there, and no other does
+
+starts-append : (a b s : List ℕ) → startsWith (a ++ b) s ≡ startsWith a s && startsWith b (drop (length a) s)
+unfolding startsWith
+starts-append [] b s = refl
+starts-append (x ∷ a) b [] = refl
+starts-append (x ∷ a) b (y ∷ s) = rw (starts-append a b s) (sym (and-assoc (eqb y x) (startsWith a s) (startsWith b (drop (length a) s))))
+
+no-right : (b : Bool) → b && false ≡ false
+no-right true = refl
+no-right false = refl
+
+too-short : (a s : List ℕ) → length s < length a → startsWith a s ≡ false
+unfolding startsWith
+too-short [] s h = absurd (omega arith)
+too-short (x ∷ a) [] h = refl
+too-short (x ∷ a) (y ∷ s) h = rw (too-short a s (omega arith)) (no-right (eqb y x))
+
+pub starts-itself : (a s : List ℕ) → startsWith a (a ++ s) ≡ true
+unfolding startsWith
+starts-itself [] s = refl
+starts-itself (x ∷ a) s = rw (eq-eqb x x refl) (starts-itself a s)
+
+-- the test says whether the bytes begin so
+pub starts-decides : (a s : List ℕ) → Decides (Begins a s) (startsWith a s)
+unfolding startsWith
+starts-decides [] s = yes-to (record { rest = s; is = refl })
+starts-decides (x ∷ a) [] = no-to (λ b. let e = ap length (b .is) in omega arith)
+starts-decides (x ∷ a) (y ∷ s) = go (eqb y x) (startsWith a s) refl (starts-decides a s)
+  where
+    go : (p q : Bool) → eqb y x ≡ p → Decides (Begins a s) q → Decides (Begins (x ∷ a) (y ∷ s)) (p && q)
+    go true true e d = let b = d .sound refl in let h = b .is in let k = eqb-true y x e in yes-to (record { rest = b .rest; is = cc })
+    go true false e d = no-to (λ b. let h = b .is in refuted d refl (record { rest = b .rest; is = cc }))
+    go false q e d = no-to (λ b. let h = b .is in eqb-false y x e (cc))
+
+starts-nil : (s : List ℕ) → startsWith [] s ≡ true
+unfolding startsWith
+starts-nil s = refl
+
+module _ (T : List ℕ) where
+  starts-one : (i b : ℕ) (bs : List ℕ) → i < length T → startsWith (b ∷ bs) (drop i T) ≡ eqb (getD T i 0) b && startsWith bs (drop (i + 1) T)
+  unfolding startsWith
+  starts-one i b bs h = rw (drop-cons T i 0 h) (simp towards-suc)
+
+  regrouped : (a b c d e : Bool) → a && (b && (c && (d && (e && true)))) ≡ a && b && c && d && e
+  regrouped false b c d e = refl
+  regrouped true false c d e = refl
+  regrouped true true false d e = refl
+  regrouped true true true false e = refl
+  regrouped true true true true false = refl
+  regrouped true true true true true = refl
+
+  entry-starts : (e : ℕ) (x : Entry) → entryIs T e x ≡ startsWith (entryBytes x) (drop (entrySize * e) T)
+  unfolding entryIs entryBytes
+  entry-starts e x = go (fits T e) refl
+    where
+      go : (b : Bool) → fits T e ≡ b
+          → fits T e && eqb (getD T (entrySize * e) 0) (x .kind) && eqb (getD T (entrySize * e + 1) 0) (x .first % 256) && eqb (getD T (entrySize * e + 2) 0) (x .first / 256 % 256)
+          && eqb (getD T (entrySize * e + 3) 0) (x .second % 256) && eqb (getD T (entrySize * e + 4) 0) (x .second / 256 % 256)
+          ≡ startsWith (x .kind ∷ x .first % 256 ∷ x .first / 256 % 256 ∷ x .second % 256 ∷ x .second / 256 % 256 ∷ []) (drop (entrySize * e) T)
+      go true h =
+          let l = leb-true (entrySize * e + entrySize) (length T) h in
+          let i₂ : entrySize * e + 1 + 1 ≡ entrySize * e + 2 = omega arith in
+          let i₃ : entrySize * e + 2 + 1 ≡ entrySize * e + 3 = omega arith in
+          let i₄ : entrySize * e + 3 + 1 ≡ entrySize * e + 4 = omega arith in
+          sym (rw (
+            starts-one (entrySize * e) _ _ (omega arith),
+            starts-one (entrySize * e + 1) _ _ (omega arith),
+            i₂,
+            starts-one (entrySize * e + 2) _ _ (omega arith),
+            i₃,
+            starts-one (entrySize * e + 3) _ _ (omega arith),
+            i₄,
+            starts-one (entrySize * e + 4) _ _ (omega arith),
+            starts-nil,
+            h,
+          ) (regrouped (eqb (getD T (entrySize * e) 0) (x .kind)) (eqb (getD T (entrySize * e + 1) 0) (x .first % 256)) (eqb (getD T (entrySize * e + 2) 0) (x .first / 256 % 256))
+          (eqb (getD T (entrySize * e + 3) 0) (x .second % 256)) (eqb (getD T (entrySize * e + 4) 0) (x .second / 256 % 256))))
+      go false h =
+          let l = leb-false (entrySize * e + entrySize) (length T) h in
+          let short : length (drop (entrySize * e) T) < 5 = rw (length-drop (entrySize * e) T) (omega arith) in
+          rw h (sym (too-short _ (drop (entrySize * e) T) short))
+
+  -- the table holds entries from number e on exactly where their bytes stand at their place
+  pub held-starts : (e : ℕ) (es : List Entry) → held T e es ≡ startsWith (bytesOf es) (drop (entrySize * e) T)
+  unfolding held bytesOf
+  held-starts e [] = sym (starts-nil (drop (entrySize * e) T))
+  held-starts e (x ∷ es) =
+      let next : entrySize * e + length (entryBytes x) ≡ entrySize * (e + 1) = length-next e x in
+      rw (entry-starts e x, held-starts (e + 1) es)
+      (sym (starts-append (entryBytes x) (bytesOf es) (drop (entrySize * e) T) ∙ rw (drop-drop (length (entryBytes x)) (entrySize * e) T, next)))
+
+-- ---- what a table gives back
+
+-- an entry that the table has is the entry that it gives, where both fields fit into two bytes
+pub entry-back : (T : List ℕ) (e : ℕ) (x : Entry) → x .first < 65536 → x .second < 65536 → entryIs T e x ≡ true → entryAt T e ≡ x
+unfolding entryIs entryAt
+entry-back T e x f s h = go (fits T e) (eqb (getD T (entrySize * e) 0) (x .kind)) (eqb (getD T (entrySize * e + 1) 0) (x .first % 256)) (eqb (getD T (entrySize * e + 2) 0) (x .first / 256 % 256))
+    (eqb (getD T (entrySize * e + 3) 0) (x .second % 256)) (eqb (getD T (entrySize * e + 4) 0) (x .second / 256 % 256)) refl refl refl refl refl refl h
+  where
+    never : false ≡ true → ⊥
+    never e = let z : _≡_ {A = ℕ} 0 1 = cc in omega arith
+    go : (r k a b c d : Bool) → fits T e ≡ r → eqb (getD T (entrySize * e) 0) (x .kind) ≡ k → eqb (getD T (entrySize * e + 1) 0) (x .first % 256) ≡ a → eqb (getD T (entrySize * e + 2) 0) (x .first / 256 % 256) ≡ b
+        → eqb (getD T (entrySize * e + 3) 0) (x .second % 256) ≡ c → eqb (getD T (entrySize * e + 4) 0) (x .second / 256 % 256) ≡ d → r && k && a && b && c && d ≡ true
+        → cond (fits T e) (entry (getD T (entrySize * e) 0) (numberOf (getD T (entrySize * e + 1) 0) (getD T (entrySize * e + 2) 0)) (numberOf (getD T (entrySize * e + 3) 0) (getD T (entrySize * e + 4) 0))) (entry 0 0 0) ≡ x
+    go true true true true true true h₀ h₁ h₂ h₃ h₄ h₅ e₀ =
+        let byte : (i n : ℕ) → eqb (getD T i 0) n ≡ true → getD T i 0 ≡ n = λ i n. eqb-true (getD T i 0) n in
+        rw (h₀, byte (entrySize * e) (x .kind) h₁, field-back (getD T (entrySize * e + 1) 0) (getD T (entrySize * e + 2) 0) (x .first) f (byte _ _ h₂) (byte _ _ h₃),
+        field-back (getD T (entrySize * e + 3) 0) (getD T (entrySize * e + 4) 0) (x .second) s (byte _ _ h₄) (byte _ _ h₅))
+    go false k a b c d h₀ h₁ h₂ h₃ h₄ h₅ e₀ = absurd (never e₀)
+    go true false a b c d h₀ h₁ h₂ h₃ h₄ h₅ e₀ = absurd (never e₀)
+    go true true false b c d h₀ h₁ h₂ h₃ h₄ h₅ e₀ = absurd (never e₀)
+    go true true true false c d h₀ h₁ h₂ h₃ h₄ h₅ e₀ = absurd (never e₀)
+    go true true true true false d h₀ h₁ h₂ h₃ h₄ h₅ e₀ = absurd (never e₀)
+    go true true true true true false h₀ h₁ h₂ h₃ h₄ h₅ e₀ = absurd (never e₀)
+
+-- the parts of a list that a table holds
+pub held-left : (T : List ℕ) (e : ℕ) (a b : List Entry) → held T e (a ++ b) ≡ true → held T e a ≡ true
+held-left T e a b h = go (held T e a) (held T (e + length a) b) (sym (held-append T e a b) ∙ h)
+  where
+    go : (p q : Bool) → p && q ≡ true → p ≡ true
+    go true q e = refl
+    go false q e = e
+
+pub held-right : (T : List ℕ) (e : ℕ) (a b : List Entry) → held T e (a ++ b) ≡ true → held T (e + length a) b ≡ true
+held-right T e a b h = go (held T e a) (held T (e + length a) b) (sym (held-append T e a b) ∙ h)
+  where
+    go : (p q : Bool) → p && q ≡ true → q ≡ true
+    go true q e = e
+    go false q e = absurd (let z : _≡_ {A = ℕ} 0 1 = cc in omega arith)
+
+-- one entry of such a list
+pub held-entry : (T : List ℕ) (e : ℕ) (x : Entry) (es : List Entry) → x .first < 65536 → x .second < 65536 → held T e (x ∷ es) ≡ true → entryAt T e ≡ x
+unfolding held
+held-entry T e x es f s h = entry-back T e x f s (go (entryIs T e x) (held T (e + 1) es) h)
+  where
+    go : (p q : Bool) → p && q ≡ true → p ≡ true
+    go true q e = refl
+    go false q e = e
+
+-- ---- a table with room for all
+
+put-front : (x : Entry) (T a : List ℕ) (e : ℕ) → length a ≡ entrySize * e → entrySize ≤ length T → putAt (a ++ T) e x ≡ (a ++ entryBytes x) ++ drop (length (entryBytes x)) T
+unfolding putAt
+put-front x T a e h l =
+    let n = length-next e x in
+    let whole = length-append a T in
+    let room : entrySize * e + entrySize ≤ length (a ++ T) = omega arith in
+    let room′ : entrySize * e + length (entryBytes x) ≤ length (a ++ T) = omega arith in
+    let place : entrySize * e + length (entryBytes x) ≡ length a + length (entryBytes x) = omega arith in
+    rw (le-leb _ _ room) (sets-eq (entryBytes x) (a ++ T) (entrySize * e) room′ ∙ rw (take-at a T (entrySize * e) h, place, drop-append-add a T (length (entryBytes x))))
+
+-- entries put behind the bytes a: their bytes, and then what was there
+puts-behind : (es : List Entry) (T a : List ℕ) (e : ℕ) → length a ≡ entrySize * e → length (bytesOf es) ≤ length T → puts (a ++ T) e es ≡ (a ++ bytesOf es) ++ drop (length (bytesOf es)) T
+unfolding puts bytesOf
+puts-behind [] T a e h l = rw (append-nil a)
+puts-behind (x ∷ es) T a e h l =
+    let n = length-next e x in
+    let m = length-append (entryBytes x) (bytesOf es) in
+    let k = length-append a (entryBytes x) in
+    let d = length-drop (length (entryBytes x)) T in
+    rw (put-front x T a e h (omega arith), puts-behind es (drop (length (entryBytes x)) T) (a ++ entryBytes x) (e + 1) (omega arith) (omega arith),
+    append-assoc a (entryBytes x) (bytesOf es), drop-drop (length (bytesOf es)) (length (entryBytes x)) T, m)
+
+-- a table into which entries were put from its first byte on: their bytes, and then what was there
+pub puts-front : (es : List Entry) (T : List ℕ) → length (bytesOf es) ≤ length T → puts T 0 es ≡ bytesOf es ++ drop (length (bytesOf es)) T
+puts-front es T l = puts-behind es T [] 0 refl l
+
+-- which it holds
+pub puts-held : (es : List Entry) (T : List ℕ) → length (bytesOf es) ≤ length T → held (puts T 0 es) 0 es ≡ true
+puts-held es T l = held-starts (puts T 0 es) 0 es ∙ rw (puts-front es T l) (starts-itself (bytesOf es) (drop (length (bytesOf es)) T))
+
+-- no table gets longer or shorter
+length-put : (T : List ℕ) (e : ℕ) (x : Entry) → length (putAt T e x) ≡ length T
+unfolding putAt
+length-put T e x = go (fits T e)
+  where
+    go : (b : Bool) → length (cond b (sets T (entrySize * e) (entryBytes x)) T) ≡ length T
+    go true = length-sets T (entrySize * e) (entryBytes x)
+    go false = refl
+
+pub length-puts : (T : List ℕ) (e : ℕ) (es : List Entry) → length (puts T e es) ≡ length T
+unfolding puts
+length-puts T e [] = refl
+length-puts T e (x ∷ es) = length-puts (putAt T e x) (e + 1) es ∙ length-put T e x

@@ -1,0 +1,121 @@
+-- The entries that say a text's policies: a kind and two fields each, the parts of a thing before the thing itself (docs/TABLE.md). Definitions only.
+use mathlib.Core.Bool.{Bool, true, false}
+use mathlib.Core.List.{List, [], _∷_, _++_, map}
+use mathlib.Core.Option.{Option, none, some}
+use Prim.Native.Nat.{ℕ, _+_}
+use lib.ListN.{length}
+use Rattle.table.specs.declared.Entry.{Entry}
+use Rattle.grammar.specs.Policies.{Span, Root, Root.Principal, Root.Resource, Root.Env, Root.Action, Comparator, Comparator.Equal, Comparator.NotEqual, Comparator.More, Comparator.AtLeast, Comparator.Less, Comparator.AtMost, Literal, text, number, truth, Operand, attribute, literal, Which, Which.All, Which.Any, Tree, constant, compare, like, among, within, contains, has, not, brackets, both, either, choice, Part, any, typed, pinned, Actions, every, oneOf, Policy}
+
+abbrev pub entry : ℕ → ℕ → ℕ → Entry
+entry kind first second = record { kind = kind; first = first; second = second }
+
+-- a place in the text
+abbrev pub placed : ℕ → Span → Entry
+placed kind s = entry kind (s .start) (s .end)
+
+-- ---- operands and literals
+
+-- the roots of a bag by their root bytes, and action
+abbrev pub rootKind : Root → ℕ
+rootKind Principal = 1
+rootKind Resource = 2
+rootKind Env = 3
+rootKind Action = 4
+
+abbrev pub hasKind : Root → ℕ
+hasKind Principal = 5
+hasKind Resource = 6
+hasKind Env = 7
+hasKind Action = 8
+
+unfoldable pub literalEntry : Literal → Entry
+literalEntry (text s) = placed 9 s
+literalEntry (number s) = placed 10 s
+literalEntry (truth true) = entry 11 0 0
+literalEntry (truth false) = entry 12 0 0
+
+unfoldable pub operandEntry : Operand → Entry
+operandEntry (attribute root s) = placed (rootKind root) s
+operandEntry (literal l) = literalEntry l
+
+abbrev pub literalEntries : List Literal → List Entry
+literalEntries ls = map literalEntry ls
+
+abbrev pub comparatorKind : Comparator → ℕ
+comparatorKind Equal = 13
+comparatorKind NotEqual = 14
+comparatorKind More = 15
+comparatorKind AtLeast = 16
+comparatorKind Less = 17
+comparatorKind AtMost = 18
+
+abbrev pub whichKind : Which → ℕ
+whichKind All = 22
+whichKind Any = 23
+
+-- ---- conditions
+
+-- a node after its two parts: it says where the second begins
+abbrev pub joint : ℕ → ℕ → List Entry → (ℕ → List Entry) → List Entry
+joint kind e left right = (left ++ right (e + length left)) ++ entry kind (e + length left) 0 ∷ []
+
+-- a node after its three parts: it says where the second and the third begin
+abbrev pub fork′ : ℕ → List Entry → List Entry → (ℕ → List Entry) → List Entry
+fork′ f a b c = ((a ++ b) ++ c (f + length b)) ++ entry 28 f (f + length b) ∷ []
+
+abbrev pub fork : ℕ → List Entry → (ℕ → List Entry) → (ℕ → List Entry) → List Entry
+fork e a b c = fork′ (e + length a) a (b (e + length a)) c
+
+-- the entries of a condition whose first is number e
+unfoldable pub treeEntries : ℕ → Tree → List Entry
+treeEntries e (constant true) = entry 11 0 0 ∷ []
+treeEntries e (constant false) = entry 12 0 0 ∷ []
+treeEntries e (compare c a b) = operandEntry a ∷ operandEntry b ∷ entry (comparatorKind c) 0 0 ∷ []
+treeEntries e (like a s) = operandEntry a ∷ placed 19 s ∷ []
+treeEntries e (among a ls) = (operandEntry a ∷ literalEntries ls) ++ entry 20 (length ls) 0 ∷ []
+treeEntries e (within a root s) = operandEntry a ∷ placed (rootKind root) s ∷ entry 21 0 0 ∷ []
+treeEntries e (contains w root s ls) = (placed (rootKind root) s ∷ literalEntries ls) ++ entry (whichKind w) (length ls) 0 ∷ []
+treeEntries e (has root s) = placed (hasKind root) s ∷ []
+treeEntries e (not t) = treeEntries e t ++ entry 24 0 0 ∷ []
+treeEntries e (brackets t) = treeEntries e t ++ entry 25 0 0 ∷ []
+treeEntries e (both l r) = joint 26 e (treeEntries e l) (λ f. treeEntries f r)
+treeEntries e (either l r) = joint 27 e (treeEntries e l) (λ f. treeEntries f r)
+treeEntries e (choice a b c) = fork e (treeEntries e a) (λ f. treeEntries f b) (λ f. treeEntries f c)
+
+-- ---- policies
+
+unfoldable pub partEntry : Part → Entry
+partEntry any = entry 29 0 0
+partEntry (typed k) = entry 30 k 0
+partEntry (pinned s) = placed 31 s
+
+unfoldable pub actionEntries : Actions → List Entry
+actionEntries every = entry 32 0 0 ∷ []
+actionEntries (oneOf ls) = literalEntries ls ++ entry 33 (length ls) 0 ∷ []
+
+unfoldable pub conditionEntries : ℕ → Option Tree → List Entry
+conditionEntries e none = []
+conditionEntries e (some t) = treeEntries e t
+
+unfoldable pub effectKind : Bool → ℕ
+effectKind true = 34
+effectKind false = 35
+
+unfoldable pub targetEntries : Policy → List Entry
+targetEntries p = (partEntry (p .principal) ∷ actionEntries (p .action)) ++ partEntry (p .resource) ∷ []
+
+-- a policy's own entry after its target and its condition: where the policy begins, and where its condition does
+abbrev pub policyEnd : ℕ → Bool → List Entry → (ℕ → List Entry) → List Entry
+policyEnd e permits target condition = (target ++ condition (e + length target)) ++ entry (effectKind permits) e (e + length target) ∷ []
+
+unfoldable pub policyEntries : ℕ → Policy → List Entry
+policyEntries e p = policyEnd e (p .permits) (targetEntries p) (λ f. conditionEntries f (p .condition))
+
+abbrev pub andThen : ℕ → List Entry → (ℕ → List Entry) → List Entry
+andThen e first rest = first ++ rest (e + length first)
+
+-- the entries of policies of which the first begins at number e
+unfoldable pub policiesEntries : ℕ → List Policy → List Entry
+policiesEntries e [] = []
+policiesEntries e (p ∷ ps) = andThen e (policyEntries e p) (λ f. policiesEntries f ps)
