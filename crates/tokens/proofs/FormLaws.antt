@@ -125,7 +125,7 @@ reach-digits (b ∷ l) e = rw (eqb-true (classOf b) digit e)
 -- ---- marks
 
 -- a test by kind and bytes that each of some marks passes, one of them passes
-mark-passes : (test : ℕ → List ℕ → Bool) {ms : List (String × ℕ)} {kind : ℕ} {l : List ℕ} → Among ms kind l
+pub mark-passes : (test : ℕ → List ℕ → Bool) {ms : List (String × ℕ)} {kind : ℕ} {l : List ℕ} → Among ms kind l
     → every (λ (m : String × ℕ). test (m .1) (bytes (m .0))) ms ≡ true → test kind l ≡ true
 unfolding every
 mark-passes test first v = and-left _ _ v

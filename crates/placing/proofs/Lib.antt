@@ -1,0 +1,5 @@
+pub mod Standing
+pub mod Paths
+pub mod Walk
+pub mod Theorems
+pub mod Examples

@@ -1,0 +1,169 @@
+-- The bytes of a path without blanks are its names, joined by dots. Assumes nothing.
+use mathlib.Core.Path.{_≡_, refl, sym, ap, _∙_}
+use mathlib.Core.Bool.{Bool, true, false, cond, _||_}
+use mathlib.Core.List.{List, [], _∷_, _++_}
+use mathlib.Core.Logic.{⊎-elim}
+use Prim.Native.Nat.{ℕ, _+_, _-_, _≤_, _<_}
+use native.Mathlib.Omega.{arith}
+use lib.Dec.{eqb}
+use lib.ListN.{length, length-append}
+use lib.Seq.{take-add, drop-drop}
+use borrow.Author.Tests.{eqb-true, leb-true}
+use Rattle.slices.specs.Ascii.{bytes}
+use Rattle.slices.proofs.Equal.{same-decides}
+use Rattle.tokens.specs.Bytes.{classOf, letter, digit}
+use Rattle.tokens.specs.Kinds as kinds
+use Rattle.tokens.specs.Runs.{is}
+use Rattle.tokens.specs.Forms.{All, empty, next}
+use Rattle.tokens.specs.declared.classes.Sort.the-variants.{Blanks, Letters, WordBytes}
+use Rattle.tokens.proofs.TokenLaws.{and-left, and-right, or-cases}
+use Rattle.reading.specs.Lexemes.{Lexeme, size}
+use Rattle.reading.specs.Reads.{Chain.alone, Chain.more}
+use Rattle.grammar.specs.Policies.{span, Root, Root.Principal, Root.Resource, Root.Env, Root.Action}
+use Rattle.grammar.specs.Rules.{spanOf, admitted}
+use Rattle.grammar.specs.Grammar.{sizes, Path, firstPath, longerPath, spanned, first, NextName, Names}
+use Rattle.grammar.specs.Grammar as grammar
+use Rattle.placing.specs.Placed.{unblanked, pathAt, IsName, a-name, one-name, one-more, PathPlaced}
+use Rattle.placing.proofs.Standing.{between, length-between, name-form, dot-form, Lexed, Running, token}
+
+-- ---- without blanks
+
+blankless : (b : ℕ) (l : List ℕ) → is Blanks b ≡ false → unblanked (b ∷ l) ≡ b ∷ unblanked l
+unfolding unblanked
+blankless b l e = rw e
+
+unblanked-append : (a b : List ℕ) → unblanked (a ++ b) ≡ unblanked a ++ unblanked b
+unfolding unblanked
+unblanked-append [] b = refl
+unblanked-append (c ∷ a) b = go (is Blanks c) (unblanked-append a b)
+  where
+    go : (t : Bool) → unblanked (a ++ b) ≡ unblanked a ++ unblanked b
+        → cond t (unblanked (a ++ b)) (c ∷ unblanked (a ++ b)) ≡ cond t (unblanked a) (c ∷ unblanked a) ++ unblanked b
+    go true e = e
+    go false e = rw e
+
+unblanked-blanks : {l : List ℕ} → All Blanks l → unblanked l ≡ []
+unfolding unblanked
+unblanked-blanks empty = refl
+unblanked-blanks (next e a) = rw e (unblanked-blanks a)
+
+lone-byte : (c b : ℕ) → is Blanks c ≡ false → eqb b c ≡ true → is Blanks b ≡ false
+lone-byte c b n e = rw (eqb-true b c e) n
+
+letter-no-blank : (b : ℕ) → is Letters b ≡ true → is Blanks b ≡ false
+letter-no-blank b e = rw (eqb-true (classOf b) letter e)
+
+word-no-blank : (b : ℕ) → is WordBytes b ≡ true → is Blanks b ≡ false
+unfolding classOf
+word-no-blank b e =
+    ⊎-elim
+    (λ (f : (eqb (classOf b) letter || eqb (classOf b) digit || eqb b 95) ≡ true).
+    ⊎-elim
+    (λ (g : (eqb (classOf b) letter || eqb (classOf b) digit) ≡ true).
+    ⊎-elim (λ (h : eqb (classOf b) letter ≡ true). letter-no-blank b h) (λ (h : eqb (classOf b) digit ≡ true). rw (eqb-true (classOf b) digit h)) (or-cases _ _ g))
+    (λ (g : eqb b 95 ≡ true). lone-byte 95 b refl g)
+    (or-cases _ _ f))
+    (λ (f : eqb b 45 ≡ true). lone-byte 45 b refl f)
+    (or-cases _ _ e)
+
+unblanked-word : {l : List ℕ} → All WordBytes l → unblanked l ≡ l
+unblanked-word empty = unfold unblanked in refl
+unblanked-word (next {b} {rest} e a) = blankless b rest (word-no-blank b e) ∙ ap (λ (l : List ℕ). b ∷ l) (unblanked-word a)
+
+unblanked-name : {l : List ℕ} → IsName l → unblanked l ≡ l
+unblanked-name (a-name {b} {rest} e a k) = blankless b rest (letter-no-blank b e) ∙ ap (λ (l : List ℕ). b ∷ l) (unblanked-word a)
+
+lone-dot : unblanked (kinds.dot ∷ []) ≡ kinds.dot ∷ []
+unfolding unblanked classOf
+lone-dot = refl
+
+-- ---- in the text
+
+between-joins : (t : List ℕ) (a b c : ℕ) → a ≤ b → b ≤ c → between t a c ≡ between t a b ++ between t b c
+between-joins t a b c h k =
+    let e : c - a ≡ (b - a) + (c - b) = omega arith in
+    let f : a + (b - a) ≡ b = omega arith in
+    rw (e, take-add, drop-drop, f)
+
+-- the blanks before a token go
+unblanked-token : {text : List ℕ} {at : ℕ} {x : Lexeme} → Lexed text at x → 6 < x .kind → unblanked (between text at (x .end)) ≡ unblanked (x .bytes)
+unblanked-token {text} {at} {x} l k =
+    let some = l .some in
+    rw (between-joins text at (x .start) (x .end) (l .low) (omega arith), unblanked-append, unblanked-blanks (l .gap k), ← l .bytes)
+
+size-is : {text : List ℕ} {at : ℕ} {x : Lexeme} → Lexed text at x → length (x .bytes) ≡ size x
+size-is {text} {at} {x} l = ap length (l .bytes) ∙ length-between text (x .start) (x .end) (l .high)
+
+-- ---- sizes
+
+admitted-action : (used : ℕ) (x : Lexeme) → admitted Action used x ≡ true → (used ≡ 0) × (x .bytes ≡ bytes "name")
+unfolding admitted
+admitted-action used x e = (eqb-true used 0 (and-left _ _ e), same-decides (x .bytes) (bytes "name") .sound (and-right (eqb used 0) _ e))
+
+admitted-few : (root : Root) (used : ℕ) (x : Lexeme) → admitted root used x ≡ true → length (x .bytes) ≡ size x → used + size x ≤ 64
+unfolding admitted
+admitted-few Principal used x e s = leb-true _ _ e
+admitted-few Resource used x e s = leb-true _ _ e
+admitted-few Env used x e s = leb-true _ _ e
+admitted-few Action used x e s = let a = admitted-action used x e in omega (arith, ap length (a .1))
+
+-- ---- a path that is read
+
+-- it lies in the text, and its bytes are counted
+pub record Walked (text : List ℕ) (root : Root) (p : Path) : Type 0 where
+  pub placed : PathPlaced text root (spanned p)
+  pub counted : p .used ≡ length (pathAt text (spanned p))
+
+module _ {text : List ℕ} {root : Root} where
+  first-walked : {at : ℕ} {x : Lexeme} → Lexed text at x → x .kind ≡ kinds.name → admitted root 0 x ≡ true → Walked text root (firstPath x)
+  first-walked {at} {x} l k a =
+      let name = name-form (l .form (omega arith)) k in
+      let here : pathAt text (spanOf x) ≡ x .bytes = rw (← l .bytes) (unblanked-name name) in
+      record {
+        placed = record {
+          lies = record { some = l .some; high = l .high };
+          path = rw here (one-name name);
+          few = rw here (omega (arith, size-is l, admitted-few root 0 x a (size-is l)));
+          action = λ e. here ∙ admitted-action 0 x (rw e at a) .1;
+        };
+        counted = sym (ap length here ∙ size-is l);
+      }
+
+  next-walked : {p : Path} {d x : Lexeme} → Walked text root p → Lexed text (p .end) d → d .kind ≡ kinds.dot → Lexed text (d .end) x → x .kind ≡ kinds.name
+      → admitted root (p .used + 1) x ≡ true → Walked text root (longerPath p x)
+  next-walked {p} {d} {x} w ld kd l k a =
+      let name = name-form (l .form (omega arith)) k in
+      let before = w .placed in
+      let lies = before .lies in
+      let dot : unblanked (d .bytes) ≡ kinds.dot ∷ [] = rw (dot-form (ld .form (omega arith)) kd) lone-dot in
+      let two : unblanked (between text (p .end) (x .end)) ≡ kinds.dot ∷ x .bytes =
+      rw (
+        between-joins text (p .end) (d .end) (x .end) (omega arith) (omega arith),
+        unblanked-append,
+        unblanked-token ld (omega arith),
+        unblanked-token l (omega arith),
+        dot,
+        unblanked-name name,
+      ) in
+      let here : pathAt text (span (p .start) (x .end)) ≡ pathAt text (spanned p) ++ kinds.dot ∷ x .bytes =
+      rw (between-joins text (p .start) (p .end) (x .end) (omega arith) (omega arith), unblanked-append, two) in
+      let size : length (pathAt text (span (p .start) (x .end))) ≡ p .used + 1 + size x =
+      omega (arith, ap length here, length-append (pathAt text (spanned p)) (kinds.dot ∷ x .bytes), size-is l, w .counted) in
+      record {
+        placed = record {
+          lies = record { some = omega arith; high = l .high };
+          path = rw here (one-more (before .path) name);
+          few = omega (arith, admitted-few root (p .used + 1) x a (size-is l));
+          action = λ e. absurd (omega (arith, admitted-action (p .used + 1) x (rw e at a) .0));
+        };
+        counted = sym size;
+      }
+
+  step : {p : Path} {d x : Lexeme} {r : List Lexeme} → Walked text root p × Running text (p .end) (d ∷ x ∷ r) → d .kind ≡ kinds.dot → x .kind ≡ kinds.name
+      → admitted root (p .used + 1) x ≡ true → Walked text root (longerPath p x) × Running text (x .end) r
+  step (w, token ld (token l rest)) kd k a = (next-walked w ld kd l k a, rest)
+
+  -- a path that the grammar reads
+  pub walked : {i r : List Lexeme} {p : Path} {at : ℕ} → Names sizes root i r p → Running text at i → Walked text root p × Running text (p .end) r
+  walked (alone (first k a)) (token l rest) = (first-walked l k a, rest)
+  walked (more {x = d} j t (grammar.NextName.next k a)) f = step (walked j f) (eqb-true (d .kind) kinds.dot t) k a
