@@ -1,0 +1,70 @@
+-- Worked examples of questions. Assumes nothing.
+use Prim.Native.Nat.{ℕ}
+use Prim.Native.String.{String}
+use mathlib.Core.Bool.{true, false}
+use mathlib.Core.List.{List, [], _∷_, _++_}
+use mathlib.Core.Path.{_≡_, refl}
+use lib.Ieee.{ofBits}
+use lib.ListN.{length}
+use Rattle.slices.specs.Ascii.{bytes}
+use Rattle.slices.specs.Order.{before}
+use Rattle.slices.specs.Same.{same}
+use Rattle.tokens.specs.Bytes.{classOf}
+use Rattle.tokens.specs.Words.{reserved, kindAmong}
+use Rattle.numbers.specs.Bits.{numberAt}
+use Rattle.bags.specs.Reading.{many, each, part}
+use Rattle.bags.specs.Paths.{every, isName, pieces, isPath}
+use Rattle.bags.specs.Values.{stringEnd, numberEnd, flagEnd, listEnd, valueEnd}
+use Rattle.bags.specs.Sections.{entryEnd, ascends, ascending, entriesEnd, sectionEnd, sectionsOf, isBag}
+use Rattle.questions.specs.Distinct.{among, distinct}
+use Rattle.questions.specs.Columns.{candidateEnd, nameOf, candidatesEnd, headOk, columnEnd, columnsEnd}
+use Rattle.questions.specs.Questions.{fourthEnd, isQuestion, headOf, choiceOf, cell, rowsOf}
+
+-- a question with an empty base
+abbrev asked : ℕ → List ℕ → List ℕ
+asked n columns = 0 ∷ 0 ∷ 0 ∷ n ∷ columns
+
+abbrev column : ℕ → String → List ℕ → List ℕ
+column root path candidates = root ∷ length (bytes path) ∷ (bytes path ++ candidates)
+
+-- absent, 0 and -0
+abbrev grades : List ℕ
+grades = 3 ∷ 0 ∷ 2 ∷ 0 ∷ 0 ∷ 0 ∷ 0 ∷ 0 ∷ 0 ∷ 0 ∷ 0 ∷ 2 ∷ 0 ∷ 0 ∷ 0 ∷ 0 ∷ 0 ∷ 0 ∷ 0 ∷ 128 ∷ []
+
+-- "own" and a flag
+abbrev hired : List ℕ
+hired = 2 ∷ 1 ∷ 3 ∷ (bytes "own" ++ (3 ∷ 1 ∷ []))
+
+abbrev both : List ℕ
+both = asked 2 (column 1 "grade" grades ++ column 2 "hired" hired)
+
+pub questions :
+    (isQuestion (asked 0 []) ≡ true)
+    × (isQuestion (0 ∷ 0 ∷ 0 ∷ []) ≡ false)
+    × (isBag (asked 0 []) ≡ false)
+    × (isQuestion both ≡ true)
+    × (isQuestion (both ++ (0 ∷ [])) ≡ false)
+    × (isQuestion (asked 1 (column 1 "grade" (0 ∷ []))) ≡ false)
+    × (isQuestion (asked 1 (column 4 "grade" hired)) ≡ false)
+    × (isQuestion (asked 1 (column 1 "if" hired)) ≡ false)
+    × (isQuestion (asked 1 (column 1 "grade" (2 ∷ 0 ∷ 0 ∷ []))) ≡ false)
+    × (isQuestion (asked 2 (column 1 "hired" hired ++ column 2 "hired" hired)) ≡ true)
+    × (isQuestion (asked 2 (column 1 "hired" hired ++ column 1 "hired" (1 ∷ 0 ∷ []))) ≡ false)
+    × (isQuestion (asked 7 []) ≡ false)
+unfolding isQuestion fourthEnd columnsEnd columnEnd candidatesEnd headOk candidateEnd nameOf distinct among isBag sectionsOf sectionEnd entriesEnd ascending ascends entryEnd valueEnd stringEnd numberEnd flagEnd listEnd numberAt ofBits many each part isPath pieces every isName classOf reserved kindAmong same before
+questions = (refl, refl, refl, refl, refl, refl, refl, refl, refl, refl, refl, refl)
+
+-- the places of `both` by column and choice, and its rows
+pub places :
+    (headOf both 4 0 ≡ 4)
+    × (headOf both 4 1 ≡ 31)
+    × (cell both 4 2 0 0 ≡ 12)
+    × (cell both 4 2 0 1 ≡ 13)
+    × (cell both 4 2 0 2 ≡ 22)
+    × (cell both 4 2 0 3 ≡ 0)
+    × (cell both 4 2 1 1 ≡ 44)
+    × (cell both 4 2 2 0 ≡ 0)
+    × (rowsOf 2 both 4 ≡ 6)
+    × (rowsOf 0 both 4 ≡ 1)
+unfolding cell choiceOf rowsOf columnEnd candidatesEnd headOk candidateEnd nameOf distinct among valueEnd stringEnd numberEnd flagEnd listEnd numberAt ofBits many each part isPath pieces every isName classOf reserved kindAmong same
+places = (refl, refl, refl, refl, refl, refl, refl, refl, refl, refl)

@@ -1,0 +1,4 @@
+pub mod DifferLaws
+pub mod ColumnLaws
+pub mod PlaceLaws
+pub mod Examples
