@@ -1,0 +1,5 @@
+pub mod RowBag
+pub mod ReadLaws
+pub mod ViewLaws
+pub mod RowLaws
+pub mod Examples

@@ -1,0 +1,119 @@
+-- A row that is made of a question's places stands in its bytes, and its view is the look-up in the row's bag. Assumes nothing.
+use Prim.Native.Nat.{ℕ, _+_, _<_, _≤_}
+use mathlib.Core.List.{List, [], map}
+use mathlib.Core.Path.{_≡_, refl, sym, _∙_, ap}
+use borrow.Author.Tests.{lt-ltb}
+use native.Mathlib.Omega.{arith}
+use lib.ListN.{getD}
+use Rattle.bags.specs.Reading.{many}
+use Rattle.bags.specs.Sections.{Sectioned}
+use Rattle.bags.specs.declared.After.the-variants.{At}
+use Rattle.bags.specs.declared.sections.Sections.{Sections}
+use Rattle.bags.proofs.ReadLaws.{nth}
+use Rattle.lookups.specs.Values.{absent as absentValue, Valued, Whole}
+use Rattle.lookups.specs.Lookups.{lookIn, baseOf}
+use Rattle.lookups.specs.declared.values.Value.{Value}
+use Rattle.lookups.proofs.BagLaws.{value-whole, base-whole}
+use Rattle.questions.specs.Columns.{candidateEnd, countAt, columnEnd}
+use Rattle.questions.specs.Questions.{headOf, countOf, choiceOf, cell}
+use Rattle.questions.proofs.ColumnLaws.{Columned, column-at, candidate-valued}
+use Rattle.questions.proofs.PlaceLaws.{firstOf}
+use Rattle.views.specs.Meaning.{present, look, hasPath, Chosen, rowBag, columnsFirst}
+use Rattle.views.specs.Values.{datumIn, Reads, baseBag, chosenMeant}
+use Rattle.views.specs.Rows.{chosenAt, chosenOf, baseValue, rowValue, rowView, Stands, columnsOf, bagOfRow, Chooses}
+use Rattle.views.proofs.RowBag.{row-view, has-in-row}
+use Rattle.views.proofs.ReadLaws.{look-means, columns-mean, base-filled}
+use Rattle.views.proofs.ViewLaws.{listed-alike, columns-have}
+
+-- ---- what the code's places show
+
+module _ (s : List ℕ) (p : Sections) (n : ℕ) (heads values : List ℕ) (w : Stands s p n heads values) (root : ℕ) (path : List ℕ) where
+  row-is : datumIn s (rowValue s p n heads values root path) ≡ rowView s p n heads values root path
+  unfolding rowValue rowView baseBag
+  row-is = columns-mean s (chosenOf n s heads values) (baseValue s p) (look (baseBag s p)) root path (look-means s (baseOf s p root) path)
+
+  row-whole : Whole s (rowValue s p n heads values root path)
+  unfolding rowValue chosenOf
+  row-whole =
+      columns-have (λ i. chosenAt s (getD heads i 0) (getD values i 0)) (baseValue s p) root path (Whole s) (base-whole s path p root (w .sections)) n 0
+      (λ j l. let z : 0 + j ≡ j = omega arith in rw z (value-whole s (getD values j 0) (w .valued j l)))
+
+  pub row-reads : Reads s (rowValue s p n heads values root path) (rowView s p n heads values root path)
+  row-reads = record { is = row-is; whole = row-whole }
+
+-- ---- a row of a question
+
+module _ (s : List ℕ) (p : Sections) (n at last : ℕ) (few : n ≤ 6) (columns : many n (columnEnd s) at ≡ At last) (choices : List ℕ) (chooses : Chooses n s at choices) where
+  column-of : (i : ℕ) → i < n → (e : ℕ) × Columned s (headOf s at i) e
+  column-of i l = let r = nth (columnEnd s) n i at last l columns in (r .stop, rw (r .starts) (column-at s (r .start) (r .stop) (r .stops)))
+
+  -- a choice is below 8
+  pub choices-small : (i : ℕ) → i < n → getD choices i 0 < 8
+  choices-small i l = omega (arith, chooses i l, column-of i l .1 .few)
+
+  choice-valued : (i : ℕ) → i < n → Valued s (choiceOf s (headOf s at i) (getD choices i 0))
+  unfolding choiceOf
+  choice-valued i l =
+      let c = column-of i l .1 in
+      let r = nth (candidateEnd s) (countOf s (headOf s at i)) (getD choices i 0) (countAt s (headOf s at i) + 1) (column-of i l .0) (chooses i l) (c .candidates) in
+      simp (lt-ltb _ _ (chooses i l), r .starts) (candidate-valued s (r .start) (r .stop) (r .stops))
+
+  module _ (heads values : List ℕ) (grid : List (List ℕ))
+      (heads-are : (i : ℕ) → i < 6 → getD heads i 0 ≡ firstOf n (headOf s at) i)
+      (grid-is : (i j : ℕ) → i < 6 → j < 8 → getD (getD grid i []) j 0 ≡ cell s at n i j)
+      (values-are : (i : ℕ) → i < 6 → getD values i 0 ≡ firstOf n (λ i. getD (getD grid i []) (getD choices i 0) 0) i) where
+    head-is : (i : ℕ) → i < n → getD heads i 0 ≡ headOf s at i
+    head-is i l = heads-are i (omega arith) ∙ simp (lt-ltb i n l)
+
+    value-is : (i : ℕ) → i < n → getD values i 0 ≡ choiceOf s (headOf s at i) (getD choices i 0)
+    unfolding cell
+    value-is i l =
+        let here : i < 6 = omega arith in
+        values-are i here ∙ simp (lt-ltb i n l) (grid-is i (getD choices i 0) here (choices-small i l) ∙ simp (lt-ltb i n l))
+
+    pub row-stands : Sectioned s p → Stands s p n heads values
+    row-stands w = record {
+      sections = w;
+      few = few;
+      named = λ i l. rw (head-is i l) (column-of i l .1 .counted);
+      valued = λ i l. rw (value-is i l) (choice-valued i l);
+    }
+
+    same-columns : chosenOf n s heads values ≡ columnsOf n s at choices
+    unfolding chosenOf columnsOf
+    same-columns =
+        listed-alike (λ i. chosenAt s (getD heads i 0) (getD values i 0)) (λ i. chosenAt s (headOf s at i) (choiceOf s (headOf s at i) (getD choices i 0))) 0 n
+        (λ i l. let z : 0 + i ≡ i = omega arith in rw (z, head-is i l, value-is i l))
+
+    -- the row's view is the look-up in the base with each column's attribute set to its choice, or removed
+    pub row-shows : (root : ℕ) (path : List ℕ) → rowView s p n heads values root path ≡ look (bagOfRow s p n at choices) root path
+    unfolding rowView bagOfRow
+    row-shows root path =
+        ap (λ (cs : List (Chosen Value)). columnsFirst (map (chosenMeant s) cs) (look (baseBag s p)) root path) same-columns
+        ∙ sym (row-view (baseBag s p) (map (chosenMeant s) (columnsOf n s at choices)) root path)
+
+-- `has` of a row: an entry of the row's bag with exactly that path
+pub has-is-presence : (s : List ℕ) (p : Sections) (n at : ℕ) (choices : List ℕ) (root : ℕ) (path : List ℕ) → Sectioned s p
+    → present (look (bagOfRow s p n at choices) root path) ≡ hasPath (bagOfRow s p n at choices root) path
+unfolding bagOfRow
+has-is-presence s p n at choices root path w =
+    has-in-row (baseBag s p) (map (chosenMeant s) (columnsOf n s at choices)) root path (base-filled s p root w)
+
+-- ---- a bag: the row without columns
+
+module _ (s : List ℕ) (p : Sections) (heads values : List ℕ) where
+  pub plain-stands : Sectioned s p → Stands s p 0 heads values
+  plain-stands w = record { sections = w; few = omega arith; named = λ i l. absurd (omega arith); valued = λ i l. absurd (omega arith) }
+
+  pub plain-value : (root : ℕ) (path : List ℕ) → rowValue s p 0 heads values root path ≡ lookIn absentValue (baseOf s p root) path
+  unfolding rowValue chosenOf columnsFirst
+  plain-value root path = refl
+
+  pub plain-shows : (root : ℕ) (path : List ℕ) → rowView s p 0 heads values root path ≡ look (baseBag s p) root path
+  unfolding rowView chosenOf columnsFirst
+  plain-shows root path = refl
+
+-- the row without columns has the base for its bag
+pub plain-bag : (s : List ℕ) (p : Sections) (at : ℕ) (choices : List ℕ) → bagOfRow s p 0 at choices ≡ baseBag s p
+unfolding bagOfRow columnsOf rowBag
+plain-bag s p at choices = refl

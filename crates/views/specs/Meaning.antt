@@ -1,0 +1,68 @@
+-- Values, bags, and the bag of a row: what they are, apart from any bytes. Definitions only.
+use Prim.Native.Nat.{ℕ}
+use mathlib.Core.List.{List, [], _∷_}
+use mathlib.Core.Bool.{Bool, true, false, _&&_, _||_, cond}
+use lib.Dec.{eqb}
+use lib.Ieee.{Float}
+use Rattle.slices.specs.Same.{same}
+use Rattle.lookups.specs.Lookups.{Entry, lookIn}
+
+-- what an attribute or a literal is
+pub data Datum : Type 0 where
+  text : List ℕ → Datum
+  number : Float → Datum
+  flag : Bool → Datum
+  texts : List (List ℕ) → Datum
+  absent : Datum
+
+abbrev pub present : Datum → Bool
+present (text b) = true
+present (number x) = true
+present (flag b) = true
+present (texts l) = true
+present absent = false
+
+-- what each attribute is, by root byte and dotted path
+abbrev pub View : Type 0
+View = ℕ → List ℕ → Datum
+
+-- a section of entries for each root byte
+abbrev pub Bag : Type 0
+Bag = ℕ → List (Entry Datum)
+
+abbrev pub look : Bag → View
+look bag root path = lookIn absent (bag root) path
+
+-- `has`: an entry with exactly that path
+unfoldable pub hasPath : List (Entry Datum) → List ℕ → Bool
+hasPath [] path = false
+hasPath (e ∷ es) path = same (e .path) path || hasPath es path
+
+-- ---- the bag of a row: the base with each column's attribute set to its choice, or removed
+
+-- a column's attribute, and what is chosen for it
+pub record Chosen (A : Type 0) : Type 0 where
+  pub root : ℕ
+  pub path : List ℕ
+  pub value : A
+
+unfoldable pub without : List ℕ → List (Entry Datum) → List (Entry Datum)
+without path [] = []
+without path (e ∷ es) = cond (same (e .path) path) (without path es) (e ∷ without path es)
+
+-- an absent value removes the entry
+unfoldable pub setIn : List ℕ → Datum → List (Entry Datum) → List (Entry Datum)
+setIn path v es = cond (present v) (record { path = path; value = v } ∷ without path es) (without path es)
+
+unfoldable pub setTo : Chosen Datum → Bag → Bag
+setTo c bag root = cond (eqb (c .root) root) (setIn (c .path) (c .value) (bag root)) (bag root)
+
+unfoldable pub rowBag : Bag → List (Chosen Datum) → Bag
+rowBag base [] = base
+rowBag base (c ∷ cs) = setTo c (rowBag base cs)
+
+-- ---- the same by looking at the columns first
+
+unfoldable pub columnsFirst : {A : Type 0} → List (Chosen A) → (ℕ → List ℕ → A) → ℕ → List ℕ → A
+columnsFirst [] view root path = view root path
+columnsFirst (c ∷ cs) view root path = cond (eqb (c .root) root && same (c .path) path) (c .value) (columnsFirst cs view root path)

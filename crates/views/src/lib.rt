@@ -1,0 +1,73 @@
+// A row's view of attributes: its columns first, then the base. A bag is a row without columns.
+ghost use mathlib.Core.Path.{_≡_};
+ghost use mathlib.Core.Bool.{cond, _&&_};
+ghost use mathlib.Core.List.{[]};
+ghost use Prim.Native.Nat.{ℕ, _≤_, _<_};
+ghost use lib.Dec.{eqb, ltb};
+ghost use lib.ListN.{length, getD};
+ghost use Rattle.slices.specs.Same.{same};
+ghost use Rattle.bags.specs.Reading.{byte};
+ghost use Rattle.lookups.specs.Blanks.{unblanked};
+ghost use Rattle.questions.specs.Columns.{columnPath, countAt};
+ghost use Rattle.views.specs.Rows.{rowValue, Stands};
+use bags::sections::Sections;
+use lookups::finding::base_value;
+use lookups::finding::same_path;
+use lookups::values::Value;
+use lookups::values::value_from;
+
+// Whether the column at `head` names this attribute.
+fn names(s: &[u8], head: usize, root: u8, path: &[u8]) -> bool
+    requires { ⌜ countAt (now s) head < length (now s) ⌝ }
+    ensures { λ r. ⌜ r ≡ (eqb (byte (now (s .entry)) head) root && same (columnPath (now (s .entry)) head) (unblanked (now (path .entry)))) ⌝ }
+{
+    if s[head] == root {
+        let n = s[head + 1] as usize;
+        return same_path(s, head + 2, n, path);
+    }
+    false
+}
+
+// The attribute in the row of these sections, and of `n` columns at `heads` with the chosen candidates at `values`.
+// The path is that of the rule text, blanks and all.
+pub fn attribute(
+    s: &[u8],
+    p: Sections,
+    n: usize,
+    heads: &[usize; 6],
+    values: &[usize; 6],
+    root: u8,
+    path: &[u8],
+) -> Value
+    requires { ⌜ Stands (now s) p n (now heads) (now values) ⌝ }
+    ensures { λ r. ⌜ r ≡ rowValue (now (s .entry)) p n (now (heads .entry)) (now (values .entry)) root (unblanked (now (path .entry))) ⌝ }
+{
+    let mut left = n;
+    let mut i = 0;
+    while 0 < left {
+        let head = heads[i];
+        if names(s, head, root, path) {
+            let k = values[i];
+            return value_from(s, k);
+        }
+        i += 1;
+        left -= 1;
+    }
+    base_value(s, p, root, path)
+}
+
+// The places of the chosen candidates, from those of all, by column and choice.
+pub fn chosen(grid: [[usize; 8]; 6], n: usize, choices: &[u8; 6]) -> [usize; 6]
+    requires { ⌜ n ≤ 6 ⌝ }
+    requires { ⌜ ((i : ℕ) → i < n → getD (now choices) i 0 < 8) ⌝ }
+    ensures { λ r. ⌜ ((i : ℕ) → i < 6 → getD r i 0 ≡ cond (ltb i n) (getD (getD grid i []) (getD (now (choices .entry)) i 0) 0) 0) ⌝ }
+{
+    let mut values = [0usize; 6];
+    let mut i = 0;
+    while i < n {
+        let choice = choices[i] as usize;
+        values[i] = grid[i][choice];
+        i += 1;
+    }
+    values
+}
