@@ -5,6 +5,8 @@ use mathlib.Core.Bool.{Bool, true, false, cond}
 use mathlib.Core.Path.{_≡_, sym, _∙_, ap}
 use borrow.Author.Tests.{ne-eqb}
 use native.Mathlib.Omega.{arith}
+use lib.Dec.{T}
+use lib.Ieee.Scale.{finite}
 use lib.ListN.{length, take, drop}
 use denote.Ref.{RefT, now}
 use Rattle.bags.specs.Reading.{byte, part}
@@ -20,7 +22,7 @@ use Rattle.lookups.specs.declared.Answer.{Answer}
 use Rattle.lookups.specs.declared.Answer.the-variants.{Refused, Found}
 use Rattle.lookups.proofs.StepLaws.{as-string}
 use Rattle.lookups.proofs.FindLaws.{bag-is-base}
-use Rattle.lookups.proofs.BagLaws.{path-clear, bag-whole, impossible-path}
+use Rattle.lookups.proofs.BagLaws.{path-clear, bag-whole, bag-finite, impossible-path}
 
 -- ---- the cases
 
@@ -54,6 +56,15 @@ module _ (s : List ℕ) (root : ℕ) (path : List ℕ) where
           let u = rw is at w in
           let e = u (λ z. omega arith) in
           as-string (v .kind) s (v .place) (e .0) (e .1) k .fits
+
+  -- a number that is found is finite
+  pub found-finite : (v : Value) → lookupOf s root path ≡ Found v → T (finite (v .number))
+  unfolding lookupOf
+  found-finite v h = go (isBag s) h
+    where
+      go : (b : Bool) → cond b (Found (lookIn absent (bagOf s root) path)) (Refused 24) ≡ Found v → T (finite (v .number))
+      go false q = absurd (let z : _≡_ {A = ℕ} 0 1 = cc in omega arith)
+      go true q = let is : lookIn absent (bagOf s root) path ≡ v = cc in rw is at (bag-finite s path root)
 
 -- ---- the part
 

@@ -1,16 +1,19 @@
--- What is found in a bag: a value that is whole, and under a path only. Assumes nothing.
+-- What is found in a bag: a value that is whole, with a finite number, and under a path only. Assumes nothing.
 use Prim.Native.Nat.{ℕ, zero, suc, _+_, _-_}
 use mathlib.Core.List.{List, [], _∷_}
-use mathlib.Core.Bool.{Bool, true, false, _||_}
+use mathlib.Core.Bool.{Bool, true, false, _&&_, _||_, cond}
 use mathlib.Core.Path.{_≡_, refl, sym, _∙_, ap}
 use borrow.Author.Tests.{ne-eqb, eqb-true, eqb-false}
 use native.Mathlib.Omega.{arith}
-use lib.Dec.{eqb}
+use lib.Dec.{T, eqb}
+use lib.Ieee.Scale.{finite}
 use Rattle.slices.specs.Same.{same}
 use Rattle.slices.proofs.Equal.{same-decides}
 use Rattle.tokens.specs.Bytes.{classOf}
 use Rattle.tokens.specs.Runs.{is}
 use Rattle.tokens.specs.declared.classes.Sort.the-variants.{Blanks, WordBytes}
+use Rattle.numbers.specs.Bits.{numberAt}
+use Rattle.numbers.proofs.Exponent.{finite-by-bits}
 use Rattle.bags.specs.Reading.{byte, many, each}
 use Rattle.bags.specs.Paths.{every, isPath}
 use Rattle.bags.specs.Values.{valueEnd}
@@ -23,9 +26,10 @@ use Rattle.bags.proofs.ReadLaws.{and-true, First, first}
 use Rattle.bags.proofs.PathLaws.{pathByte, path-bytes}
 use Rattle.bags.proofs.SectionLaws.{entry-at, section-at, sections-at}
 use Rattle.lookups.specs.Blanks.{unblanked}
-use Rattle.lookups.specs.Values.{absent, valueAt, Valued, Whole}
+use Rattle.lookups.specs.Values.{nought, unit, absent, numberOf, valueAt, Valued, Whole}
 use Rattle.lookups.specs.Lookups.{lookIn, entryAt, sectionAt, baseOf, bagOf}
 use Rattle.lookups.specs.declared.values.Value.{Value}
+use Rattle.lookups.proofs.StepLaws.{as-number, told}
 use Rattle.lookups.proofs.FindLaws.{look-done, look-here, look-on, base-1, base-2, base-3, base-none, bag-is-base}
 
 never : {A : Type 0} → false ≡ true → A
@@ -64,7 +68,7 @@ clear (b ∷ rest) h =
 pub path-clear : (p : List ℕ) → isPath p ≡ true → unblanked p ≡ p
 path-clear p h = clear p (path-bytes p h)
 
--- ---- what is found is whole
+-- ---- values: whole, and with a finite number
 
 pub value-whole : (s : List ℕ) (k : ℕ) → Valued s k → Whole s (valueAt s k)
 unfolding valueAt
@@ -74,84 +78,97 @@ value-whole s k v n = go (eqb (byte s k) 0) refl n
     go true q n = absurd (n (simp q))
     go false q n = let w = v .whole (eqb-false (byte s k) 0 q) in (w .0, simp q (w .1))
 
+nought-finite : T (finite nought)
+nought-finite = rw (finite-by-bits 0) tt
+
+unit-finite : T (finite unit)
+unit-finite = rw (finite-by-bits 0x3FF0000000000000) tt
+
+number-finite : (kind : ℕ) (s : List ℕ) (at e : ℕ) → valueEnd kind s at ≡ At e → T (finite (numberOf kind s at))
+unfolding numberOf
+number-finite kind s at e h = go (eqb kind 2) (eqb kind 3 && eqb (byte s at) 1) refl
+  where
+    go : (a b : Bool) → eqb kind 2 ≡ a → T (finite (cond a (numberAt s at) (cond b unit nought)))
+    go true b q = told (finite (numberAt s at)) (as-number kind s at e h (eqb-true kind 2 q) .is)
+    go false true q = unit-finite
+    go false false q = nought-finite
+
+pub value-finite : (s : List ℕ) (k : ℕ) → Valued s k → T (finite (valueAt s k .number))
+unfolding valueAt
+value-finite s k v = go (eqb (byte s k) 0) refl
+  where
+    go : (b : Bool) → eqb (byte s k) 0 ≡ b → T (finite (valueAt s k .number))
+    go true q = simp q nought-finite
+    go false q = let w = v .whole (eqb-false (byte s k) 0 q) in simp q (number-finite (byte s k) s (k + 1) (w .0) (w .1))
+
 -- an entry that ends has a value
 pub entry-valued : (s : List ℕ) (at e : ℕ) → entryEnd s at ≡ At e → Valued s (kindAt s at)
 entry-valued s at e h = let w = entry-at s at e h in record { inside = w .named; whole = λ n. (e, w .valued) }
 
--- of n entries: what is found under a path is whole, and under what is no path nothing is found
+-- ---- what each entry's value has, and an absent one, what is found has
+
+module _ (s path : List ℕ) (P : Value → Type 0) (none : P absent)
+    (some : (at e : ℕ) → entryEnd s at ≡ At e → same (pathAt s at) path ≡ true → P (valueAt s (kindAt s at))) where
+  -- of n entries, of a section, of the sections of bytes, and of a bag
+  entries-have : (n at e : ℕ) → many n (entryEnd s) at ≡ At e → P (lookIn absent (each n (entryEnd s) (entryAt s) at) path)
+  entries-have zero at e h = rw (← look-done absent (entryEnd s) (entryAt s) path 0 at (omega arith)) none
+  entries-have (suc n) at e h = go (same (pathAt s at) path) refl (entries-have n (f .stop) e later)
+    where
+      f : First (entryEnd s) (suc n) at e
+      f = first (entryEnd s) (suc n) at e (omega arith) h
+
+      less : suc n - 1 ≡ n
+      less = omega arith
+
+      later : many n (entryEnd s) (f .stop) ≡ At e
+      later = rw less at (f .later)
+
+      go : (b : Bool) → same (pathAt s at) path ≡ b → P (lookIn absent (each n (entryEnd s) (entryAt s) (f .stop)) path) → P (lookIn absent (each (suc n) (entryEnd s) (entryAt s) at) path)
+      go true q w = rw (← look-here absent (entryEnd s) (entryAt s) path (suc n) at (omega arith) (f .stop) (f .ends) q) (some at (f .stop) (f .ends) q)
+      go false q w = rw (← look-on absent (entryEnd s) (entryAt s) path (suc n) at (omega arith) (f .stop) (f .ends) q, less) w
+
+  section-has : (b e : ℕ) → sectionEnd s b ≡ At e → P (lookIn absent (sectionAt s b) path)
+  unfolding sectionAt
+  section-has b e h = entries-have (byte s b) (b + 1) e (section-at s b e h .entries)
+
+  base-has : (p : Sections) (root : ℕ) → Sectioned s p → P (lookIn absent (baseOf s p root) path)
+  unfolding lookIn
+  base-has p root w = go (eqb root 1) (eqb root 2) (eqb root 3) refl refl refl
+    where
+      go : (a b c : Bool) → eqb root 1 ≡ a → eqb root 2 ≡ b → eqb root 3 ≡ c → P (lookIn absent (baseOf s p root) path)
+      go true b c i j k = rw (← base-1 s p root (eqb-true root 1 i)) (section-has 0 (p .resource) (w .principal))
+      go false true c i j k = rw (← base-2 s p root (eqb-true root 2 j)) (section-has (p .resource) (p .env) (w .resource))
+      go false false true i j k = rw (← base-3 s p root (eqb-true root 3 k)) (section-has (p .env) (p .end) (w .env))
+      go false false false i j k = rw (← base-none s p root (eqb-false root 1 i) (eqb-false root 2 j) (eqb-false root 3 k)) none
+
+  bag-has : (root : ℕ) → P (lookIn absent (bagOf s root) path)
+  unfolding bagOf lookIn
+  bag-has root = go (sectionsOf s) refl
+    where
+      go : (d : Divided) → sectionsOf s ≡ d → P (lookIn absent (bagOf s root) path)
+      go (In p) q = rw (bag-is-base s p root q) (base-has p root (sections-at s p q))
+      go Broken q = simp q none
+
 module _ (s path : List ℕ) where
-  found : ℕ → ℕ → Value
-  found n at = lookIn absent (each n (entryEnd s) (entryAt s) at) path
-
-  entries-whole : (n at e : ℕ) → many n (entryEnd s) at ≡ At e → Whole s (found n at)
-  unfolding found
-  entries-whole zero at e h = rw (← look-done absent (entryEnd s) (entryAt s) path 0 at (omega arith)) (λ n. absurd (n refl))
-  entries-whole (suc n) at e h = go (same (pathAt s at) path) refl (entries-whole n (f .stop) e later)
-    where
-      f : First (entryEnd s) (suc n) at e
-      f = first (entryEnd s) (suc n) at e (omega arith) h
-
-      less : suc n - 1 ≡ n
-      less = omega arith
-
-      later : many n (entryEnd s) (f .stop) ≡ At e
-      later = rw less at (f .later)
-
-      go : (b : Bool) → same (pathAt s at) path ≡ b → Whole s (found n (f .stop)) → Whole s (found (suc n) at)
-      go true q w = rw (← look-here absent (entryEnd s) (entryAt s) path (suc n) at (omega arith) (f .stop) (f .ends) q) (value-whole s (kindAt s at) (entry-valued s at (f .stop) (f .ends)))
-      go false q w = rw (← look-on absent (entryEnd s) (entryAt s) path (suc n) at (omega arith) (f .stop) (f .ends) q, less) w
-
-  entries-without : isPath path ≡ false → (n at e : ℕ) → many n (entryEnd s) at ≡ At e → found n at ≡ absent
-  unfolding found
-  entries-without p zero at e h = sym (look-done absent (entryEnd s) (entryAt s) path 0 at (omega arith))
-  entries-without p (suc n) at e h = go (same (pathAt s at) path) refl (entries-without p n (f .stop) e later)
-    where
-      f : First (entryEnd s) (suc n) at e
-      f = first (entryEnd s) (suc n) at e (omega arith) h
-
-      less : suc n - 1 ≡ n
-      less = omega arith
-
-      later : many n (entryEnd s) (f .stop) ≡ At e
-      later = rw less at (f .later)
-
-      go : (b : Bool) → same (pathAt s at) path ≡ b → found n (f .stop) ≡ absent → found (suc n) at ≡ absent
-      go true q w = never (sym p ∙ ap isPath (sym (same-decides (pathAt s at) path .sound q)) ∙ entry-at s at (f .stop) (f .ends) .path)
-      go false q w = rw (← look-on absent (entryEnd s) (entryAt s) path (suc n) at (omega arith) (f .stop) (f .ends) q, less) w
-
-  -- the same of a section, of the sections of bytes, and of a bag
-  module _ (P : Value → Type 0) (none : P absent) (some : (n at e : ℕ) → many n (entryEnd s) at ≡ At e → P (found n at)) where
-    section-has : (b e : ℕ) → sectionEnd s b ≡ At e → P (lookIn absent (sectionAt s b) path)
-    unfolding sectionAt found
-    section-has b e h = some (byte s b) (b + 1) e (section-at s b e h .entries)
-
-    base-has : (p : Sections) (root : ℕ) → Sectioned s p → P (lookIn absent (baseOf s p root) path)
-    unfolding lookIn
-    base-has p root w = go (eqb root 1) (eqb root 2) (eqb root 3) refl refl refl
-      where
-        go : (a b c : Bool) → eqb root 1 ≡ a → eqb root 2 ≡ b → eqb root 3 ≡ c → P (lookIn absent (baseOf s p root) path)
-        go true b c i j k = rw (← base-1 s p root (eqb-true root 1 i)) (section-has 0 (p .resource) (w .principal))
-        go false true c i j k = rw (← base-2 s p root (eqb-true root 2 j)) (section-has (p .resource) (p .env) (w .resource))
-        go false false true i j k = rw (← base-3 s p root (eqb-true root 3 k)) (section-has (p .env) (p .end) (w .env))
-        go false false false i j k = rw (← base-none s p root (eqb-false root 1 i) (eqb-false root 2 j) (eqb-false root 3 k)) none
-
-    bag-has : (root : ℕ) → P (lookIn absent (bagOf s root) path)
-    unfolding bagOf lookIn
-    bag-has root = go (sectionsOf s) refl
-      where
-        go : (d : Divided) → sectionsOf s ≡ d → P (lookIn absent (bagOf s root) path)
-        go (In p) q = rw (bag-is-base s p root q) (base-has p root (sections-at s p q))
-        go Broken q = simp q none
-
+  -- what is found is whole
   pub base-whole : (p : Sections) (root : ℕ) → Sectioned s p → Whole s (lookIn absent (baseOf s p root) path)
-  base-whole = base-has (Whole s) (λ n. absurd (n refl)) entries-whole
+  base-whole = base-has s path (Whole s) (λ n. absurd (n refl)) (λ at e h q. value-whole s (kindAt s at) (entry-valued s at e h))
 
   pub bag-whole : (root : ℕ) → Whole s (lookIn absent (bagOf s root) path)
-  bag-whole = bag-has (Whole s) (λ n. absurd (n refl)) entries-whole
+  bag-whole = bag-has s path (Whole s) (λ n. absurd (n refl)) (λ at e h q. value-whole s (kindAt s at) (entry-valued s at e h))
+
+  -- and its number is finite
+  pub base-finite : (p : Sections) (root : ℕ) → Sectioned s p → T (finite (lookIn absent (baseOf s p root) path .number))
+  base-finite = base-has s path (λ v. T (finite (v .number))) nought-finite (λ at e h q. value-finite s (kindAt s at) (entry-valued s at e h))
+
+  pub bag-finite : (root : ℕ) → T (finite (lookIn absent (bagOf s root) path .number))
+  bag-finite = bag-has s path (λ v. T (finite (v .number))) nought-finite (λ at e h q. value-finite s (kindAt s at) (entry-valued s at e h))
 
   -- what is no path stands in no bag
   pub impossible-path : isPath path ≡ false → (root : ℕ) → lookIn absent (bagOf s root) path ≡ absent
-  impossible-path p = bag-has (λ v. v ≡ absent) refl (entries-without p)
+  impossible-path p =
+      bag-has s path (λ v. v ≡ absent) refl
+      (λ at e h q. never (sym p ∙ ap isPath (sym (same-decides (pathAt s at) path .sound q)) ∙ entry-at s at e h .path))
 
 -- nor does a root byte other than 1 to 3
 pub impossible-root : (s path : List ℕ) (root : ℕ) → (root ≡ 1 → ⊥) → (root ≡ 2 → ⊥) → (root ≡ 3 → ⊥) → lookIn absent (bagOf s root) path ≡ absent

@@ -2,8 +2,6 @@
 // and if so how the two compare. A literal that is not one number token gets a minus.
 ghost use mathlib.Core.Bool.{true};
 ghost use mathlib.Core.Path.{_≡_};
-ghost use lib.Dec.{T};
-ghost use lib.Ieee.Scale.{finite};
 ghost use Rattle.numbers.specs.Literals.{IsNumber};
 ghost use Rattle.tokens.specs.Table.{classTable};
 use libc::STDOUT_FILENO;
@@ -16,13 +14,6 @@ use tokens::classes::class_table;
 use tokens::kinds;
 use tokens::reader::next_token;
 
-// Writes a number's bits as 16 hexadecimal digits.
-fn print_finite(x: f64)
-    requires { ⌜ T (finite x) ⌝ }
-{
-    io::print_hex(STDOUT_FILENO, f64::to_bits(x), 16);
-}
-
 fn yes_or_no(yes: bool) -> u8 {
     if yes { b'1' } else { b'0' }
 }
@@ -30,7 +21,6 @@ fn yes_or_no(yes: bool) -> u8 {
 // Writes how two numbers compare: `<`, `<=`, `>`, `>=`, `==` and `!=`.
 fn print_compared(x: f64, y: f64) {
     let line = [
-        b' ',
         b'1',
         b' ',
         yes_or_no(compares(Comparator::Less, x, y)),
@@ -61,11 +51,11 @@ fn answer(classes: &[u8; 256], literal: &[u8], bytes: &[u8; 8])
         return;
     }
     let x = number(literal);
-    print_finite(x);
+    vectors::print_bits(x, b' ');
     if is_number_at(bytes, 0) {
         print_compared(x, number_at(bytes, 0));
     } else {
-        io::write_all(STDOUT_FILENO, b" 0\n");
+        io::write_all(STDOUT_FILENO, b"0\n");
     }
 }
 

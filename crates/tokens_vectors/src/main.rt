@@ -9,14 +9,7 @@ use tokens::places::Place;
 use tokens::places::place_of;
 use tokens::reader::Token;
 use tokens::reader::next_token;
-
-// The sum with one number more.
-fn with(sum: u64, x: usize) -> u64
-    requires { ⌜ sum < 1000003 ⌝ }
-    ensures { λ r. ⌜ r < 1000003 ⌝ }
-{
-    (sum * 31 + (x % 1000003) as u64) % 1000003
-}
+use vectors::with;
 
 // The sum with a token and its place.
 fn with_token(sum: u64, t: Token, p: Place) -> u64

@@ -2,6 +2,9 @@
 // each vector: its length in 2 bytes, and its bytes. Numbers have their low byte first; bytes that the input lacks count as 0.
 use libc::STDIN_FILENO;
 use libc::STDOUT_FILENO;
+ghost use mathlib.Core.Bool.{not};
+ghost use lib.Dec.{T};
+ghost use lib.Ieee.{isNan};
 ghost use Prim.Native.Nat.{_<_};
 ghost use Rattle.io.specs.Counts.{Counts};
 
@@ -30,6 +33,36 @@ pub fn print_number(n: u64, end: u8) {
     io::print_decimal(STDOUT_FILENO, n);
     let after = [end];
     io::write_all(STDOUT_FILENO, &after);
+}
+
+// Writes a number's bits as 16 hexadecimal digits, and a byte after them.
+pub fn print_bits(x: f64, end: u8)
+    requires { ⌜ T (not (isNan x)) ⌝ }
+{
+    io::print_hex(STDOUT_FILENO, f64::to_bits(x), 16);
+    let after = [end];
+    io::write_all(STDOUT_FILENO, &after);
+}
+
+// A sum with one number more. A line tells a sum where it cannot tell every number.
+pub fn with(sum: u64, x: usize) -> u64
+    requires { ⌜ sum < 1000003 ⌝ }
+    ensures { λ r. ⌜ r < 1000003 ⌝ }
+{
+    (sum * 31 + (x % 1000003) as u64) % 1000003
+}
+
+// The sum of all the bytes.
+pub fn sum_of(bytes: &[u8]) -> u64
+    ensures { λ r. ⌜ r < 1000003 ⌝ }
+{
+    let mut sum: u64 = 0;
+    let mut i = 0;
+    while i < bytes.len() {
+        sum = with(sum, bytes[i] as usize);
+        i += 1;
+    }
+    sum
 }
 
 // The length of the next part.
