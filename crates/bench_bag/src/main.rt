@@ -1,57 +1,29 @@
-// Reads a count, four bytes with the lowest first, and a bag from standard input, checks the bag that many times, and writes how many of the checks said yes.
-// The bag lies in the buffer twice, and the checks take the two in turn, so that no check can be left out or done once for all.
-ghost use Prim.Native.Nat.{_≤_, _<_};
+// Reads and checks one bag again and again, so that its instructions can be counted, and writes how often it was a bag.
+// The input is one test vector, with the number of repetitions where the number of vectors stands.
+ghost use mathlib.Core.Path.{_≡_};
+ghost use Prim.Native.Nat.{_≤_};
+ghost use lib.ListN.{length};
 
-const SECOND: usize = 32768;
-
-// Puts the `n` bytes from 4 on at the second place too.
-fn double(buffer: &mut [u8; 65536], n: usize)
-    requires { ⌜ n ≤ 16384 ⌝ }
+// How often so many checks of the first `size` bytes say yes. Before each check the sum goes into the last byte, past those, so
+// the compiler can neither drop a check nor take one for all.
+fn repeat(times: u32, bytes: &mut [u8], size: usize) -> u64
+    requires { ⌜ (length (now bytes) ≡ 8192) × (size ≤ 8192) ⌝ }
 {
-    let mut i = 0;
-    while i < n {
-        buffer[SECOND + i] = buffer[4 + i];
-        i += 1;
-    }
-}
-
-fn count(buffer: &[u8; 65536], n: usize, times: u64) -> u64
-    requires { ⌜ n ≤ 16384 ⌝ }
-{
-    let all: &[u8] = buffer;
-    let mut agreed: u64 = 0;
+    let mut sum: u64 = 0;
     let mut left = times;
-    let mut at = 4;
-    while 0 < left {
-        if bags::is_bag(&all[at..at + n]) {
-            agreed = std::num::wrapping_add_u64(agreed, 1);
-        }
-        at = SECOND + 4 - at;
+    while left > 0 {
+        bytes[8191] = (sum % 256) as u8;
+        let yes = bags::is_bag(&bytes[..size]);
+        sum += vectors::one_if(yes);
         left -= 1;
     }
-    agreed
-}
-
-fn wide(x: u8) -> u64
-    ensures { λ r. ⌜ r < 256 ⌝ }
-{
-    x as u64
-}
-
-fn times(buffer: &[u8; 65536]) -> u64 {
-    wide(buffer[0]) + 256 * wide(buffer[1]) + 65536 * wide(buffer[2]) + 16777216 * wide(buffer[3])
+    sum
 }
 
 fn main() {
-    let mut buffer = io::large_buffer();
-    let n = io::read_full(0, &mut buffer);
-    if n < 4 {
-        return;
-    }
-    if 16384 < n {
-        return;
-    }
-    double(&mut buffer, n - 4);
-    let times = times(&buffer);
-    io::print_decimal(1, count(&buffer, n - 4, times));
+    let mut bytes = [0u8; 8192];
+    let times = vectors::vector_count();
+    let n = vectors::read_part(&mut bytes);
+    let sum = repeat(times, &mut bytes, n);
+    vectors::print_number(sum, b'\n');
 }

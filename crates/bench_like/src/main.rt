@@ -14,7 +14,7 @@ fn repeat(times: u32, pattern: &[u8], string: &mut [u8], size: usize) -> u64
     while left > 0 {
         string[255] = (sum % 256) as u8;
         let yes = patterns::like(pattern, &string[..size]);
-        sum += yes as u64;
+        sum += vectors::one_if(yes);
         left -= 1;
     }
     sum

@@ -5,7 +5,7 @@ use libc::STDOUT_FILENO;
 ghost use mathlib.Core.Bool.{not};
 ghost use lib.Dec.{T};
 ghost use lib.Ieee.{isNan};
-ghost use Prim.Native.Nat.{_<_};
+ghost use Prim.Native.Nat.{_<_, _≤_};
 ghost use Rattle.io.specs.Counts.{Counts};
 
 // The number of vectors.
@@ -42,6 +42,13 @@ pub fn print_bits(x: f64, end: u8)
     io::print_hex(STDOUT_FILENO, f64::to_bits(x), 16);
     let after = [end];
     io::write_all(STDOUT_FILENO, &after);
+}
+
+// 1 for yes, 0 for no.
+pub fn one_if(yes: bool) -> u64
+    ensures { λ r. ⌜ r ≤ 1 ⌝ }
+{
+    if yes { 1 } else { 0 }
 }
 
 // A sum with one number more. A line tells a sum where it cannot tell every number.

@@ -1,19 +1,12 @@
 -- `bench_like::repeat` is safe and ends: the calls left count down, and the sum is at most the calls made. Assumes nothing.
-use lib.Seq.{length-take-le}
-use mir.Val.{boolByte}
-use mathlib.Core.Bool.{Bool, true, false}
-use mathlib.Core.Path.{sym}
+use Prim.Native.Nat.{_+_, _≤_}
+use mathlib.Core.Path.{_≡_, sym}
+use native.Mathlib.Omega.{arith}
 use borrow.Author.Needs.{needs}
 use lib.ListN.{length, length-set}
-use Prim.Native.Nat.{_+_, _≤_}
-use native.Mathlib.Omega.{arith}
-use mathlib.Core.Path.{_≡_}
+use lib.Seq.{length-take-le}
 use Rattle.bench_like.proofs.repeat.Statement.{statement}
 use Rattle.bench_like.proofs.repeat.Tie as tie
-
-at-most-one : (b : Bool) → boolByte b ≤ 1
-at-most-one true = omega arith
-at-most-one false = omega arith
 
 abbrev Inv-loop : tie.InvT-loop
 Inv-loop times pattern string₀ size sum₀ left₀ string sum left = (length string ≡ 256) × (sum + left ≤ times)
@@ -27,11 +20,8 @@ slice-reshare-prefix-like c = simp length-set (omega arith)
 slice-aggregate-like : tie.Need-slice-aggregate-like Inv-loop μ-loop
 slice-aggregate-like c = sym (length-take-le _ _ (simp length-set (omega arith)))
 
-add-sum : tie.Need-add-sum Inv-loop μ-loop
-add-sum c = omega (arith, at-most-one (c .like .result))
-
 loop-again : tie.Need-loop-again Inv-loop μ-loop
-loop-again c = (simp length-set (c .before .before .before .loop .inv .0), omega (arith, at-most-one (c .like .result)))
+loop-again c = (simp length-set (c .before .before .before .before .loop .inv .0), omega arith)
 
 pub repeat-spec : {M : Type 1} → statement M
 repeat-spec =
@@ -45,8 +35,8 @@ repeat-spec =
     slice-reshare-prefix-like
     slice-aggregate-like
     (λ c κs. search needs)
+    (λ c κs. search needs)
     (λ c. search needs)
-    add-sum
     (λ c. search needs)
     (λ c. search needs)
     loop-again
