@@ -1,0 +1,98 @@
+-- When a condition is true (document 01, 'Deciding'), one line a rule. Definitions only.
+use mathlib.Core.Bool.{Bool, true, false, cond, _&&_, _||_}
+use mathlib.Core.List.{List, [], _∷_}
+use Prim.Native.Nat.{ℕ}
+use Rattle.slices.specs.Same.{same}
+use Rattle.patterns.specs.Likes.{likes}
+use Rattle.grammar.specs.Policies.{Comparator.Equal, Which, Which.All, Which.Any, Tree, constant, compare, like, among, within, contains, has, not, brackets, both, either, choice}
+use Rattle.placing.specs.Placed.{quotedAt}
+use Rattle.views.specs.Meaning.{Datum, text, number, flag, texts, absent, present, View}
+use Rattle.meaning.specs.Values.{literalValue, attributeValue, operandValue, ifText, ifTexts, compares}
+use Rattle.meaning.specs.declared.Verdict.{Verdict}
+use Rattle.meaning.specs.declared.Verdict.the-variants.{Yes, No, Missing}
+
+-- ---- verdicts
+
+unfoldable pub told : Bool → Verdict
+told true = Yes
+told false = No
+
+-- an operator that met this value, or these two, says b; missing where a value is absent
+unfoldable pub given : Datum → Bool → Verdict
+given (text x) b = told b
+given (number x) b = told b
+given (flag x) b = told b
+given (texts x) b = told b
+given absent b = Missing
+
+unfoldable pub givenBoth : Datum → Datum → Bool → Verdict
+givenBoth d e b = cond (present d) (given e b) Missing
+
+-- an absent attribute makes its comparison, `like`, `in` or contains false
+unfoldable pub settled : Verdict → Verdict
+settled Yes = Yes
+settled No = No
+settled Missing = No
+
+unfoldable pub negated : Verdict → Verdict
+negated Yes = No
+negated No = Yes
+negated Missing = Missing
+
+-- parts are met from left to right: `&&` stops at false, `||` at true, `if` meets only the chosen part
+unfoldable pub bothOf : Verdict → Verdict → Verdict
+bothOf Yes v = v
+bothOf No v = No
+bothOf Missing v = Missing
+
+unfoldable pub eitherOf : Verdict → Verdict → Verdict
+eitherOf Yes v = Yes
+eitherOf No v = v
+eitherOf Missing v = Missing
+
+unfoldable pub choiceOf : Verdict → Verdict → Verdict → Verdict
+choiceOf Yes a b = a
+choiceOf No a b = b
+choiceOf Missing a b = Missing
+
+-- ---- lists
+
+unfoldable pub some : {A : Type 0} → (A → Bool) → List A → Bool
+some test [] = false
+some test (x ∷ xs) = test x || some test xs
+
+unfoldable pub all : {A : Type 0} → (A → Bool) → List A → Bool
+all test [] = true
+all test (x ∷ xs) = test x && all test xs
+
+-- containsAll, containsAny
+abbrev pub asked : {A : Type 0} → Which → (A → Bool) → List A → Bool
+asked All test xs = all test xs
+asked Any test xs = some test xs
+
+-- a string among the strings of a list
+abbrev pub listed : List (List ℕ) → List ℕ → Bool
+listed l x = some (same x) l
+
+-- ---- conditions
+
+unfoldable pub verdict : List ℕ → View → Tree → Verdict
+verdict t view (constant b) = told b
+verdict t view (compare c a b) = settled (givenBoth (operandValue t view a) (operandValue t view b) (compares c (operandValue t view a) (operandValue t view b)))
+verdict t view (like a s) = settled (given (operandValue t view a) (ifText (operandValue t view a) (likes (quotedAt t s))))
+verdict t view (among a ls) = settled (given (operandValue t view a) (some (λ l. compares Equal (operandValue t view a) (literalValue t l)) ls))
+verdict t view (within a root s) =
+    settled (givenBoth (operandValue t view a) (attributeValue t view root s) (ifText (operandValue t view a) λ x. ifTexts (attributeValue t view root s) λ l. listed l x))
+verdict t view (contains w root s ls) =
+    settled (given (attributeValue t view root s) (ifTexts (attributeValue t view root s) λ l. asked w (λ x. ifText (literalValue t x) (listed l)) ls))
+verdict t view (has root s) = told (present (attributeValue t view root s))
+verdict t view (not a) = negated (verdict t view a)
+verdict t view (brackets a) = verdict t view a
+verdict t view (both a b) = bothOf (verdict t view a) (verdict t view b)
+verdict t view (either a b) = eitherOf (verdict t view a) (verdict t view b)
+verdict t view (choice c a b) = choiceOf (verdict t view c) (verdict t view a) (verdict t view b)
+
+abbrev pub isYes : Verdict → Bool
+isYes Yes = true
+isYes No = false
+isYes Missing = false

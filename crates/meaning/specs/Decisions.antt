@@ -1,0 +1,110 @@
+-- When a policy is satisfied, and what is decided (document 01, 'Deciding'; demand 2). Definitions only.
+use mathlib.Core.Path.{_≡_}
+use mathlib.Core.Logic.{_⊎_, _↔_}
+use mathlib.Core.Bool.{Bool, true, false, cond, not, _&&_}
+use mathlib.Core.List.{List, [], _∷_}
+use mathlib.Core.Option.{Option, none, some}
+use Prim.Native.Nat.{ℕ, zero, suc, _<_, _≤_}
+use lib.ListN.{length, getD}
+use Rattle.grammar.specs.Policies.{Tree, Policy}
+use Rattle.grammar.specs.Rules.{principalTypes, resourceTypes}
+use Rattle.views.specs.Meaning.{View}
+use Rattle.meaning.specs.Values.{withAction}
+use Rattle.meaning.specs.Conditions.{verdict, isYes}
+use Rattle.meaning.specs.Targets.{Request, isSystem, partMatches, actionMatches}
+use Rattle.meaning.specs.declared.Decision.{Decision}
+use Rattle.meaning.specs.declared.Decision.the-variants.{Allowed, Forbidden, Nothing, System}
+
+-- ---- satisfied policies
+
+unfoldable pub targetMatches : List ℕ → Request → Policy → Bool
+targetMatches t q p =
+    partMatches principalTypes t (q .subject) (p .principal) && actionMatches t (q .action) (p .action) && partMatches resourceTypes t (q .resource) (p .resource)
+
+-- its condition, if any, is true
+unfoldable pub conditionHolds : List ℕ → View → Option Tree → Bool
+conditionHolds t view none = true
+conditionHolds t view (some c) = isYes (verdict t view c)
+
+unfoldable pub satisfied : List ℕ → View → Request → Policy → Bool
+satisfied t view q p = targetMatches t q p && conditionHolds t (withAction (q .action) view) (p .condition)
+
+-- ---- the decision
+
+-- the number of the first policy that passes the test, where they count from n on; 0 where none does
+unfoldable pub firstOf : (Policy → Bool) → ℕ → List Policy → ℕ
+firstOf test n [] = 0
+firstOf test n (p ∷ ps) = cond (test p) n (firstOf test (suc n) ps)
+
+-- the lowest-numbered satisfied forbid decides, else the lowest-numbered satisfied permit
+unfoldable pub byNumbers : ℕ → ℕ → Decision
+byNumbers zero zero = Nothing
+byNumbers zero (suc permit) = Allowed (suc permit)
+byNumbers (suc forbid) permit = Forbidden (suc forbid)
+
+unfoldable pub decisionOf : List ℕ → View → Request → List Policy → Decision
+decisionOf t view q ps =
+    cond (isSystem (q .subject)) System
+    (byNumbers (firstOf (λ p. not (p .permits) && satisfied t view q p) 1 ps) (firstOf (λ p. p .permits && satisfied t view q p) 1 ps))
+
+-- what document 01 calls each decision: outcome and policy
+unfoldable pub outcomeOf : Decision → ℕ
+outcomeOf (Allowed n) = 1
+outcomeOf (Forbidden n) = 2
+outcomeOf Nothing = 3
+outcomeOf System = 4
+
+unfoldable pub policyOf : Decision → ℕ
+policyOf (Allowed n) = n
+policyOf (Forbidden n) = n
+policyOf Nothing = 0
+policyOf System = 0
+
+unfoldable pub isAllowed : Decision → Bool
+isAllowed (Allowed n) = true
+isAllowed (Forbidden n) = false
+isAllowed Nothing = false
+isAllowed System = true
+
+-- ---- demand 2, without computing
+
+-- policy number n of a list, from 1 on
+pub data Numbered : ℕ → Policy → List Policy → Type 0 where
+  first : {p : Policy} {ps : List Policy} → Numbered 1 p (p ∷ ps)
+  later : {n : ℕ} {p q : Policy} {ps : List Policy} → Numbered n p ps → Numbered (suc n) p (q ∷ ps)
+
+-- policy number n has this effect and is satisfied
+pub record Bites (t : List ℕ) (view : View) (q : Request) (ps : List Policy) (permits : Bool) (n : ℕ) : Type 0 where
+  pub policy : Policy
+  pub numbered : Numbered n policy ps
+  pub effect : policy .permits ≡ permits
+  pub satisfied-there : satisfied t view q policy ≡ true
+
+-- some policy of this effect is satisfied
+pub record Some (t : List ℕ) (view : View) (q : Request) (ps : List Policy) (permits : Bool) : Type 0 where
+  pub number : ℕ
+  pub bites : Bites t view q ps permits number
+
+-- n is the lowest number of a satisfied policy of this effect
+pub record Lowest (t : List ℕ) (view : View) (q : Request) (ps : List Policy) (permits : Bool) (n : ℕ) : Type 0 where
+  pub bites : Bites t view q ps permits n
+  pub lowest : (m : ℕ) → Bites t view q ps permits m → n ≤ m
+
+-- A request gets yes exactly if the subject is the system, or some permit is satisfied and no forbid is.
+unfoldable pub YesExactly : Type 0
+YesExactly = (t : List ℕ) (view : View) (q : Request) (ps : List Policy)
+    → (isAllowed (decisionOf t view q ps) ≡ true) ↔ ((isSystem (q .subject) ≡ true) ⊎ (Some t view q ps true × (Some t view q ps false → ⊥)))
+
+-- For any subject but the system the answer names the lowest-numbered satisfied forbid, else the lowest-numbered satisfied permit, else none; for the system it names none.
+pub data Names (t : List ℕ) (view : View) (q : Request) (ps : List Policy) : ℕ → Type 0 where
+  the-system : isSystem (q .subject) ≡ true → Names t view q ps 0
+  a-forbid : {n : ℕ} → isSystem (q .subject) ≡ false → Lowest t view q ps false n → Names t view q ps n
+  a-permit : {n : ℕ} → isSystem (q .subject) ≡ false → (Some t view q ps false → ⊥) → Lowest t view q ps true n → Names t view q ps n
+  none-named : isSystem (q .subject) ≡ false → (Some t view q ps false → ⊥) → (Some t view q ps true → ⊥) → Names t view q ps 0
+
+unfoldable pub NamedRightly : Type 0
+NamedRightly = (t : List ℕ) (view : View) (q : Request) (ps : List Policy) → Names t view q ps (policyOf (decisionOf t view q ps))
+
+-- So it leaves one name.
+unfoldable pub OneName : Type 0
+OneName = (t : List ℕ) (view : View) (q : Request) (ps : List Policy) (m n : ℕ) → Names t view q ps m → Names t view q ps n → m ≡ n

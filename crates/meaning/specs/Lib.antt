@@ -1,0 +1,4 @@
+pub mod Values
+pub mod Conditions
+pub mod Targets
+pub mod Decisions

@@ -1,0 +1,69 @@
+-- Requests, and which policies' targets match one (document 01, 'Deciding'). Definitions only.
+use mathlib.Core.Bool.{Bool, true, false, cond, not, _&&_, _||_}
+use mathlib.Core.List.{List, [], _∷_}
+use Prim.Native.Nat.{ℕ, suc}
+use Prim.Native.Char.{code}
+use lib.Dec.{eqb, leb, ltb}
+use lib.ListN.{length}
+use Rattle.slices.specs.Ascii.{bytes}
+use Rattle.slices.specs.Same.{same}
+use Rattle.grammar.specs.Policies.{Literal, text, number, truth, Part, any, typed, pinned, Actions, every, oneOf}
+use Rattle.grammar.specs.Rules.{principalTypes, resourceTypes, typeAmong}
+use Rattle.placing.specs.Placed.{quotedAt}
+use Rattle.meaning.specs.Conditions.{some}
+
+pub record Request : Type 0 where
+  pub subject : List ℕ
+  pub action : List ℕ
+  pub resource : List ℕ
+
+-- ---- the forms of subjects, actions and resources
+
+-- what stands before the first colon, and after it
+unfoldable pub kindOf : List ℕ → List ℕ
+kindOf [] = []
+kindOf (b ∷ rest) = cond (eqb b (code ":")) [] (b ∷ kindOf rest)
+
+unfoldable pub idOf : List ℕ → List ℕ
+idOf [] = []
+idOf (b ∷ rest) = cond (eqb b (code ":")) rest (idOf rest)
+
+-- the number of what stands before the first colon among some types, from 1 on; 0 where it is none of them
+abbrev pub typeIn : List (List ℕ) → List ℕ → ℕ
+typeIn types s = typeAmong types 1 (kindOf s)
+
+abbrev pub atMostHundred : List ℕ → Bool
+atMostHundred s = leb (length s) 100
+
+-- a type, a colon, and an id of at least one byte
+unfoldable pub isTyped : List (List ℕ) → List ℕ → Bool
+isTyped types s = atMostHundred s && not (eqb (typeIn types s) 0) && ltb 0 (length (idOf s))
+
+abbrev pub isSystem : List ℕ → Bool
+isSystem s = same s (bytes "system")
+
+abbrev pub isSubject : List ℕ → Bool
+isSubject s = isTyped principalTypes s
+
+unfoldable pub isAction : List ℕ → Bool
+isAction s = atMostHundred s && ltb 0 (length s)
+
+abbrev pub isResource : List ℕ → Bool
+isResource s = isTyped resourceTypes s
+
+-- ---- targets
+
+-- `is` compares the text before the first colon, `==` the whole string
+unfoldable pub partMatches : List (List ℕ) → List ℕ → List ℕ → Part → Bool
+partMatches types t s any = true
+partMatches types t s (typed k) = eqb (typeIn types s) k
+partMatches types t s (pinned p) = same s (quotedAt t p)
+
+unfoldable pub isString : List ℕ → List ℕ → Literal → Bool
+isString t s (text p) = same s (quotedAt t p)
+isString t s (number p) = false
+isString t s (truth b) = false
+
+unfoldable pub actionMatches : List ℕ → List ℕ → Actions → Bool
+actionMatches t s every = true
+actionMatches t s (oneOf ls) = some (isString t s) ls

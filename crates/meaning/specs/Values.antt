@@ -1,0 +1,99 @@
+-- What operands are: attributes of a view, and literals of the text (document 01, 'Deciding'). Definitions only.
+use mathlib.Core.Bool.{Bool, true, false, cond, not, _&&_}
+use mathlib.Core.List.{List, [], _∷_}
+use Prim.Native.Nat.{ℕ}
+use lib.Dec.{eqb}
+use lib.Ieee.{Float}
+use Rattle.slices.specs.Ascii.{bytes}
+use Rattle.slices.specs.Same.{same}
+use Rattle.numbers.specs.Literals.{numberIn}
+use Rattle.numbers.specs.Comparing.{holds}
+use Rattle.numbers.specs.declared.comparing.Comparator.the-variants as numbers
+use Rattle.grammar.specs.Policies.{Span, Root, Root.Principal, Root.Resource, Root.Env, Root.Action, Comparator, Comparator.Equal, Comparator.NotEqual, Comparator.More, Comparator.AtLeast, Comparator.Less, Comparator.AtMost, Literal, text as textLiteral, number as numberLiteral, truth, Operand, attribute, literal}
+use Rattle.placing.specs.Placed.{bytesAt, quotedAt, pathAt}
+use Rattle.views.specs.Meaning.{Datum, text, number, flag, texts, absent, View}
+
+-- the roots by their root bytes, and action
+abbrev pub rootByte : Root → ℕ
+rootByte Principal = 1
+rootByte Resource = 2
+rootByte Env = 3
+rootByte Action = 4
+
+-- the action root holds only `name`, the request's action
+unfoldable pub withAction : List ℕ → View → View
+withAction action view root path = cond (eqb root (rootByte Action)) (cond (same path (bytes "name")) (text action) absent) (view root path)
+
+unfoldable pub literalValue : List ℕ → Literal → Datum
+literalValue t (textLiteral s) = text (quotedAt t s)
+literalValue t (numberLiteral s) = number (numberIn (bytesAt t s))
+literalValue t (truth b) = flag b
+
+unfoldable pub attributeValue : List ℕ → View → Root → Span → Datum
+attributeValue t view root s = view (rootByte root) (pathAt t s)
+
+unfoldable pub operandValue : List ℕ → View → Operand → Datum
+operandValue t view (attribute root s) = attributeValue t view root s
+operandValue t view (literal l) = literalValue t l
+
+-- ---- what holds of a value of one kind, and is false of every other
+
+abbrev pub ifText : Datum → (List ℕ → Bool) → Bool
+ifText (text x) f = f x
+ifText (number x) f = false
+ifText (flag x) f = false
+ifText (texts x) f = false
+ifText absent f = false
+
+abbrev pub ifNumber : Datum → (Float → Bool) → Bool
+ifNumber (text x) f = false
+ifNumber (number x) f = f x
+ifNumber (flag x) f = false
+ifNumber (texts x) f = false
+ifNumber absent f = false
+
+abbrev pub ifFlag : Datum → (Bool → Bool) → Bool
+ifFlag (text x) f = false
+ifFlag (number x) f = false
+ifFlag (flag x) f = f x
+ifFlag (texts x) f = false
+ifFlag absent f = false
+
+abbrev pub ifTexts : Datum → (List (List ℕ) → Bool) → Bool
+ifTexts (text x) f = false
+ifTexts (number x) f = false
+ifTexts (flag x) f = false
+ifTexts (texts x) f = f x
+ifTexts absent f = false
+
+-- ---- comparing
+
+-- `==` and `!=` for strings and flags, by whether they are the same; the other comparators are only for numbers
+abbrev pub equality : Comparator → Bool → Bool
+equality Equal same = same
+equality NotEqual same = not same
+equality More same = false
+equality AtLeast same = false
+equality Less same = false
+equality AtMost same = false
+
+abbrev pub sameFlag : Bool → Bool → Bool
+sameFlag true b = b
+sameFlag false b = not b
+
+-- numbers, as IEEE 754 compares them: -0 equals 0
+abbrev pub ordered : Comparator → Float → Float → Bool
+ordered Equal x y = holds numbers.Same x y
+ordered NotEqual x y = holds numbers.Other x y
+ordered More x y = holds numbers.More x y
+ordered AtLeast x y = holds numbers.AtLeast x y
+ordered Less x y = holds numbers.Less x y
+ordered AtMost x y = holds numbers.AtMost x y
+
+-- two strings, two numbers or two flags; a kind mismatch and a list on either side make it false
+unfoldable pub compares : Comparator → Datum → Datum → Bool
+compares c (text a) d = ifText d λ b. equality c (same a b)
+compares c (number x) d = ifNumber d λ y. ordered c x y
+compares c (flag a) d = ifFlag d λ b. equality c (sameFlag a b)
+compares c (texts l) d = false
+compares c absent d = false
