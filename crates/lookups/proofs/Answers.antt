@@ -14,7 +14,7 @@ use Rattle.bags.specs.Paths.{isPath}
 use Rattle.bags.specs.Sections.{sectionsOf, isBag}
 use Rattle.bags.specs.declared.sections.Sections.{Sections}
 use Rattle.bags.specs.declared.sections.Divided.the-variants.{In}
-use Rattle.lookups.specs.Blanks.{unblanked}
+use Rattle.tokens.specs.Blanks.{unblanked}
 use Rattle.lookups.specs.Values.{absent}
 use Rattle.lookups.specs.Lookups.{lookIn, baseOf, bagOf, lookupOf, said, startOf, lengthOf, IsPart}
 use Rattle.lookups.specs.declared.values.Value.{Value}

@@ -25,7 +25,7 @@ use Rattle.bags.specs.declared.sections.Divided.the-variants.{In, Broken}
 use Rattle.bags.proofs.ReadLaws.{and-true, First, first}
 use Rattle.bags.proofs.PathLaws.{pathByte, path-bytes}
 use Rattle.bags.proofs.SectionLaws.{entry-at, section-at, sections-at}
-use Rattle.lookups.specs.Blanks.{unblanked}
+use Rattle.tokens.specs.Blanks.{unblanked}
 use Rattle.lookups.specs.Values.{nought, unit, absent, numberOf, valueAt, Valued, Whole}
 use Rattle.lookups.specs.Lookups.{lookIn, entryAt, sectionAt, baseOf, bagOf}
 use Rattle.lookups.specs.declared.values.Value.{Value}

@@ -21,7 +21,7 @@ use Rattle.bags.specs.declared.After.the-variants.{At}
 use Rattle.bags.specs.declared.sections.Sections.{Sections}
 use Rattle.bags.specs.declared.sections.Divided.the-variants.{In}
 use Rattle.bags.proofs.ReadLaws.{part-cons, part-none, each-done, each-more}
-use Rattle.lookups.specs.Blanks.{unblanked}
+use Rattle.tokens.specs.Blanks.{unblanked}
 use Rattle.lookups.specs.Values.{absent}
 use Rattle.lookups.specs.Lookups.{Entry, lookIn, sectionAt, baseOf, bagOf}
 use Rattle.lookups.specs.declared.values.Value.{Value}

@@ -1,3 +1,2 @@
-pub mod Blanks
 pub mod Values
 pub mod Lookups

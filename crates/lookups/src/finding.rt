@@ -8,7 +8,7 @@ ghost use Rattle.tokens.specs.declared.classes.Sort.the-variants.{Blanks};
 ghost use Rattle.bags.specs.Reading.{part, many, each};
 ghost use Rattle.bags.specs.Sections.{entryEnd, sectionEnd, Sectioned};
 ghost use Rattle.bags.specs.declared.After.the-variants.{At};
-ghost use Rattle.lookups.specs.Blanks.{unblanked};
+ghost use Rattle.tokens.specs.Blanks.{unblanked};
 ghost use Rattle.lookups.specs.Values.{absent};
 ghost use Rattle.lookups.specs.Lookups.{lookIn, entryAt, sectionAt, baseOf};
 use crate::steps::value_next;

@@ -18,7 +18,7 @@ use Rattle.reading.specs.Reader.{Answer, took, refuse, numbered, refuseBy, bind
 use Rattle.grammar.specs.Policies.{Tree, Policy}
 use Rattle.grammar.specs.Rules.{rootOf, literalOf, comparatorOf, whichOf, principalTypes, resourceTypes, typeAmong, admitted, wildcards, plain, isPattern}
 use Rattle.grammar.specs.Parser.{noName, bare, noType, noLevel, noPattern, tooMany, noPolicy, fits, read-first-name, goesOn, read-next-name, read-way, spannedBy, read-path, read-attribute, read-operand, isElement, read-element, read-list, read-bare, read-in, isLike, read-pattern, read-operator, read-call, read-rest, read-rooted, read-simple, read-joined, read-conjunction, read-disjunction, read-negated, read-bracketed, read-conditional, read-deeper, read-condition, read-conditions, read-type, read-principal, read-action, read-resource, read-when, read-policy, begins, read-next-policy, atEnd, read-text}
-use Rattle.placing.specs.Placed.{unblanked}
+use Rattle.tokens.specs.Blanks.{unblanked}
 use Rattle.views.specs.Meaning.{Datum, text, flag, texts, absent, View}
 use Rattle.meaning.specs.Values.{withAction, literalValue, attributeValue, operandValue, compares}
 use Rattle.meaning.specs.Conditions.{told, given, givenBoth, settled, negated, bothOf, eitherOf, choiceOf, some, all, verdict}

@@ -15,7 +15,8 @@ use Rattle.reading.specs.Reader.{took, numbered, refuseBy, bind, on, need, befo
 use Rattle.grammar.specs.Policies.{span, Root.Principal, Comparator.AtLeast, text, number, attribute, literal, Tree, compare, has, not, brackets, both, typed, oneOf, Policy}
 use Rattle.grammar.specs.Rules.{rootOf, literalOf, comparatorOf, whichOf, principalTypes, resourceTypes, typeAmong, admitted, wildcards, plain, isPattern}
 use Rattle.grammar.specs.Parser.{noName, bare, noType, noLevel, noPattern, tooMany, noPolicy, fits, read-first-name, goesOn, read-next-name, read-way, spannedBy, read-path, read-attribute, read-operand, isElement, read-element, read-list, read-bare, read-in, isLike, read-pattern, read-operator, read-call, read-rest, read-rooted, read-simple, read-joined, read-conjunction, read-disjunction, read-negated, read-bracketed, read-conditional, read-deeper, read-condition, read-conditions, read-type, read-principal, read-action, read-resource, read-when, read-policy, begins, read-next-policy, atEnd, read-text}
-use Rattle.placing.specs.Placed.{bytesAt, quotedAt, unblanked, pathAt, depth}
+use Rattle.tokens.specs.Blanks.{unblanked}
+use Rattle.placing.specs.Placed.{bytesAt, quotedAt, pathAt, depth}
 
 -- the worked example of docs/TABLE.md
 abbrev rule : List ℕ

@@ -23,7 +23,8 @@ use Rattle.grammar.specs.Policies.{span, Root, Root.Principal, Root.Resource, R
 use Rattle.grammar.specs.Rules.{spanOf, admitted}
 use Rattle.grammar.specs.Grammar.{sizes, Path, firstPath, longerPath, spanned, first, NextName, Names}
 use Rattle.grammar.specs.Grammar as grammar
-use Rattle.placing.specs.Placed.{unblanked, pathAt, IsName, a-name, one-name, one-more, PathPlaced}
+use Rattle.tokens.specs.Blanks.{unblanked}
+use Rattle.placing.specs.Placed.{pathAt, IsName, a-name, one-name, one-more, PathPlaced}
 use Rattle.placing.proofs.Standing.{between, length-between, name-form, dot-form, Lexed, Running, token}
 
 -- ---- without blanks

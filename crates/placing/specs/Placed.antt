@@ -1,16 +1,17 @@
 -- Where the strings, numbers and paths of a text's policies lie in the text, and what bytes stand there. Definitions only.
 use mathlib.Core.Path.{_≡_}
-use mathlib.Core.Bool.{Bool, true, cond}
+use mathlib.Core.Bool.{Bool, true}
 use mathlib.Core.List.{List, [], _∷_, _++_}
 use mathlib.Core.Option.{Option, none, some}
 use Prim.Native.Nat.{ℕ, suc, _+_, _-_, _≤_, _<_, max}
 use lib.ListN.{length, getD, take, drop}
 use Rattle.slices.specs.Ascii.{bytes}
+use Rattle.tokens.specs.Blanks.{unblanked}
 use Rattle.tokens.specs.Kinds as kinds
 use Rattle.tokens.specs.Runs.{is}
 use Rattle.tokens.specs.Words.{wordKind}
 use Rattle.tokens.specs.Forms.{All, quote}
-use Rattle.tokens.specs.declared.classes.Sort.the-variants.{Blanks, Letters, WordBytes, StringBytes}
+use Rattle.tokens.specs.declared.classes.Sort.the-variants.{Letters, WordBytes, StringBytes}
 use Rattle.numbers.specs.Literals.{IsNumber}
 use Rattle.grammar.specs.Policies.{Span, Root, Root.Action, Comparator, Literal, text, number, truth, Operand, attribute, literal, Which, Tree, constant, compare, like, among, within, contains, has, not, brackets, both, either, choice, Part, any, typed, pinned, Actions, every, oneOf, Policy}
 use Rattle.grammar.specs.Rules.{isPattern, mostLiterals, mostPolicies}
@@ -24,11 +25,6 @@ bytesAt t s = take (s .end - s .start) (drop (s .start) t)
 -- the bytes between the quotes of the string at a span
 abbrev pub quotedAt : List ℕ → Span → List ℕ
 quotedAt t s = take (s .end - s .start - 2) (drop (s .start + 1) t)
-
--- some bytes without the blanks among them
-unfoldable pub unblanked : List ℕ → List ℕ
-unblanked [] = []
-unblanked (b ∷ l) = cond (is Blanks b) (unblanked l) (b ∷ unblanked l)
 
 -- the bytes of the path at a span: blanks may stand about its dots
 abbrev pub pathAt : List ℕ → Span → List ℕ

@@ -7,7 +7,7 @@ ghost use lib.Dec.{eqb, ltb};
 ghost use lib.ListN.{length, getD};
 ghost use Rattle.slices.specs.Same.{same};
 ghost use Rattle.bags.specs.Reading.{byte};
-ghost use Rattle.lookups.specs.Blanks.{unblanked};
+ghost use Rattle.tokens.specs.Blanks.{unblanked};
 ghost use Rattle.questions.specs.Columns.{columnPath, countAt};
 ghost use Rattle.views.specs.Rows.{rowValue, Stands};
 use bags::sections::Sections;

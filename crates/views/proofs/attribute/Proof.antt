@@ -4,7 +4,7 @@ use borrow.Author.Needs.{needs}
 use lib.ListN.{getD}
 use mathlib.Core.Path.{_≡_, refl, sym, _∙_}
 use native.Mathlib.Omega.{arith}
-use Rattle.lookups.specs.Blanks.{unblanked}
+use Rattle.tokens.specs.Blanks.{unblanked}
 use Rattle.tokens.specs.Table.{listed}
 use Rattle.views.proofs.ViewLaws.{columns-none, columns-here, columns-on}
 use Rattle.views.specs.Meaning.{columnsFirst}

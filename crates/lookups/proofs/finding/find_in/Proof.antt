@@ -8,7 +8,7 @@ use Rattle.bags.specs.Reading.{many, each}
 use Rattle.bags.specs.Sections.{entryEnd}
 use Rattle.lookups.proofs.BagLaws.{entry-valued}
 use Rattle.lookups.proofs.FindLaws.{look-done, look-here, look-on}
-use Rattle.lookups.specs.Blanks.{unblanked}
+use Rattle.tokens.specs.Blanks.{unblanked}
 use Rattle.lookups.specs.Lookups.{lookIn, entryAt}
 use Rattle.lookups.specs.Values.{absent}
 use Rattle.lookups.proofs.finding.find_in.Statement.{statement}

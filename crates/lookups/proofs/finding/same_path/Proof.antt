@@ -7,7 +7,7 @@ use native.Mathlib.Omega.{arith}
 use Rattle.bags.specs.Reading.{part}
 use Rattle.slices.specs.Same.{same}
 use Rattle.lookups.proofs.FindLaws.{path-end, path-blank, path-short, path-differs, path-on}
-use Rattle.lookups.specs.Blanks.{unblanked}
+use Rattle.tokens.specs.Blanks.{unblanked}
 use Rattle.lookups.proofs.finding.same_path.Statement.{statement}
 use Rattle.lookups.proofs.finding.same_path.Tie as tie
 
