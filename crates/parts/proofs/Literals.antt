@@ -1,18 +1,17 @@
 -- A list's literals, step by step. Assumes nothing.
-use mathlib.Core.Path.{_≡_, refl, _∙_, sym, ap, subst}
+use mathlib.Core.Path.{_≡_, refl, _∙_, ap}
 use mathlib.Core.Bool.{Bool, true, false, _&&_}
-use mathlib.Core.List.{List, [], _∷_, _++_, map, map-append}
+use mathlib.Core.List.{List, [], _∷_, _++_, map-append}
 use Prim.Native.Nat.{ℕ, _+_, _-_, _≤_, _<_}
 use native.Mathlib.Omega.{arith}
 use lib.ListN.{length, length-map}
-use lib.Dec.{eqb, ltb}
 use borrow.Author.Tests.{eq-eqb, ne-eqb, lt-ltb, le-ltb}
 use Rattle.tokens.specs.Kinds as kinds
 use Rattle.tokens.specs.declared.reader.Token.{Token}
 use Rattle.tokens.specs.Tokens.{tokenAt, Reads}
 use Rattle.reading.specs.Lexemes.{Lexeme, lexeme, is, stream}
 use Rattle.reading.specs.Reader as reader
-use Rattle.reading.specs.Reader.{Reader, took, refuse, refuseBy, bind, on, need, before, chain, onwards}
+use Rattle.reading.specs.Reader.{took, bind, need, before, chain, onwards}
 use Rattle.reading.proofs.Stream.{next-on, next-off}
 use Rattle.grammar.specs.Policies.{Literal}
 use Rattle.grammar.specs.Rules.{literalOf}
@@ -46,8 +45,13 @@ module _ (sort : Lexeme → Bool) where
       → Listing text seen (read-list sort (stream text t)) (t .start) first same T T t first same
   unfolding read-list before chain
   listing-none text seen T first same t r = record {
-      ls = []; rest = refl; kept = kept-none seen T first same; long = refl;
-      lies = standing t (omega arith) r; room = omega arith }
+    ls = [];
+    rest = refl;
+    kept = kept-none seen T first same;
+    long = refl;
+    lies = standing t (omega arith) r;
+    room = omega arith;
+  }
 
   module _ {text seen : List ℕ} {total : reader.Answer (List Literal)} {from first : ℕ} {same : Bool} {T₀ T : List ℕ} {at : Token} {free : ℕ} {ok : Bool}
       (l : Listing text seen total from first same T₀ T at free ok) where
@@ -92,17 +96,18 @@ module _ (sort : Lexeme → Bool) where
       unfolding bind
       listing-ends n c =
           done-as (l .rest ∙ rw taken (ap (λ (p : reader.Answer (List Literal)). bind p (λ ls. need kinds.rightSquare (took ls)))
-            (list-step sort more (stream text comma) ∙ next-off text comma (is kinds.comma) _ _ (ne-eqb _ _ n))))
+          (list-step sort more (stream text comma) ∙ next-off text comma (is kinds.comma) _ _ (ne-eqb _ _ n))))
           (expected-done kinds.rightSquare (omega arith) (settled {p = took more (stream text comma)} more refl comma-lies room-now kept-now) c)
 
       pub listing-on : comma .kind ≡ kinds.comma → length T₂ ≡ length T → (next : Token) → next ≡ tokenAt text (comma .end) → Reads text (comma .end) next
           → Listing text seen total from first same T₀ T₂ next (free + 1) ok₂
       unfolding bind
       listing-on c long next q′ s′ = record {
-          ls = more;
-          rest = l .rest ∙ rw taken (ap (λ (p : reader.Answer (List Literal)). bind p (λ ls. need kinds.rightSquare (took ls)))
+        ls = more;
+        rest = l .rest ∙ rw taken (ap (λ (p : reader.Answer (List Literal)). bind p (λ ls. need kinds.rightSquare (took ls)))
             (list-step sort more (stream text comma) ∙ next-on text comma (is kinds.comma) _ _ next (λ (z : comma .kind ≡ 0). omega arith) (s .high) q′ (eq-eqb _ _ c)));
-          kept = kept-now;
-          long = let a = l .long in omega arith;
-          lies = let a = comma-lies .low in let b = s .order in let d = s′ .low in lowered (omega arith) s′;
-          room = let a = room-now in let b = s .order in let d = s′ .low in omega arith }
+        kept = kept-now;
+        long = let a = l .long in omega arith;
+        lies = let a = comma-lies .low in let b = s .order in let d = s′ .low in lowered (omega arith) s′;
+        room = let a = room-now in let b = s .order in let d = s′ .low in omega arith;
+      }

@@ -1,5 +1,5 @@
 -- What goes by a root: only action's paths differ from the others'. Assumes nothing.
-use mathlib.Core.Path.{_≡_, refl, sym, _∙_}
+use mathlib.Core.Path.{_≡_, refl}
 use mathlib.Core.Bool.{Bool, true, false, cond}
 use mathlib.Core.List.{List, []}
 use Prim.Native.Nat.{ℕ, _+_, _≤_}
@@ -13,7 +13,7 @@ use Rattle.grammar.specs.Policies.{Root, Root.Principal, Root.Resource, Root.En
 use Rattle.grammar.specs.Rules.{rootOf, isReserved, admitted}
 use Rattle.grammar.specs.Parser.{noName}
 use Rattle.table.specs.Entries.{rootKind, hasKind}
-use Rattle.parts.specs.Names.{rootFrom, ofKind}
+use Rattle.parts.specs.Names.{rootFrom}
 
 pub other-root : (P : Root → Type 0) (k : ℕ) → (k ≡ kinds.actionWord → ⊥) → P Principal → P Resource → P Env → P (rootFrom k)
 unfolding rootOf

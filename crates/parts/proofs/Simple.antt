@@ -1,27 +1,23 @@
 -- Conditions that hold no other, by the token that stands next. Assumes nothing.
-use mathlib.Core.Path.{_≡_, refl, _∙_, sym, ap, subst}
-use mathlib.Core.Bool.{Bool, true, false, cond, _&&_, _||_}
+use mathlib.Core.Path.{_≡_, refl, sym, ap}
+use mathlib.Core.Bool.{Bool, true, false, cond}
 use mathlib.Core.List.{List, [], _∷_, _++_}
 use Prim.Native.Nat.{ℕ, _+_, _-_, _≤_, _<_}
 use native.Mathlib.Omega.{arith}
 use lib.ListN.{length, length-map}
-use lib.Dec.{eqb}
 use borrow.Author.Tests.{eq-eqb, ne-eqb}
 use Rattle.tokens.specs.Kinds as kinds
 use Rattle.tokens.specs.declared.reader.Token.{Token}
-use Rattle.tokens.specs.Tokens.{tokenAt}
-use Rattle.reading.specs.Lexemes.{Lexeme, lexeme, is, choose, stream}
+use Rattle.reading.specs.Lexemes.{Lexeme, lexeme, is, choose}
 use Rattle.reading.specs.Reader as reader
-use Rattle.reading.specs.Reader.{Reader, took, refuse, refuseBy, ten, bind, on, need, mapped}
-use Rattle.reading.proofs.Stream.{next-on, next-off}
-use Rattle.grammar.specs.Policies.{Span, Root, Comparator, Literal, text, number, truth, Operand, attribute, literal, Which, Tree, constant, among}
+use Rattle.reading.specs.Reader.{took, refuse, refuseBy, ten, bind, on, need}
+use Rattle.grammar.specs.Policies.{Span, Root, Comparator, Literal, text, number, truth, Operand, attribute, literal, Which, constant}
 use Rattle.grammar.specs.Rules.{isComparator, comparatorOf, isPattern, inside}
-use Rattle.grammar.specs.Parser.{Way, plain, calling, spannedBy, bare, noPattern, isLike, read-path, read-attribute, read-bare, read-pattern, read-operator, read-call, read-rest}
+use Rattle.grammar.specs.Parser.{Way, plain, calling, spannedBy, bare, noPattern, isLike, read-path, read-attribute, read-bare, read-operator, read-call, read-rest}
 use Rattle.table.specs.declared.Entry.{Entry}
-use Rattle.table.specs.Entries.{entry, rootKind, comparatorKind, whichKind, literalEntry, literalEntries, operandEntry, treeEntries}
+use Rattle.table.specs.Entries.{entry, comparatorKind, whichKind, literalEntry, literalEntries, operandEntry, treeEntries}
 use Rattle.parts.specs.Names.{ofKind, comparing}
 use Rattle.parts.specs.Answers.{callAfter}
-use Rattle.parts.proofs.Sorts.{false-true}
 
 -- ---- attributes
 

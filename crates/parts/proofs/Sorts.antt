@@ -1,17 +1,17 @@
 -- What a token's kind alone tells. Assumes nothing.
-use mathlib.Core.Path.{_≡_, refl, sym, _∙_}
-use mathlib.Core.Bool.{Bool, true, false, cond, _&&_, _||_}
+use mathlib.Core.Path.{_≡_, refl}
+use mathlib.Core.Bool.{Bool, true, false, cond, _||_}
 use mathlib.Core.List.{List, []}
 use Prim.Native.Nat.{ℕ}
 use native.Mathlib.Omega.{arith}
-use lib.Dec.{eqb, leb}
+use lib.Dec.{eqb}
 use Rattle.tokens.specs.Kinds as kinds
 use Rattle.tokens.specs.declared.reader.Token.{Token}
-use Rattle.reading.specs.Lexemes.{Lexeme, lexeme, is}
+use Rattle.reading.specs.Lexemes.{Lexeme, lexeme}
 use Rattle.grammar.specs.Policies.{Which}
-use Rattle.grammar.specs.Rules.{isRoot, isLiteral, literalOf, isContains, whichOf, isComparator, comparatorOf}
-use Rattle.table.specs.Entries.{literalEntry, whichKind, comparatorKind}
-use Rattle.parts.specs.Names.{ofKind, exitOf, callOf, comparing, sortOf}
+use Rattle.grammar.specs.Rules.{isRoot, isLiteral, literalOf, whichOf, isComparator}
+use Rattle.table.specs.Entries.{whichKind}
+use Rattle.parts.specs.Names.{exitOf, callOf, sortOf}
 
 pub false-true : false ≡ true → ⊥
 false-true e = let z : _≡_ {A = ℕ} 0 1 = cc in omega arith

@@ -1,8 +1,8 @@
 -- The token that stands next: where it lies, what its refusal says, and what a reader makes of it. Assumes nothing.
-use mathlib.Core.Path.{_≡_, refl, _∙_, sym, ap}
+use mathlib.Core.Path.{_≡_, refl, _∙_}
 use mathlib.Core.Bool.{Bool, true, false}
 use mathlib.Core.List.{List, [], _∷_}
-use Prim.Native.Nat.{ℕ, _+_, _≤_, _<_}
+use Prim.Native.Nat.{ℕ, _+_, _^_, _≤_, _<_}
 use native.Mathlib.Omega.{arith}
 use lib.Dec.{eqb, ltb}
 use lib.ListN.{length}
@@ -11,10 +11,10 @@ use Rattle.tokens.specs.declared.reader.Token.{Token}
 use Rattle.tokens.specs.Tokens.{tokenAt, Reads}
 use Rattle.reading.specs.Lexemes.{Lexeme, lexeme, is, stream, tokensFrom}
 use Rattle.reading.specs.Reader as reader
-use Rattle.reading.specs.Reader.{Reader, took, refuse, refuseBy, numbered, bind, on, need, ten}
+use Rattle.reading.specs.Reader.{Reader, refuseBy, numbered, bind, need, ten}
 use Rattle.reading.proofs.Stream.{stream-end, stream-token, next-on, next-off}
 use Rattle.parts.specs.declared.answers.Refusal.{Refusal}
-use Rattle.parts.specs.Answers.{Ready, refusal, refusalAt, turnedAway, Turned}
+use Rattle.parts.specs.Answers.{Ready, refusalAt, turnedAway, Turned}
 
 -- ---- places
 
@@ -33,6 +33,10 @@ pub ready-past : {classes text : List ℕ} {from low : ℕ} (t : Token) {n : Tok
     → Ready classes text low n
 ready-past t r e s l = record { table = r .table; lies = lowered l (past t (r .lies) e s); small = r .small }
 
+-- no entry's number is larger than the place of the token that stands next
+pub number-small : {classes text : List ℕ} {from : ℕ} {t : Token} → Ready classes text from t → from < 2 ^ 60
+number-small r = omega (arith, r .lies .low, r .lies .order, r .lies .high, r .small)
+
 -- ---- refusals
 
 pub turned-as : {A : Type 0} {text : List ℕ} {p q : reader.Answer A} {f : Refusal} → q ≡ p → Turned text p f → Turned text q f
@@ -50,6 +54,7 @@ module _ (text : List ℕ) (t : Token) where
       token-turned : (b : Bool) → eqb (t .kind) 0 ≡ false → ltb (t .kind) 7 ≡ b → Turned text {A = A} (refuseBy number (stream text t)) f
       token-turned true e e′ = record { number = t .kind; rest = lexeme text t ∷ tokensFrom text (t .end); is = rw (stream-token text t (eqb-false _ _ e), e′); told = p ∙ rw (e, e′) }
       token-turned false e e′ = record { number = number (lexeme text t); rest = lexeme text t ∷ tokensFrom text (t .end); is = rw (stream-token text t (eqb-false _ _ e), e′); told = p ∙ rw (e, e′) }
+
       go : (b : Bool) → eqb (t .kind) 0 ≡ b → Turned text {A = A} (refuseBy number (stream text t)) f
       go true e = record { number = 10; rest = []; is = rw (stream-end text t (eqb-true _ _ e)); told = p ∙ rw e }
       go false e = token-turned (ltb (t .kind) 7) e refl

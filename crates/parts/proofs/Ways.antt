@@ -1,8 +1,8 @@
 -- A path's names, step by step. Assumes nothing.
 use mathlib.Core.Path.{_≡_, refl, _∙_, sym, ap, subst}
 use mathlib.Core.Bool.{Bool, true, false, _&&_}
-use mathlib.Core.List.{List, []}
-use Prim.Native.Nat.{ℕ, _+_, _-_, _≤_, _<_}
+use mathlib.Core.List.{List}
+use Prim.Native.Nat.{ℕ, _+_, _-_, _≤_}
 use native.Mathlib.Omega.{arith}
 use native.Mathlib.Nat.{zero-add}
 use lib.ListN.{length}
@@ -13,12 +13,12 @@ use Rattle.tokens.specs.declared.reader.Token.{Token}
 use Rattle.tokens.specs.Tokens.{tokenAt, Reads}
 use Rattle.reading.specs.Lexemes.{Lexeme, lexeme, is, stream}
 use Rattle.reading.specs.Reader as reader
-use Rattle.reading.specs.Reader.{Reader, took, refuse, refuseBy, bind, on, chain, onwards}
+use Rattle.reading.specs.Reader.{Reader, took, refuseBy, bind, on, chain, onwards}
 use Rattle.reading.proofs.Stream.{next-on, next-off}
-use Rattle.grammar.specs.Policies.{Root, Span, span}
+use Rattle.grammar.specs.Policies.{Root, span}
 use Rattle.grammar.specs.Rules.{whichOf, admitted}
 use Rattle.grammar.specs.Grammar.{Path, firstPath, longerPath}
-use Rattle.grammar.specs.Parser.{Way, plain, calling, noName, fits, goesOn, read-first-name, read-next-name, read-way, spannedBy, read-path}
+use Rattle.grammar.specs.Parser.{Way, plain, calling, noName, fits, goesOn, read-first-name, read-next-name, read-way, spannedBy}
 use Rattle.grammar.proofs.Steps.{way-step}
 use Rattle.parts.specs.Names.{exitOf, callOf}
 use Rattle.parts.specs.Answers.{turnedAway, Turned, callAfter, Walked, Walks, found, lost}
@@ -54,8 +54,12 @@ module _ (left : Bool) (root : Root) where
   pub walking-first : (text : List ℕ) (t : Token) {low : ℕ} → Reads text low t → Walking text (read-way (exitOf left) root (stream text t)) (t .start) (t .start) 0 t
   unfolding read-way chain read-first-name
   walking-first text t r = record {
-      make = firstPath; rest = refl; made = ap (path (t .start) (t .end)) (sym (zero-add _));
-      lies = standing t (omega arith) r; few = omega arith }
+    make = firstPath;
+    rest = refl;
+    made = ap (path (t .start) (t .end)) (sym (zero-add _));
+    lies = standing t (omega arith) r;
+    few = omega arith;
+  }
 
   module _ {text : List ℕ} {total : reader.Answer Way} {from start used : ℕ} {name : Token} (w : Walking text total from start used name) where
     pub walking-lost : fits root used (lexeme text name) ≡ false → {f : Refusal} → f ≡ turnedAway (length text) (noName root (lexeme text name)) name → Turned text total f
@@ -81,8 +85,12 @@ module _ (left : Bool) (root : Root) where
       pub walking-ends : (dot .kind ≡ kinds.dot → ⊥) → Walked text from total (found-path start (name .end) 0 dot)
       unfolding goesOn spannedBy callAfter
       walking-ends n = record {
-          way = plain here; span-is = refl; call-is = refl; lies = dot-lies;
-          is = named ∙ way-step (exitOf left) root (plain here) (stream text dot) ∙ next-off text dot (goesOn (plain here)) _ _ (ne-eqb _ _ n) }
+        way = plain here;
+        span-is = refl;
+        call-is = refl;
+        lies = dot-lies;
+        is = named ∙ way-step (exitOf left) root (plain here) (stream text dot) ∙ next-off text dot (goesOn (plain here)) _ _ (ne-eqb _ _ n);
+      }
 
       module _ (d : dot .kind ≡ kinds.dot) (word : Token) (q′ : word ≡ tokenAt text (dot .end)) (s′ : Reads text (dot .end) word) where
         after-dot : total ≡ bind (read-next-name (exitOf left) root (plain here) (stream text word)) (onwards goesOn next-name)
@@ -100,19 +108,23 @@ module _ (left : Bool) (root : Root) where
             let x = lexeme text word in
             let out = calls left x n in
             record {
-              way = calling here (whichOf x); span-is = refl; call-is = call-is left x n;
+              way = calling here (whichOf x);
+              span-is = refl;
+              call-is = call-is left x n;
               lies = let l = word-lies .low in lowered (omega arith) (past word word-lies (exit-some left x out) s″);
               is = after-dot ∙ rw (next-on text word (exitOf left) _ _ next (exit-some left x out) (s′ .high) q″ out)
-                  (way-step (exitOf left) root (calling here (whichOf x)) (stream text next) ∙ next-off text next (goesOn (calling here (whichOf x))) _ _ refl) }
+                  (way-step (exitOf left) root (calling here (whichOf x)) (stream text next) ∙ next-off text next (goesOn (calling here (whichOf x))) _ _ refl);
+            }
 
         pub walking-on : callOf left (word .kind) ≡ 0 → Walking text total from start (used + (name .end - name .start) + 1) word
         unfolding read-next-name
         walking-on n = record {
-            make = longerPath here;
-            rest = after-dot ∙ rw (next-off text word (exitOf left) (λ x. took (calling here (whichOf x))) (name-of (here .used + 1) (longerPath here)) (no-call left (lexeme text word) n));
-            made = refl;
-            lies = lowered (omega arith) word-lies;
-            few = let a = w .few in let b = w .lies .order in let c = s .low in let o = s′ .low in let y = s .some (λ (z : dot .kind ≡ 0). omega arith) in omega arith }
+          make = longerPath here;
+          rest = after-dot ∙ rw (next-off text word (exitOf left) (λ x. took (calling here (whichOf x))) (name-of (here .used + 1) (longerPath here)) (no-call left (lexeme text word) n));
+          made = refl;
+          lies = lowered (omega arith) word-lies;
+          few = let a = w .few in let b = w .lies .order in let c = s .low in let o = s′ .low in let y = s .some (λ (z : dot .kind ≡ 0). omega arith) in omega arith;
+        }
 
 -- ---- what a path's answer tells
 

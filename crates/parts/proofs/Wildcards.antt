@@ -1,5 +1,5 @@
 -- A pattern looked at byte by byte. Assumes nothing.
-use mathlib.Core.Path.{_≡_, refl, sym, _∙_, ap}
+use mathlib.Core.Path.{_≡_, refl, sym, _∙_}
 use mathlib.Core.Bool.{Bool, true, false, cond, not, _&&_, _||_}
 use mathlib.Core.List.{List, [], _∷_}
 use Prim.Native.Nat.{ℕ, zero, suc, _+_, _-_, _≤_, _<_}
@@ -12,8 +12,7 @@ use lib.Seq.{drop-cons, drop-drop, take-take, take-nil, length-take-le}
 use borrow.Author.Tests.{lt-leb, le-leb}
 use mir.Val.{boolByte}
 use Rattle.tokens.specs.declared.reader.Token.{Token}
-use Rattle.tokens.specs.Tokens.{Reads}
-use Rattle.reading.specs.Lexemes.{Lexeme, lexeme, size}
+use Rattle.reading.specs.Lexemes.{lexeme}
 use Rattle.grammar.specs.Rules.{inside, isWildcard, wildcards, plain, isPattern}
 
 -- the bytes from a place up to the last before `end`, which is a quote
@@ -58,17 +57,22 @@ module _ {text : List ℕ} {end start many : ℕ} {star : Bool} {i : ℕ} (s : S
       → Seen text end start (many + boolByte (isWildcard (getD text i 0))) (eqb (getD text i 0) 42) (i + 1)
   unfolding wildcards plain
   seen-more h e = record {
-      low = let x = s .low in omega arith; high = omega arith; fits = s .fits;
-      few = few-more (isWildcard (getD text i 0)) (s .few);
-      wild = s .wild ∙ rw (between-byte text end i h (s .fits)) (count (isWildcard (getD text i 0)) (wildcards (between text end (i + 1))));
-      plainly = s .plainly ∙ rw (between-byte text end i h (s .fits)) (goes (eqb (getD text i 0) 91) (eqb (getD text i 0) 123) (star && eqb (getD text i 0) 42) _ e) }
+    low = let x = s .low in omega arith;
+    high = omega arith;
+    fits = s .fits;
+    few = few-more (isWildcard (getD text i 0)) (s .few);
+    wild = s .wild ∙ rw (between-byte text end i h (s .fits)) (count (isWildcard (getD text i 0)) (wildcards (between text end (i + 1))));
+    plainly = s .plainly ∙ rw (between-byte text end i h (s .fits)) (goes (eqb (getD text i 0) 91) (eqb (getD text i 0) 123) (star && eqb (getD text i 0) 42) _ e);
+  }
     where
       few-more : (b : Bool) → many ≤ i → many + boolByte b ≤ i + 1
       few-more true h = omega arith
       few-more false h = omega arith
+
       count : (b : Bool) (n : ℕ) → many + cond b (suc n) n ≡ many + boolByte b + n
       count true n = omega arith
       count false n = omega arith
+
       goes : (a b d f : Bool) → (a || b || d) ≡ false → not a && not b && not d && f ≡ f
       goes false false false f e = refl
       goes true b d f e = absurd (let z : _≡_ {A = ℕ} 0 1 = cc in omega arith)
@@ -87,6 +91,7 @@ module _ {text : List ℕ} {end start many : ℕ} {star : Bool} {i : ℕ} (s : S
       stops false true d f e = refl
       stops false false true f e = refl
       stops false false false f e = absurd (let z : _≡_ {A = ℕ} 0 1 = cc in omega arith)
+
       no-right : (b : Bool) → false ≡ b && false
       no-right true = refl
       no-right false = refl

@@ -1,5 +1,5 @@
 -- What one entry after another leaves in the table and in the answer, for readers of any value. Assumes nothing.
-use mathlib.Core.Path.{_≡_, refl, _∙_, sym, ap, subst}
+use mathlib.Core.Path.{_≡_, refl, _∙_, sym, subst}
 use mathlib.Core.List.{List, [], _∷_, _++_}
 use mathlib.Core.Bool.{Bool, true, false, _&&_}
 use Prim.Native.Nat.{ℕ, _+_, _≤_, _<_}
@@ -13,24 +13,24 @@ use Rattle.tokens.specs.Tokens.{tokenAt, Reads}
 use Rattle.tokens.proofs.ReadLaws.{reads}
 use Rattle.reading.specs.Lexemes.{Lexeme, is, stream}
 use Rattle.reading.specs.Reader as reader
-use Rattle.reading.specs.Reader.{Reader, took, refuse, bind, need, ten, refuseBy}
-use Rattle.reading.proofs.Stream.{next-on, next-off}
+use Rattle.reading.specs.Reader.{took, bind, need}
 use Rattle.table.specs.declared.Entry.{Entry}
 use Rattle.table.specs.Layout.{putAt, puts, entryIs, held}
 use Rattle.table.proofs.Holding.{puts-append, held-append, and-assoc, and-true}
-use Rattle.parts.specs.Answers.{Turned, Counted, Taken, Says, read, refused, Put, put, no-put, Done, closedOf, EntryPut, expectedOf, turnedAway, freeOf, Counts, Next}
+use Rattle.parts.specs.Answers.{Turned, Counted, Taken, Says, read, refused, Put, put, no-put, Done, closedOf, EntryPut, expectedOf, freeOf, Counts, Next}
 use Rattle.parts.specs.declared.answers.Refusal.{Refusal}
 use Rattle.parts.specs.declared.answers.Answer.{Answer}
 use Rattle.parts.specs.declared.answers.Answer.the-variants.{Read, Refused}
-use Rattle.parts.proofs.Standing.{lowered, past, turned-as, turned-bind, need-on, need-off}
+use Rattle.parts.proofs.Standing.{lowered, turned-as, turned-bind, need-on, need-off}
 
 -- ---- entries one after another
 
 pub counted-append : {seen : List ℕ} (a b : List Entry) {first free free′ : ℕ} {same ok ok′ : Bool} → Counted seen a first same free ok → Counted seen b free ok free′ ok′
     → Counted seen (a ++ b) first same free′ ok′
 counted-append {seen} a b {first} {free} {free′} {same} {ok} {ok′} h k = record {
-    free-is = let l = length-append a b in let x = h .free-is in let y = k .free-is in omega arith;
-    ok-is = k .ok-is ∙ rw (h .ok-is, h .free-is, held-append seen first a b, and-assoc same) }
+  free-is = let l = length-append a b in let x = h .free-is in let y = k .free-is in omega arith;
+  ok-is = k .ok-is ∙ rw (h .ok-is, h .free-is, held-append seen first a b, and-assoc same);
+}
 
 -- entries from number `first` on: they are counted, compared and put, and the table is now T
 pub record Kept (seen T₀ : List ℕ) (first : ℕ) (same : Bool) (es : List Entry) (free : ℕ) (ok : Bool) (T : List ℕ) : Type 0 where
@@ -44,8 +44,9 @@ kept-none seen T first same = record { counted = record { free-is = sym (add-zer
 pub kept-append : {seen T₀ T T₂ : List ℕ} {first free free₂ : ℕ} {same ok ok₂ : Bool} {a b : List Entry} → Kept seen T₀ first same a free ok T → Kept seen T free ok b free₂ ok₂ T₂
     → Kept seen T₀ first same (a ++ b) free₂ ok₂ T₂
 kept-append {T₀ = T₀} {first = first} {a = a} {b = b} h k = record {
-    counted = counted-append a b (h .counted) (k .counted);
-    stored = k .stored ∙ rw (puts-append T₀ first a b, h .stored, h .counted .free-is) }
+  counted = counted-append a b (h .counted) (k .counted);
+  stored = k .stored ∙ rw (puts-append T₀ first a b, h .stored, h .counted .free-is);
+}
 
 pub kept-one : {seen T T₂ : List ℕ} {free : ℕ} {ok ok₂ : Bool} (x : Entry) → (ok₂ ≡ ok && entryIs seen free x) × (T₂ ≡ putAt T free x) → Kept seen T free ok (x ∷ []) (free + 1) ok₂ T₂
 unfolding held puts
@@ -69,8 +70,9 @@ module _ {A : Type 0} {es : ℕ → A → List Entry} where
     pub settled : {next : Token} {free : ℕ} {ok : Bool} {T T₁ : List ℕ} {p : reader.Answer A} (v : A) → p ≡ took v (stream text next) → Reads text (from + 1) next
         → free + from ≤ next .start + first → Kept seen T first same (es first v) free ok T₁ → Done es text seen from first same T T₁ p (Read next free ok)
     settled {next} {free} {ok} {T} {T₁} {p} v e lies room k = record {
-        says = read (record { value = v; is = e; lies = lies; room = room; counted = k .counted });
-        wrote = subst (Put es first T T₁) (sym e) (put (k .stored)) }
+      says = read (record { value = v; is = e; lies = lies; room = room; counted = k .counted });
+      wrote = subst (Put es first T T₁) (sym e) (put (k .stored));
+    }
 
     -- one entry is all that a value has
     pub one-done : {next : Token} {ok : Bool} {T T₁ : List ℕ} {p : reader.Answer A} (v : A) {x : Entry} → es first v ≡ x ∷ [] → p ≡ took v (stream text next) → Reads text (from + 1) next
@@ -181,6 +183,7 @@ module _ {A : Type 0} {es : ℕ → A → List Entry} {text seen : List ℕ} {fr
       at-token t free ok k w false e c =
           subst (Done es text seen from first same T T₁ (bind p (λ v. need kind (took v)))) (sym (c ∙ rw e))
           (turned-done (turned-as (rw (k .is)) (need-off text t kind (took (k .value)) (eqb-false _ _ e) refl)))
+
       go : (r : Answer) → Says es text seen from first same p r → Put es first T T₁ p → r₂ ≡ expectedOf text kind r → Done es text seen from first same T T₁ (bind p (λ v. need kind (took v))) r₂
       go (Read t free ok) (read k) w c = at-token t free ok k w (eqb (t .kind) kind) refl c
       go (Refused g) (refused k) w c = subst (Done es text seen from first same T T₁ (bind p (λ v. need kind (took v)))) (sym c) (turned-done (turned-bind (λ v. need kind (took v)) k))

@@ -12,11 +12,11 @@ use Rattle.tokens.specs.Tokens.{tokenAt, Reads}
 use Rattle.reading.specs.Lexemes.{Lexeme, size, stream}
 use Rattle.reading.specs.Reader as reader
 use Rattle.reading.specs.Reader.{took, refuse}
-use Rattle.grammar.specs.Policies.{Span, span}
+use Rattle.grammar.specs.Policies.{span}
 use Rattle.grammar.specs.Parser as parser
 use Rattle.grammar.specs.Parser.{plain, calling, spannedBy}
 use Rattle.table.specs.declared.Entry.{Entry}
-use Rattle.table.specs.Entries.{entry, whichKind}
+use Rattle.table.specs.Entries.{whichKind}
 use Rattle.table.specs.Layout.{putAt, puts, entryIs, held}
 use Rattle.parts.specs.declared.answers.Refusal.{Refusal}
 use Rattle.parts.specs.declared.answers.Answer.{Answer}

@@ -1,6 +1,6 @@
 // What a reader answers, how a token is refused, and what closes a thing that was read.
 ghost use mathlib.Core.Path.{_≡_};
-ghost use Prim.Native.Nat.{ℕ, _-_, _<_, _≤_, _^_};
+ghost use Prim.Native.Nat.{_-_, _<_, _≤_, _^_};
 ghost use lib.ListN.{length};
 ghost use Rattle.tokens.specs.Table.{classTable};
 ghost use Rattle.table.specs.Entries.{entry};
@@ -72,7 +72,17 @@ pub fn counted(table: &mut [u8], seen: &[u8], last: Answer, kind: u8, from: usiz
     let Answer::Read(next, free, same) = last else {
         return last;
     };
-    let ok = append(table, seen, free, same, Entry { kind, first: free - from, second: 0 });
+    let ok = append(
+        table,
+        seen,
+        free,
+        same,
+        Entry {
+            kind,
+            first: free - from,
+            second: 0,
+        },
+    );
     Answer::Read(next, free + 1, ok)
 }
 

@@ -1,10 +1,6 @@
 // Literals, and lists of them.
 ghost use mathlib.Core.Path.{_≡_};
 ghost use mathlib.Core.List.{[]};
-ghost use Prim.Native.Nat.{ℕ, _<_, _≤_, _^_};
-ghost use lib.ListN.{length};
-ghost use Rattle.tokens.specs.Table.{classTable};
-ghost use Rattle.tokens.specs.Tokens.{Reads};
 ghost use Rattle.reading.specs.Lexemes.{lexeme, stream};
 ghost use Rattle.grammar.specs.Rules.{isLiteral, literalOf};
 ghost use Rattle.grammar.specs.Parser.{read-list};
@@ -33,15 +29,31 @@ pub fn literal_entry(t: Token) -> Entry
     ensures { λ r. ⌜ r ≡ literalEntry (literalOf (lexeme [] t)) ⌝ }
 {
     if t.kind == kinds::STRING {
-        return Entry { kind: 9, first: t.start, second: t.end };
+        return Entry {
+            kind: 9,
+            first: t.start,
+            second: t.end,
+        };
     }
     if t.kind == kinds::NUMBER {
-        return Entry { kind: 10, first: t.start, second: t.end };
+        return Entry {
+            kind: 10,
+            first: t.start,
+            second: t.end,
+        };
     }
     if t.kind == kinds::TRUE {
-        Entry { kind: 11, first: 0, second: 0 }
+        Entry {
+            kind: 11,
+            first: 0,
+            second: 0,
+        }
     } else {
-        Entry { kind: 12, first: 0, second: 0 }
+        Entry {
+            kind: 12,
+            first: 0,
+            second: 0,
+        }
     }
 }
 
@@ -49,7 +61,11 @@ pub fn literal_entry(t: Token) -> Entry
 fn is_sort(strings: bool, t: Token) -> bool
     ensures { λ r. ⌜ r ≡ sortOf strings (lexeme [] t) ⌝ }
 {
-    if strings { t.kind == kinds::STRING } else { is_literal(t) }
+    if strings {
+        t.kind == kinds::STRING
+    } else {
+        is_literal(t)
+    }
 }
 
 // A list after its `[`: 1 to 16 literals with commas between them, and `]`.

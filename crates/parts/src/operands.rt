@@ -1,10 +1,5 @@
 // Operands: attributes and literals.
-ghost use mathlib.Core.Path.{_≡_};
 ghost use mathlib.Core.List.{[], _∷_};
-ghost use Prim.Native.Nat.{ℕ, _+_, _-_, _<_, _≤_, _^_};
-ghost use lib.ListN.{length};
-ghost use Rattle.tokens.specs.Table.{classTable};
-ghost use Rattle.tokens.specs.Tokens.{Reads};
 ghost use Rattle.reading.specs.Lexemes.{stream};
 ghost use Rattle.grammar.specs.Parser.{read-attribute, read-operand};
 ghost use Rattle.table.specs.Entries.{rootKind, placed, operandEntry};
@@ -17,7 +12,6 @@ use crate::lists::literal_entry;
 use crate::paths::is_root;
 use crate::paths::read_placed;
 use crate::paths::root_kind;
-use table::Entry;
 use table::append;
 use tokens::reader::Token;
 use tokens::reader::next_token;
@@ -41,11 +35,29 @@ pub fn read_attribute(
         return Answer::Refused(turned_away(text, t, 10));
     }
     let name = next_token(classes, text, t.end);
-    read_placed(classes, text, table, seen, root, root_kind(root), name, number, same)
+    read_placed(
+        classes,
+        text,
+        table,
+        seen,
+        root,
+        root_kind(root),
+        name,
+        number,
+        same,
+    )
 }
 
 // An operand that is not the left one.
-pub fn read_operand(classes: &[u8; 256], text: &[u8], table: &mut [u8], seen: &[u8], t: Token, number: usize, same: bool) -> Answer
+pub fn read_operand(
+    classes: &[u8; 256],
+    text: &[u8],
+    table: &mut [u8],
+    seen: &[u8],
+    t: Token,
+    number: usize,
+    same: bool,
+) -> Answer
     requires { ⌜ Ready (now classes) (now text) number t ⌝ }
     ensures { λ r. ⌜ Done (λ e a. operandEntry a ∷ []) (now (text .entry)) (now (seen .entry)) (t .start) number same
         (now (table .entry)) (now (table .exit)) (read-operand (stream (now (text .entry)) t)) r ⌝ }

@@ -1,14 +1,12 @@
 // Conditions that hold no other: what follows a left operand, and what follows a root.
 ghost use mathlib.Core.Path.{_≡_};
-ghost use mathlib.Core.List.{[], _∷_};
-ghost use Prim.Native.Nat.{ℕ, _+_, _-_, _<_, _≤_, _^_};
+ghost use mathlib.Core.List.{[]};
+ghost use Prim.Native.Nat.{_+_, _-_, _<_, _^_};
 ghost use lib.ListN.{length};
-ghost use Rattle.tokens.specs.Table.{classTable};
 ghost use Rattle.tokens.specs.Tokens.{Reads};
 ghost use Rattle.reading.specs.Lexemes.{lexeme, stream};
 ghost use Rattle.reading.specs.Reader.{mapped};
 ghost use Rattle.grammar.specs.Policies.{Span, span, Root, Comparator, Operand, compare, attribute, Which};
-ghost use Rattle.grammar.specs.Rules.{isComparator};
 ghost use Rattle.grammar.specs.Parser as parser;
 ghost use Rattle.grammar.specs.Parser.{read-operand, read-bare, read-in, read-pattern, read-operator, read-call, read-rest, read-rooted, bare, spannedBy};
 ghost use Rattle.table.specs.Entries.{operandEntry, treeEntries, comparatorKind, whichKind};
@@ -24,10 +22,10 @@ use crate::operands::read_attribute;
 use crate::operands::read_operand;
 use crate::paths::Path;
 use crate::paths::Way;
+use crate::paths::has_kind;
 use crate::paths::is_root;
 use crate::paths::read_placed;
 use crate::paths::read_way;
-use crate::paths::has_kind;
 use crate::paths::root_kind;
 use crate::patterns::is_pattern;
 use table::Entry;
@@ -56,7 +54,13 @@ fn no_operator(t: Token) -> u8
     ensures { λ r. ⌜ r ≡ bare (lexeme [] t) ⌝ }
 {
     let k = t.kind;
-    if (k == kinds::AND) | (k == kinds::OR) | (k == b')') | (k == b'}') | (k == kinds::THEN) | (k == kinds::ELSE) {
+    if (k == kinds::AND)
+        | (k == kinds::OR)
+        | (k == b')')
+        | (k == b'}')
+        | (k == kinds::THEN)
+        | (k == kinds::ELSE)
+    {
         8
     } else {
         10
@@ -81,7 +85,16 @@ fn read_compared(
 {
     let ok = append(table, seen, number, same, left);
     let right = read_operand(classes, text, table, seen, t, number + 1, ok);
-    closed(table, seen, right, Entry { kind, first: 0, second: 0 })
+    closed(
+        table,
+        seen,
+        right,
+        Entry {
+            kind,
+            first: 0,
+            second: 0,
+        },
+    )
 }
 
 // After `like`.
@@ -108,7 +121,17 @@ fn read_pattern(
     let next = next_token(classes, text, t.end);
     let ok = append(table, seen, number, same, left);
     let last = number + 1;
-    let ok = append(table, seen, last, ok, Entry { kind: 19, first: t.start, second: t.end });
+    let ok = append(
+        table,
+        seen,
+        last,
+        ok,
+        Entry {
+            kind: 19,
+            first: t.start,
+            second: t.end,
+        },
+    );
     Answer::Read(next, last + 1, ok)
 }
 
@@ -136,13 +159,30 @@ fn read_in(
     if is_root(t) {
         let dot = next_token(classes, text, t.end);
         let right = read_attribute(classes, text, table, seen, t.kind, dot, number + 1, ok);
-        return closed(table, seen, right, Entry { kind: 21, first: 0, second: 0 });
+        return closed(
+            table,
+            seen,
+            right,
+            Entry {
+                kind: 21,
+                first: 0,
+                second: 0,
+            },
+        );
     }
     Answer::Refused(turned_away(text, t, 10))
 }
 
 // After a left operand that no operator follows.
-fn read_bare(text: &[u8], table: &mut [u8], seen: &[u8], left: Entry, t: Token, number: usize, same: bool) -> Answer
+fn read_bare(
+    text: &[u8],
+    table: &mut [u8],
+    seen: &[u8],
+    left: Entry,
+    t: Token,
+    number: usize,
+    same: bool,
+) -> Answer
     requires { ⌜ Reads (now text) (number + 1) t × (length (now text) < 2 ^ 60) ⌝ }
     ensures { λ r. ⌜ ((a : Operand) → operandEntry a ≡ left → Done treeEntries (now (text .entry)) (now (seen .entry)) (t .start - 1) number same
         (now (table .entry)) (now (table .exit)) (read-bare a (stream (now (text .entry)) t)) r) ⌝ }
@@ -175,7 +215,17 @@ pub fn read_operator(
     let comparator = comparator_kind(t.kind);
     if comparator != 0 {
         let next = next_token(classes, text, t.end);
-        return read_compared(classes, text, table, seen, left, comparator, next, number, same);
+        return read_compared(
+            classes,
+            text,
+            table,
+            seen,
+            left,
+            comparator,
+            next,
+            number,
+            same,
+        );
     }
     if t.kind == kinds::LIKE {
         let next = next_token(classes, text, t.end);
@@ -233,11 +283,25 @@ fn read_rest(
     ensures { λ r. ⌜ ((way : parser.Way) → spannedBy way ≡ span (path .start) (path .end) → callAfter way ≡ path .call → Done treeEntries (now (text .entry)) (now (seen .entry))
         (path .next .start - 1) number same (now (table .entry)) (now (table .exit)) (read-rest (rootFrom root) way (stream (now (text .entry)) (path .next))) r) ⌝ }
 {
-    let left = Entry { kind: root_kind(root), first: path.start, second: path.end };
+    let left = Entry {
+        kind: root_kind(root),
+        first: path.start,
+        second: path.end,
+    };
     if path.call == 0 {
         return read_operator(classes, text, table, seen, left, path.next, number, same);
     }
-    read_call(classes, text, table, seen, path.call, left, path.next, number, same)
+    read_call(
+        classes,
+        text,
+        table,
+        seen,
+        path.call,
+        left,
+        path.next,
+        number,
+        same,
+    )
 }
 
 // After a root: a left operand, or `has` and a path.
@@ -265,7 +329,17 @@ pub fn read_rooted(
     }
     if t.kind == kinds::HAS {
         let name = next_token(classes, text, t.end);
-        return read_placed(classes, text, table, seen, root, has_kind(root), name, number, same);
+        return read_placed(
+            classes,
+            text,
+            table,
+            seen,
+            root,
+            has_kind(root),
+            name,
+            number,
+            same,
+        );
     }
     Answer::Refused(turned_away(text, t, 10))
 }

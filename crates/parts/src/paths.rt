@@ -1,12 +1,10 @@
 // Paths: names joined by dots.
 ghost use mathlib.Core.Path.{_≡_};
 ghost use mathlib.Core.List.{[], _∷_};
-ghost use Prim.Native.Nat.{ℕ, _+_, _-_, _<_, _≤_, _^_};
-ghost use lib.ListN.{length};
-ghost use Rattle.tokens.specs.Table.{classTable};
+ghost use Prim.Native.Nat.{_≤_, _^_};
 ghost use Rattle.tokens.specs.Tokens.{Reads};
 ghost use Rattle.reading.specs.Lexemes.{lexeme, stream};
-ghost use Rattle.grammar.specs.Rules.{isRoot, isContains, admitted};
+ghost use Rattle.grammar.specs.Rules.{isRoot, admitted};
 ghost use Rattle.grammar.specs.Parser.{noName, read-way, read-path};
 ghost use Rattle.table.specs.Entries.{rootKind, hasKind, placed};
 ghost use Rattle.parts.specs.Answers.{Ready, Done, Walks};
@@ -68,7 +66,11 @@ fn call_kind(left: bool, word: u8) -> u8
     if left & (word == kinds::CONTAINS_ALL) {
         return 22;
     }
-    if left & (word == kinds::CONTAINS_ANY) { 23 } else { 0 }
+    if left & (word == kinds::CONTAINS_ANY) {
+        23
+    } else {
+        0
+    }
 }
 
 // The number by which a token is refused that stands for a name.
@@ -158,7 +160,17 @@ pub fn read_placed(
         Way::Lost(f) => Answer::Refused(f),
         Way::Found(p) => {
             let next = p.next;
-            let ok = append(table, seen, number, same, Entry { kind, first: p.start, second: p.end });
+            let ok = append(
+                table,
+                seen,
+                number,
+                same,
+                Entry {
+                    kind,
+                    first: p.start,
+                    second: p.end,
+                },
+            );
             Answer::Read(next, number + 1, ok)
         }
     }

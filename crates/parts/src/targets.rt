@@ -2,7 +2,7 @@
 ghost use mathlib.Core.Path.{_≡_};
 ghost use mathlib.Core.List.{[], _∷_};
 ghost use mathlib.Core.Bool.{cond};
-ghost use Prim.Native.Nat.{ℕ, _+_, _-_, _<_, _≤_, _^_};
+ghost use Prim.Native.Nat.{_+_, _-_};
 ghost use Rattle.slices.specs.Same.{same};
 ghost use Rattle.reading.specs.Lexemes.{stream};
 ghost use Rattle.grammar.specs.Rules.{typeAmong, principalTypes, resourceTypes};
@@ -48,7 +48,11 @@ fn resource_type(name: &[u8]) -> usize
 fn type_number(resource: bool, name: &[u8]) -> usize
     ensures { λ r. ⌜ r ≡ typeAmong (typesOf resource) 1 (now (name .entry)) ⌝ }
 {
-    if resource { resource_type(name) } else { principal_type(name) }
+    if resource {
+        resource_type(name)
+    } else {
+        principal_type(name)
+    }
 }
 
 // After `is`.
@@ -76,12 +80,30 @@ fn read_type(
         return Answer::Refused(turned_away(text, t, 9));
     }
     let next = next_token(classes, text, t.end);
-    let ok = append(table, seen, number, same, Entry { kind: 30, first: sort, second: 0 });
+    let ok = append(
+        table,
+        seen,
+        number,
+        same,
+        Entry {
+            kind: 30,
+            first: sort,
+            second: 0,
+        },
+    );
     Answer::Read(next, number + 1, ok)
 }
 
 // After principal.
-pub fn read_principal(classes: &[u8; 256], text: &[u8], table: &mut [u8], seen: &[u8], t: Token, number: usize, same: bool) -> Answer
+pub fn read_principal(
+    classes: &[u8; 256],
+    text: &[u8],
+    table: &mut [u8],
+    seen: &[u8],
+    t: Token,
+    number: usize,
+    same: bool,
+) -> Answer
     requires { ⌜ Ready (now classes) (now text) (number + 1) t ⌝ }
     ensures { λ r. ⌜ Done (λ e p. partEntry p ∷ []) (now (text .entry)) (now (seen .entry)) (t .start - 1) number same (now (table .entry)) (now (table .exit))
         (read-principal (stream (now (text .entry)) t)) r ⌝ }
@@ -90,12 +112,30 @@ pub fn read_principal(classes: &[u8; 256], text: &[u8], table: &mut [u8], seen: 
         let next = next_token(classes, text, t.end);
         return read_type(classes, text, table, seen, false, next, number, same);
     }
-    let ok = append(table, seen, number, same, Entry { kind: 29, first: 0, second: 0 });
+    let ok = append(
+        table,
+        seen,
+        number,
+        same,
+        Entry {
+            kind: 29,
+            first: 0,
+            second: 0,
+        },
+    );
     Answer::Read(t, number + 1, ok)
 }
 
 // After action.
-pub fn read_action(classes: &[u8; 256], text: &[u8], table: &mut [u8], seen: &[u8], t: Token, number: usize, same: bool) -> Answer
+pub fn read_action(
+    classes: &[u8; 256],
+    text: &[u8],
+    table: &mut [u8],
+    seen: &[u8],
+    t: Token,
+    number: usize,
+    same: bool,
+) -> Answer
     requires { ⌜ Ready (now classes) (now text) (number + 1) t ⌝ }
     ensures { λ r. ⌜ Done (λ e. actionEntries) (now (text .entry)) (now (seen .entry)) (t .start - 1) number same (now (table .entry)) (now (table .exit))
         (read-action (stream (now (text .entry)) t)) r ⌝ }
@@ -109,12 +149,30 @@ pub fn read_action(classes: &[u8; 256], text: &[u8], table: &mut [u8], seen: &[u
         let list = read_list(classes, text, table, seen, true, first, number, same);
         return counted(table, seen, list, 33, number);
     }
-    let ok = append(table, seen, number, same, Entry { kind: 32, first: 0, second: 0 });
+    let ok = append(
+        table,
+        seen,
+        number,
+        same,
+        Entry {
+            kind: 32,
+            first: 0,
+            second: 0,
+        },
+    );
     Answer::Read(t, number + 1, ok)
 }
 
 // After resource.
-pub fn read_resource(classes: &[u8; 256], text: &[u8], table: &mut [u8], seen: &[u8], t: Token, number: usize, same: bool) -> Answer
+pub fn read_resource(
+    classes: &[u8; 256],
+    text: &[u8],
+    table: &mut [u8],
+    seen: &[u8],
+    t: Token,
+    number: usize,
+    same: bool,
+) -> Answer
     requires { ⌜ Ready (now classes) (now text) (number + 1) t ⌝ }
     ensures { λ r. ⌜ Done (λ e p. partEntry p ∷ []) (now (text .entry)) (now (seen .entry)) (t .start - 1) number same (now (table .entry)) (now (table .exit))
         (read-resource (stream (now (text .entry)) t)) r ⌝ }
@@ -129,9 +187,29 @@ pub fn read_resource(classes: &[u8; 256], text: &[u8], table: &mut [u8], seen: &
             return Answer::Refused(turned_away(text, s, 10));
         }
         let next = next_token(classes, text, s.end);
-        let ok = append(table, seen, number, same, Entry { kind: 31, first: s.start, second: s.end });
+        let ok = append(
+            table,
+            seen,
+            number,
+            same,
+            Entry {
+                kind: 31,
+                first: s.start,
+                second: s.end,
+            },
+        );
         return Answer::Read(next, number + 1, ok);
     }
-    let ok = append(table, seen, number, same, Entry { kind: 29, first: 0, second: 0 });
+    let ok = append(
+        table,
+        seen,
+        number,
+        same,
+        Entry {
+            kind: 29,
+            first: 0,
+            second: 0,
+        },
+    );
     Answer::Read(t, number + 1, ok)
 }

@@ -19,7 +19,7 @@ use Rattle.bags.specs.declared.After.the-variants.{At, Bad}
 use Rattle.bags.specs.declared.sections.Sections.{Sections}
 use Rattle.bags.specs.declared.sections.Divided.{Divided}
 use Rattle.bags.specs.declared.sections.Divided.the-variants.{In, Broken}
-use Rattle.bags.proofs.ReadLaws.{same-end, and-true, only-at, many-inside}
+use Rattle.bags.proofs.ReadLaws.{same-end, and-true, only-at}
 use Rattle.bags.proofs.ValueLaws.{value-inside}
 use Rattle.bags.proofs.SectionLaws.{sections-at}
 use Rattle.lookups.specs.Values.{Valued}
@@ -126,12 +126,6 @@ column-at s at e h =
 
 pub column-next-is : (s : List ℕ) (at e x : ℕ) → columnEnd s at ≡ At e → many (byte s (countAt s at)) (candidateEnd s) (countAt s at + 1) ≡ At x → columnEnd s at ≡ At x
 column-next-is s at e x h q = rw (same-end (column-at s at e h .candidates) q) at h
-
-pub column-inside : (s : List ℕ) (at e : ℕ) → columnEnd s at ≡ At e → (at ≤ e) × (e ≤ length s)
-column-inside s at e h =
-    let c = column-at s at e h in
-    let i = many-inside (candidateEnd s) (length s) (candidate-inside s) (byte s (countAt s at)) (countAt s at + 1) e (omega (arith, c .counted)) (c .candidates) in
-    (omega (arith, i .0), i .1)
 
 -- ---- several with different names
 

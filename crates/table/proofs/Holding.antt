@@ -1,16 +1,15 @@
 -- Entries put into a table one after another, and a table compared with them. Assumes nothing.
 use mathlib.Core.Path.{_≡_, refl, sym, _∙_, ap}
-use mathlib.Core.Logic.{_↔_}
 use mathlib.Core.Bool.{Bool, true, false, cond, _&&_}
 use mathlib.Core.List.{List, [], _∷_, _++_, append-assoc, append-nil}
-use Prim.Native.Nat.{ℕ, zero, suc, _+_, _*_, _/_, _%_, _≤_, _<_}
+use Prim.Native.Nat.{ℕ, suc, _+_, _*_, _/_, _%_, _≤_, _<_}
 use native.Mathlib.Omega.{arith}
 use native.Mathlib.Nat.{add-zero}
 use native.Mathlib.Numerals.{towards-suc}
-use lib.ListN.{length, take, drop, getD, length-append, length-drop}
+use lib.ListN.{length, drop, getD, length-append, length-drop}
 use lib.Seq.{sets, sets-eq, length-sets, drop-cons, drop-drop, take-at, drop-append-add}
-use lib.Dec.{eqb, leb}
-use borrow.Author.Tests.{eqb-true, eqb-false, eq-eqb, le-leb, lt-leb, leb-true, leb-false}
+use lib.Dec.{eqb}
+use borrow.Author.Tests.{eqb-true, eqb-false, eq-eqb, le-leb, leb-true, leb-false}
 use Rattle.table.specs.declared.Entry.{Entry}
 use Rattle.table.specs.Entries.{entry}
 use Rattle.table.specs.Layout.{entrySize, entryBytes, bytesOf, fits, putAt, puts, numberOf, entryAt, entryIs, held, startsWith, Begins}
@@ -157,13 +156,18 @@ entry-back T e x f s h = go (fits T e) (eqb (getD T (entrySize * e) 0) (x .kind)
   where
     never : false ≡ true → ⊥
     never e = let z : _≡_ {A = ℕ} 0 1 = cc in omega arith
+
     go : (r k a b c d : Bool) → fits T e ≡ r → eqb (getD T (entrySize * e) 0) (x .kind) ≡ k → eqb (getD T (entrySize * e + 1) 0) (x .first % 256) ≡ a → eqb (getD T (entrySize * e + 2) 0) (x .first / 256 % 256) ≡ b
         → eqb (getD T (entrySize * e + 3) 0) (x .second % 256) ≡ c → eqb (getD T (entrySize * e + 4) 0) (x .second / 256 % 256) ≡ d → r && k && a && b && c && d ≡ true
         → cond (fits T e) (entry (getD T (entrySize * e) 0) (numberOf (getD T (entrySize * e + 1) 0) (getD T (entrySize * e + 2) 0)) (numberOf (getD T (entrySize * e + 3) 0) (getD T (entrySize * e + 4) 0))) (entry 0 0 0) ≡ x
     go true true true true true true h₀ h₁ h₂ h₃ h₄ h₅ e₀ =
         let byte : (i n : ℕ) → eqb (getD T i 0) n ≡ true → getD T i 0 ≡ n = λ i n. eqb-true (getD T i 0) n in
-        rw (h₀, byte (entrySize * e) (x .kind) h₁, field-back (getD T (entrySize * e + 1) 0) (getD T (entrySize * e + 2) 0) (x .first) f (byte _ _ h₂) (byte _ _ h₃),
-        field-back (getD T (entrySize * e + 3) 0) (getD T (entrySize * e + 4) 0) (x .second) s (byte _ _ h₄) (byte _ _ h₅))
+        rw (
+          h₀,
+          byte (entrySize * e) (x .kind) h₁,
+          field-back (getD T (entrySize * e + 1) 0) (getD T (entrySize * e + 2) 0) (x .first) f (byte _ _ h₂) (byte _ _ h₃),
+          field-back (getD T (entrySize * e + 3) 0) (getD T (entrySize * e + 4) 0) (x .second) s (byte _ _ h₄) (byte _ _ h₅),
+        )
     go false k a b c d h₀ h₁ h₂ h₃ h₄ h₅ e₀ = absurd (never e₀)
     go true false a b c d h₀ h₁ h₂ h₃ h₄ h₅ e₀ = absurd (never e₀)
     go true true false b c d h₀ h₁ h₂ h₃ h₄ h₅ e₀ = absurd (never e₀)
@@ -216,8 +220,13 @@ puts-behind (x ∷ es) T a e h l =
     let m = length-append (entryBytes x) (bytesOf es) in
     let k = length-append a (entryBytes x) in
     let d = length-drop (length (entryBytes x)) T in
-    rw (put-front x T a e h (omega arith), puts-behind es (drop (length (entryBytes x)) T) (a ++ entryBytes x) (e + 1) (omega arith) (omega arith),
-    append-assoc a (entryBytes x) (bytesOf es), drop-drop (length (bytesOf es)) (length (entryBytes x)) T, m)
+    rw (
+      put-front x T a e h (omega arith),
+      puts-behind es (drop (length (entryBytes x)) T) (a ++ entryBytes x) (e + 1) (omega arith) (omega arith),
+      append-assoc a (entryBytes x) (bytesOf es),
+      drop-drop (length (bytesOf es)) (length (entryBytes x)) T,
+      m,
+    )
 
 -- a table into which entries were put from its first byte on: their bytes, and then what was there
 pub puts-front : (es : List Entry) (T : List ℕ) → length (bytesOf es) ≤ length T → puts T 0 es ≡ bytesOf es ++ drop (length (bytesOf es)) T

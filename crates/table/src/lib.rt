@@ -31,7 +31,11 @@ pub fn entry_at(table: &[u8], number: usize) -> Entry
             second: number_of(table[p + 3], table[p + 4]),
         }
     } else {
-        Entry { kind: 0, first: 0, second: 0 }
+        Entry {
+            kind: 0,
+            first: 0,
+            second: 0,
+        }
     }
 }
 

@@ -1,74 +1,22 @@
-use Rattle.table.proofs.Fields.{is-by-fields}
-use Rattle.table.specs.Layout.{entryIs}
-use native.Mathlib.Omega.{arith}
+-- `table::entry_is` meets its contract: its two fields are compared as numbers, which says the same as their bytes. Assumes nothing.
 use Prim.Native.Nat.{ℕ, _<_}
+use native.Mathlib.Omega.{arith}
 use lib.ListN.{getD}
-use borrow.Author.Tests.{le-leb, lt-leb}
-use mathlib.Core.Path.{refl, _∙_, sym}
 use borrow.Author.Needs.{needs}
+use borrow.Author.Tests.{le-leb, lt-leb}
+use Rattle.table.specs.Layout.{entryIs}
+use Rattle.table.proofs.Fields.{is-by-fields}
 use Rattle.table.proofs.entry_is.Statement.{statement}
 use Rattle.table.proofs.entry_is.Tie as tie
-use Rattle.table.proofs.entry_is.Reads as reads
-use Rattle.table.proofs.entry_is.Lts as lts
-use Rattle.table.proofs.number_of.Reads as number-of-reads
 
--- src/lib.rt:43:13
-mul-p : tie.Need-mul-p
-mul-p c = search needs
-
--- src/lib.rt:44:8
-add-if1 : tie.Need-add-if1
-add-if1 c = search needs
-
--- src/lib.rt:45:20
-shared-slice-read-kind : tie.Need-shared-slice-read-kind
-shared-slice-read-kind c = search needs
-
--- src/lib.rt:46:37
-add-number-of : tie.Need-add-number-of
-add-number-of c = search needs
-
--- src/lib.rt:46:31
-shared-slice-read-number-of : tie.Need-shared-slice-read-number-of
-shared-slice-read-number-of c = search needs
-
--- src/lib.rt:46:51
-add-number-of-2 : tie.Need-add-number-of-2
-add-number-of-2 c = search needs
-
--- src/lib.rt:46:45
-shared-slice-read-number-of-2 : tie.Need-shared-slice-read-number-of-2
-shared-slice-read-number-of-2 c = search needs
-
--- src/lib.rt:46:21
-number-of-requires : tie.Need-number-of-requires
-number-of-requires c κs = search needs
-
--- src/lib.rt:47:38
-add-number-of-3 : tie.Need-add-number-of-3
-add-number-of-3 c = search needs
-
--- src/lib.rt:47:32
-shared-slice-read-number-of-3 : tie.Need-shared-slice-read-number-of-3
-shared-slice-read-number-of-3 c = search needs
-
--- src/lib.rt:47:52
-add-number-of-4 : tie.Need-add-number-of-4
-add-number-of-4 c = search needs
-
--- src/lib.rt:47:46
-shared-slice-read-number-of-4 : tie.Need-shared-slice-read-number-of-4
-shared-slice-read-number-of-4 c = search needs
-
--- src/lib.rt:47:22
-number-of-requires-2 : tie.Need-number-of-requires-2
-number-of-requires-2 c κs = search needs
-
--- src/lib.rt:39:1
 returns : tie.Need-returns
 returns c =
-    let bytes : (i : ℕ) → getD (c .before .before .before .before .before .before .before .before .before .before .before .before .args .table .now) i 0 < 256 = λ i. omega (arith, c .before .before .before .before .before .before .before .before .before .before .before .shared-slice-known .given i) in
-    rw (c .before .number-of2 .ensures, c .before .before .before .before .before .number-of .ensures) (is-by-fields _ _ _ (le-leb _ _ (c .before .before .before .before .before .before .before .before .before .before .if1 .taken)) bytes)
+    let at-number-of = c .before .before .before .before .before in
+    let at-if1 = at-number-of .before .before .before .before .before in
+    let at-shared-slice-known = at-if1 .before in
+    let start = at-shared-slice-known .before in
+    let bytes : (i : ℕ) → getD (start .args .table .now) i 0 < 256 = λ i. omega (arith, at-shared-slice-known .shared-slice-known .given i) in
+    rw (c .before .number-of2 .ensures, at-number-of .number-of .ensures) (is-by-fields _ _ _ (le-leb _ _ (at-if1 .if1 .taken)) bytes)
 
 -- src
 returns-2 : tie.Need-returns-2
@@ -79,18 +27,18 @@ pub entry-is-spec : {M : Type 1} → statement M
 entry-is-spec =
     tie.close
     (tie.spec
-    mul-p
-    add-if1
-    shared-slice-read-kind
-    add-number-of
-    shared-slice-read-number-of
-    add-number-of-2
-    shared-slice-read-number-of-2
-    number-of-requires
-    add-number-of-3
-    shared-slice-read-number-of-3
-    add-number-of-4
-    shared-slice-read-number-of-4
-    number-of-requires-2
+    (λ c. search needs)
+    (λ c. search needs)
+    (λ c. search needs)
+    (λ c. search needs)
+    (λ c. search needs)
+    (λ c. search needs)
+    (λ c. search needs)
+    (λ c κs. search needs)
+    (λ c. search needs)
+    (λ c. search needs)
+    (λ c. search needs)
+    (λ c. search needs)
+    (λ c κs. search needs)
     returns
     returns-2)

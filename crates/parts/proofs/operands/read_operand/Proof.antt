@@ -1,113 +1,111 @@
-use Rattle.parts.proofs.Simple.{attribute-is}
-use Rattle.parts.proofs.Writing.{done-as, one-done, turned-done, mapped-done}
-use Rattle.parts.proofs.Standing.{past, ready-past, turned-as, turned}
-use Rattle.parts.proofs.Roots.{root-of}
-use Rattle.parts.proofs.Sorts.{literal-some, root-some, literal-of}
-use Rattle.parts.specs.Names.{rootFrom}
+-- `parts::operands::read_operand` meets its contract: a literal, an attribute, or neither. Assumes nothing.
+use mathlib.Core.List.{[], _∷_}
+use mathlib.Core.Path.{refl, _∙_, sym, ap}
+use native.Mathlib.Omega.{arith}
+use borrow.Author.Needs.{needs}
+use Rattle.reading.proofs.Stream.{next-on, next-off}
+use Rattle.reading.specs.Lexemes.{lexeme}
+use Rattle.reading.specs.Reader.{ten}
+use Rattle.grammar.specs.Parser.{read-operand}
+use Rattle.grammar.specs.Policies.{attribute, literal}
+use Rattle.grammar.specs.Rules.{isLiteral, isRoot, literalOf}
 use Rattle.table.specs.Entries.{literalEntry, operandEntry}
 use Rattle.table.specs.declared.Entry.{Entry}
-use Rattle.grammar.specs.Parser.{read-operand}
-use Rattle.grammar.specs.Rules.{isLiteral, isRoot, literalOf}
-use Rattle.grammar.specs.Policies.{Operand, attribute, literal}
-use Rattle.reading.proofs.Stream.{next-on, next-off}
-use Rattle.reading.specs.Reader.{ten}
-use Rattle.reading.specs.Lexemes.{lexeme}
-use native.Mathlib.Omega.{arith}
-use mathlib.Core.List.{[], _∷_}
-use mathlib.Core.Path.{_≡_, refl, _∙_, sym, ap}
-use borrow.Author.Needs.{needs}
+use Rattle.parts.specs.Names.{rootFrom}
+use Rattle.parts.proofs.Roots.{root-of}
+use Rattle.parts.proofs.Simple.{attribute-is}
+use Rattle.parts.proofs.Sorts.{literal-some, root-some, literal-of}
+use Rattle.parts.proofs.Standing.{number-small, past, ready-past, turned-as, turned}
+use Rattle.parts.proofs.Writing.{done-as, one-done, turned-done, mapped-done}
 use Rattle.parts.proofs.operands.read_operand.Statement.{statement}
 use Rattle.parts.proofs.operands.read_operand.Tie as tie
-use Rattle.parts.proofs.operands.read_operand.Reads as reads
-use Rattle.parts.proofs.operands.read_operand.Lts as lts
-use Rattle.parts.proofs.answers.turned_away.Reads as turned-away-reads
-use Rattle.parts.proofs.lists.is_literal.Reads as is-literal-reads
-use Rattle.parts.proofs.lists.literal_entry.Reads as literal-entry-reads
-use Rattle.parts.proofs.operands.read_attribute.Reads as read-attribute-reads
-use Rattle.parts.proofs.paths.is_root.Reads as is-root-reads
-use Rattle.table.proofs.append.Reads as append-reads
-use Rattle.tokens.proofs.reader.next_token.Reads as next-token-reads
 
--- src/operands.rt:53:8
-is-literal-requires : tie.Need-is-literal-requires
-is-literal-requires c κs = search needs
-
--- src/operands.rt:54:13
 next-token-requires : tie.Need-next-token-requires
-next-token-requires c κs = (c .before .before .before .before .before .pre .table, c .before .before .before .before .before .pre .lies .high)
+next-token-requires c κs =
+    let start = c .before .before .before .before .before in
+    (start .pre .table, start .pre .lies .high)
 
--- src/operands.rt:55:52
-literal-entry-requires : tie.Need-literal-entry-requires
-literal-entry-requires c κs = search needs
-
--- src/operands.rt:55:13
 append-requires : tie.Need-append-requires
-append-requires c κs = let p = c .before .before .before .before .before .before .before .before .pre in omega (arith, p .lies .low, p .lies .order, p .lies .high, p .small)
+append-requires c κs =
+    let start = c .before .before .before .before .before .before .before .before in
+    omega (arith, number-small (start .pre))
 
--- src/operands.rt:56:35
 add-t15 : tie.Need-add-t15
-add-t15 c = let p = c .before .before .before .before .before .before .before .before .before .before .before .pre in omega (arith, p .lies .low, p .lies .order, p .lies .high, p .small)
+add-t15 c =
+    let start = c .before .before .before .before .before .before .before .before .before .before .before in
+    omega (arith, number-small (start .pre))
 
--- src/operands.rt:56:9
-same-length : tie.Need-same-length
-same-length c = search needs
-
--- src/operands.rt:56:9
 returns : tie.Need-returns
 unfolding read-operand operandEntry
-returns c = let x = lexeme (c .before .before .before .before .before .before .before .before .before .before .before .args .text .now) (c .before .before .before .before .before .before .before .before .before .before .before .args .t) in let yes = sym (c .before .before .before .before .before .before .before .is-literal .ensures) ∙ c .before .before .before .before .before .before .if1 .taken in
-    one-done (literal (literalOf x)) (sym (ap (λ (e : Entry). e ∷ []) (c .before .before .before .literal-entry .ensures ∙ ap literalEntry (literal-of (c .before .before .before .before .before .before .before .before .before .before .before .args .text .now) (c .before .before .before .before .before .before .before .before .before .before .before .args .t)))))
-    (next-on _ _ isLiteral _ _ _ (literal-some x yes) (c .before .before .before .before .before .before .before .before .before .before .before .pre .lies .high) (c .before .before .before .before .before .next-token .ensures .0) yes)
-    (past (c .before .before .before .before .before .before .before .before .before .before .before .args .t) (c .before .before .before .before .before .before .before .before .before .before .before .pre .lies) (literal-some x yes) (c .before .before .before .before .before .next-token .ensures .1)) (c .before .before .append .ensures)
+returns c =
+    let at-literal-entry = c .before .before .before in
+    let at-next-token = at-literal-entry .before .before in
+    let at-if1 = at-next-token .before in
+    let at-is-literal = at-if1 .before in
+    let start = at-is-literal .before .before .before .before in
+    let x = lexeme (start .args .text .now) (start .args .t) in
+    let yes = sym (at-is-literal .is-literal .ensures) ∙ at-if1 .if1 .taken in
+    one-done (literal (literalOf x)) (sym (ap (λ (e : Entry). e ∷ []) (at-literal-entry .literal-entry .ensures ∙ ap literalEntry (literal-of (start .args .text .now) (start .args .t)))))
+    (next-on _ _ isLiteral _ _ _ (literal-some x yes) (start .pre .lies .high) (at-next-token .next-token .ensures .0) yes)
+    (past (start .args .t) (start .pre .lies) (literal-some x yes) (at-next-token .next-token .ensures .1)) (c .before .before .append .ensures)
 
--- src/operands.rt:58:8
-is-root-requires : tie.Need-is-root-requires
-is-root-requires c κs = search needs
-
--- src/operands.rt:59:13
 next-token-requires-2 : tie.Need-next-token-requires-2
-next-token-requires-2 c κs = (c .before .before .before .before .before .before .before .pre .table, c .before .before .before .before .before .before .before .pre .lies .high)
+next-token-requires-2 c κs =
+    let start = c .before .before .before .before .before .before .before in
+    (start .pre .table, start .pre .lies .high)
 
--- src/operands.rt:60:9
 read-attribute-requires : tie.Need-read-attribute-requires
-read-attribute-requires c κs = let t = c .before .before .before .before .before .before .before .before .before .args .t in ready-past t (c .before .before .before .before .before .before .before .before .before .pre) (root-some (lexeme (c .before .before .before .before .before .before .before .before .before .args .text .now) t) (sym (c .before .before .before .is-root .ensures) ∙ c .before .before .if2 .taken)) (c .before .next-token2 .ensures .1) (let l = c .before .before .before .before .before .before .before .before .before .pre .lies .low in omega arith)
+read-attribute-requires c κs =
+    let at-is-root = c .before .before .before in
+    let start = at-is-root .before .before .before .before .before .before in
+    let t = start .args .t in
+    ready-past t (start .pre) (root-some (lexeme (start .args .text .now) t) (sym (at-is-root .is-root .ensures) ∙ c .before .before .if2 .taken)) (c .before .next-token2 .ensures .1) (let l = start .pre .lies .low in omega arith)
 
--- src/operands.rt:60:9
-same-length-2 : tie.Need-same-length-2
-same-length-2 c = search needs
-
--- src/operands.rt:60:9
 returns-2 : tie.Need-returns-2
 unfolding read-operand operandEntry
-returns-2 c = let t = c .before .before .before .before .before .before .before .before .before .before .before .before .args .t in let x = lexeme (c .before .before .before .before .before .before .before .before .before .before .before .before .args .text .now) t in let no = sym (c .before .before .before .before .before .before .before .before .is-literal .ensures) ∙ c .before .before .before .before .before .before .before .if1 .left in let yes = sym (c .before .before .before .before .before .before .is-root .ensures) ∙ c .before .before .before .before .before .if2 .taken in
-    let some = c .before .before .before .before .before .before .before .before .before .before .before .before .pre .lies .some (root-some x yes) in let l = c .before .before .before .before .next-token2 .ensures .1 .low in
-    done-as (next-off _ _ isLiteral _ _ no ∙ next-on _ _ isRoot _ _ _ (root-some x yes) (c .before .before .before .before .before .before .before .before .before .before .before .before .pre .lies .high) (c .before .before .before .before .next-token2 .ensures .0) yes ∙ rw (root-of (c .before .before .before .before .before .before .before .before .before .before .before .before .args .text .now) t) (attribute-is (rootFrom (t .kind)) attribute _))
+returns-2 c =
+    let at-next-token2 = c .before .before .before .before in
+    let at-if2 = at-next-token2 .before in
+    let at-is-root = at-if2 .before in
+    let at-if1 = at-is-root .before in
+    let at-is-literal = at-if1 .before in
+    let start = at-is-literal .before .before .before .before in
+    let t = start .args .t in
+    let x = lexeme (start .args .text .now) t in
+    let no = sym (at-is-literal .is-literal .ensures) ∙ at-if1 .if1 .left in
+    let yes = sym (at-is-root .is-root .ensures) ∙ at-if2 .if2 .taken in
+    let some = start .pre .lies .some (root-some x yes) in
+    let l = at-next-token2 .next-token2 .ensures .1 .low in
+    done-as (next-off _ _ isLiteral _ _ no ∙ next-on _ _ isRoot _ _ _ (root-some x yes) (start .pre .lies .high) (at-next-token2 .next-token2 .ensures .0) yes ∙ rw (root-of (start .args .text .now) t) (attribute-is (rootFrom (t .kind)) attribute _))
     (mapped-done (attribute (rootFrom (t .kind))) (λ s. refl) (omega (arith, some, l)) (c .before .before .read-attribute .ensures))
 
--- src/operands.rt:62:21
 turned-away-requires : tie.Need-turned-away-requires
-turned-away-requires c κs = c .before .before .before .before .before .before .before .pre .lies .order
+turned-away-requires c κs =
+    let start = c .before .before .before .before .before .before .before in
+    start .pre .lies .order
 
--- src/operands.rt:48:1
 returns-3 : tie.Need-returns-3
 unfolding read-operand
-returns-3 c = turned-done (turned-as (next-off _ _ isLiteral _ _ (sym (c .before .before .before .before .is-literal .ensures) ∙ c .before .before .before .if1 .left) ∙ next-off _ _ isRoot _ _ (sym (c .before .before .is-root .ensures) ∙ c .before .if2 .left)) (turned _ _ ten (c .turned-away .ensures)))
+returns-3 c =
+    let at-if1 = c .before .before .before in
+    let at-is-literal = at-if1 .before in
+    turned-done (turned-as (next-off _ _ isLiteral _ _ (sym (at-is-literal .is-literal .ensures) ∙ at-if1 .if1 .left) ∙ next-off _ _ isRoot _ _ (sym (c .before .before .is-root .ensures) ∙ c .before .if2 .left)) (turned _ _ ten (c .turned-away .ensures)))
 
 pub read-operand-spec : {M : Type 1} → statement M
 read-operand-spec =
     tie.close
     (tie.spec
-    is-literal-requires
+    (λ c κs. search needs)
     next-token-requires
-    literal-entry-requires
+    (λ c κs. search needs)
     append-requires
     add-t15
-    same-length
+    (λ c. search needs)
     returns
-    is-root-requires
+    (λ c κs. search needs)
     next-token-requires-2
     read-attribute-requires
-    same-length-2
+    (λ c. search needs)
     returns-2
     turned-away-requires
     returns-3)

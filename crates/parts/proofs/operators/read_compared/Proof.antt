@@ -1,44 +1,50 @@
-use Rattle.parts.proofs.Writing.{kept-one, closing, free-small}
-use Rattle.parts.proofs.Standing.{lowered}
-use Rattle.table.specs.Entries.{entry, treeEntries}
-use Rattle.grammar.specs.Policies.{compare}
-use Rattle.reading.specs.Reader.{mapped}
-use native.Mathlib.Omega.{arith}
+-- `parts::operators::read_compared` meets its contract: the left operand's entry, what the right operand's reader says, and the comparator's entry. Assumes nothing.
 use mathlib.Core.List.{[], _∷_}
-use mathlib.Core.Path.{refl, _∙_, sym, ap}
-use borrow.Author.Needs.{needs}
+use native.Mathlib.Omega.{arith}
+use Rattle.reading.specs.Reader.{mapped}
+use Rattle.grammar.specs.Policies.{compare}
+use Rattle.table.specs.Entries.{entry, treeEntries}
+use Rattle.parts.proofs.Standing.{number-small, lowered}
+use Rattle.parts.proofs.Writing.{kept-one, closing, free-small}
 use Rattle.parts.proofs.operators.read_compared.Statement.{statement}
 use Rattle.parts.proofs.operators.read_compared.Tie as tie
-use Rattle.parts.proofs.operators.read_compared.Reads as reads
-use Rattle.parts.proofs.operators.read_compared.Lts as lts
-use Rattle.parts.proofs.answers.closed.Reads as closed-reads
-use Rattle.parts.proofs.operands.read_operand.Reads as read-operand-reads
-use Rattle.table.proofs.append.Reads as append-reads
 
--- src/operators.rt:79:9
 append-requires : tie.Need-append-requires
-append-requires c κs = let p = c .before .before .before .before .pre in omega (arith, p .lies .low, p .lies .order, p .lies .high, p .small)
+append-requires c κs =
+    let start = c .before .before .before .before in
+    omega (arith, number-small (start .pre))
 
--- src/operators.rt:80:61
 add-read-operand : tie.Need-add-read-operand
-add-read-operand c = let p = c .before .before .before .before .before .before .before .before .pre in omega (arith, p .lies .low, p .lies .order, p .lies .high, p .small)
+add-read-operand c =
+    let start = c .before .before .before .before .before .before .before .before in
+    omega (arith, number-small (start .pre))
 
--- src/operators.rt:80:9
 read-operand-requires : tie.Need-read-operand-requires
-read-operand-requires c κs = let p = c .before .before .before .before .before .before .before .before .pre in record { table = p .table; lies = lowered (omega arith) (p .lies); small = p .small }
+read-operand-requires c κs =
+    let start = c .before .before .before .before .before .before .before .before in
+    let p = start .pre in record { table = p .table; lies = lowered (omega arith) (p .lies); small = p .small }
 
--- src/operators.rt:81:5
 closed-requires : tie.Need-closed-requires
-closed-requires c κs = let p = c .before .before .before .before .before .before .before .before .before .before .before .before .pre in omega (arith, free-small (c .before .before .before .read-operand .ensures .says) (let l = p .lies .low in omega arith), p .small)
+closed-requires c κs =
+    let at-read-operand = c .before .before .before in
+    let start = at-read-operand .before .before .before .before .before .before .before .before .before in
+    let p = start .pre in omega (arith, free-small (at-read-operand .read-operand .ensures .says) (let l = p .lies .low in omega arith), p .small)
 
--- src/operators.rt:64:1
 same-length : tie.Need-same-length
-same-length c = omega (arith, c .before .before .closed .kept .0, c .before .before .before .before .before .before .read-operand .kept .1 .1 .0, c .before .before .before .before .before .before .before .before .before .before .append .kept .0)
+same-length c =
+    let at-read-operand = c .before .before .before .before .before .before in
+    let at-append = at-read-operand .before .before .before .before in
+    omega (arith, c .before .before .closed .kept .0, at-read-operand .read-operand .kept .1 .1 .0, at-append .append .kept .0)
 
--- src/operators.rt:64:1
 returns : tie.Need-returns
 unfolding mapped treeEntries
-returns c = λ a e k q. let l = c .before .before .before .before .before .before .before .before .before .before .before .before .before .before .before .pre .lies .low in closing (c .before .before .before .before .before .before .before .before .before .before .before .before .before .before .before .args .left ∷ []) (compare k a) (kept-one (c .before .before .before .before .before .before .before .before .before .before .before .before .before .before .before .args .left) (c .before .before .before .before .before .before .before .before .before .before .append .ensures)) (λ n. entry (c .before .before .before .before .before .before .before .before .before .before .before .before .before .before .before .args .kind) 0 0) (λ b n h. rw (e, q)) (omega (arith, l)) (c .before .before .before .before .before .before .read-operand .ensures) (c .before .before .closed .ensures)
+returns c =
+    let at-read-operand = c .before .before .before .before .before .before in
+    let at-append = at-read-operand .before .before .before .before in
+    let start = at-append .before .before .before .before .before in
+    λ a e k q.
+    let l = start .pre .lies .low in
+    closing (start .args .left ∷ []) (compare k a) (kept-one (start .args .left) (at-append .append .ensures)) (λ n. entry (start .args .kind) 0 0) (λ b n h. rw (e, q)) (omega (arith, l)) (at-read-operand .read-operand .ensures) (c .before .before .closed .ensures)
 
 pub read-compared-spec : {M : Type 1} → statement M
 read-compared-spec =

@@ -1,21 +1,16 @@
+-- `parts::paths::call_kind` meets its contract: the tests are those of `callOf`. Assumes nothing.
 use Rattle.parts.specs.Names.{callOf}
-use mathlib.Core.Path.{refl}
 use Rattle.parts.proofs.paths.call_kind.Statement.{statement}
 use Rattle.parts.proofs.paths.call_kind.Tie as tie
-use Rattle.parts.proofs.paths.call_kind.Reads as reads
-use Rattle.parts.proofs.paths.call_kind.Lts as lts
 
--- src/paths.rt:69:9
 returns : tie.Need-returns
 unfolding callOf
 returns c = rw (c .if1 .taken)
 
--- src/paths.rt:65:1
 returns-2 : tie.Need-returns-2
 unfolding callOf
 returns-2 c = rw (c .before .if1 .left, c .if2 .taken)
 
--- src/paths.rt:65:1
 returns-3 : tie.Need-returns-3
 unfolding callOf
 returns-3 c = rw (c .before .if1 .left, c .if2 .left)

@@ -1,27 +1,21 @@
-use Rattle.grammar.specs.Rules.{rootOf}
+-- `parts::paths::root_kind` meets its contract: by the root. Assumes nothing.
 use borrow.Author.Tests.{eq-eqb, ne-eqb}
-use mathlib.Core.Path.{refl}
+use Rattle.grammar.specs.Rules.{rootOf}
 use Rattle.parts.proofs.paths.root_kind.Statement.{statement}
 use Rattle.parts.proofs.paths.root_kind.Tie as tie
-use Rattle.parts.proofs.paths.root_kind.Reads as reads
-use Rattle.parts.proofs.paths.root_kind.Lts as lts
 
--- src/paths.rt:49:9
 returns : tie.Need-returns
 unfolding rootOf
 returns c = rw (eq-eqb _ _ (c .if1 .taken))
 
--- src/paths.rt:52:9
 returns-2 : tie.Need-returns-2
 unfolding rootOf
 returns-2 c = rw (ne-eqb _ _ (c .before .if1 .left), eq-eqb _ _ (c .if2 .taken))
 
--- src/paths.rt:45:1
 returns-3 : tie.Need-returns-3
 unfolding rootOf
 returns-3 c = rw (ne-eqb _ _ (c .before .before .if1 .left), ne-eqb _ _ (c .before .if2 .left), eq-eqb _ _ (c .if3 .taken))
 
--- src/paths.rt:45:1
 returns-4 : tie.Need-returns-4
 unfolding rootOf
 returns-4 c = rw (ne-eqb _ _ (c .before .before .if1 .left), ne-eqb _ _ (c .before .if2 .left), ne-eqb _ _ (c .if3 .left))

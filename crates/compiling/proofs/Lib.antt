@@ -1,0 +1,6 @@
+pub mod Gates
+pub mod Texts
+pub mod Counting
+pub mod Outcomes
+pub mod Promised
+pub mod Examples

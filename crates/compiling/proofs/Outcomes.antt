@@ -1,0 +1,223 @@
+-- What compiling answers, by what the readers do. Assumes nothing.
+use mathlib.Core.Path.{_≡_, refl, _∙_, sym, ap, subst}
+use mathlib.Core.Bool.{Bool, true, false}
+use mathlib.Core.List.{List, [], _∷_, _++_}
+use Prim.Native.Nat.{ℕ, zero, suc, _≤_, _<_}
+use native.Mathlib.Omega.{arith}
+use lib.Dec.{eqb, ltb}
+use lib.ListN.{length}
+use borrow.Author.Tests.{le-ltb, lt-ltb, ltb-false}
+use Rattle.tokens.specs.Tokens.{tokenAt}
+use Rattle.tokens.proofs.ReadLaws.{reads}
+use Rattle.reading.specs.Lexemes.{Lexeme, lexeme, choose, following, tokensUpTo, tokensFrom, tokensOf}
+use Rattle.reading.specs.Reader as reader
+use Rattle.reading.specs.Reader.{took, refuse}
+use Rattle.grammar.specs.Policies.{Policy}
+use Rattle.grammar.specs.Promise.{RefusedRightly}
+use Rattle.grammar.proofs.Theorems.{refused-rightly}
+use Rattle.table.specs.Entries.{policiesEntries}
+use Rattle.table.specs.Layout.{startsWith}
+use Rattle.table.proofs.Holding.{length-bytesOf, held-starts, puts-front}
+use Rattle.parts.specs.Answers.{Turned, refusalAt}
+use Rattle.parts.specs.declared.answers.Refusal.{Refusal}
+use Rattle.compiling.specs.Whole.{Complete, Told, complete, lost}
+use Rattle.compiling.specs.Outcome.{mostBytes, roomFor, said, compiledBytes, foundBy, foundOf, tableBy, tableAfter, heldBy, heldOf, beginsBy, beginsOf}
+use Rattle.compiling.specs.declared.policies.Whole.{Whole}
+use Rattle.compiling.specs.declared.policies.Whole.the-variants.{All, Lost}
+use Rattle.compiling.specs.declared.Found.{Found}
+use Rattle.compiling.specs.declared.Found.the-variants as found
+use Rattle.compiling.specs.declared.Found.the-variants.{Accepted, Unfit}
+use Rattle.compiling.specs.declared.Held.the-variants.{Right, Wrong}
+
+-- ---- what is told of a whole text
+
+module _ {text seen old new : List ℕ} {p : reader.Answer (List Policy)} {r : Whole} where
+  pub as-complete : {policies free : ℕ} {ok : Bool} → r ≡ All policies free ok → Told text seen old new p r → Complete text seen old new p policies free ok
+  as-complete e t = go (subst (Told text seen old new p) e t)
+    where
+      go : {policies free : ℕ} {ok : Bool} → Told text seen old new p (All policies free ok) → Complete text seen old new p policies free ok
+      go (complete k) = k
+
+  pub as-lost : {f : Refusal} → r ≡ Lost f → Told text seen old new p r → Turned text p f
+  as-lost e t = go (subst (Told text seen old new p) e t)
+    where
+      go : {f : Refusal} → Told text seen old new p (Lost f) → Turned text p f
+      go (lost h) = h
+
+-- ---- what is found
+
+module _ (text : List ℕ) (room : ℕ) where
+  pub too-long : mostBytes < length text → foundOf text room ≡ Unfit 1
+  unfolding foundOf choose
+  too-long h = rw (lt-ltb _ _ h)
+
+  pub no-room : length text ≤ mostBytes → room < roomFor text → foundOf text room ≡ Unfit 2
+  unfolding foundOf choose
+  no-room l h = rw (le-ltb _ _ l, lt-ltb _ _ h)
+
+  pub fitting : length text ≤ mostBytes → roomFor text ≤ room → foundOf text room ≡ foundBy text (said text)
+  unfolding foundOf choose
+  fitting l h = rw (le-ltb _ _ l, le-ltb _ _ h)
+
+pub turned-found : {text : List ℕ} {p : reader.Answer (List Policy)} {f : Refusal} → Turned text p f → found.Turned f ≡ foundBy text p
+unfolding foundBy
+turned-found h = rw (h .is) (ap found.Turned (h .told))
+
+pub complete-found : {text seen old new : List ℕ} {p : reader.Answer (List Policy)} {policies free : ℕ} {ok : Bool} → Complete text seen old new p policies free ok → Accepted policies free ≡ foundBy text p
+unfolding foundBy
+complete-found {policies = policies} {free} k =
+    let z : free ≡ length (policiesEntries 0 (k .value)) = (let y = k .counted .free-is in omega arith) in
+    rw (k .is, k .many, ← z)
+
+pub clash-unfit : {number policies entries : ℕ} → Unfit number ≡ Accepted policies entries → ⊥
+clash-unfit e = let z : _≡_ {A = ℕ} 0 1 = cc in omega arith
+
+pub clash : {f : Refusal} {policies entries : ℕ} → found.Turned f ≡ Accepted policies entries → ⊥
+clash e = let z : _≡_ {A = ℕ} 0 1 = cc in omega arith
+
+-- what an accepted text tells
+pub record Accepts (text : List ℕ) (room policies entries : ℕ) : Type 0 where
+  pub short : length text ≤ mostBytes
+  pub roomy : roomFor text ≤ room
+  pub value : List Policy
+  pub rest : List Lexeme
+  pub is : said text ≡ took value rest
+  pub many : policies ≡ length value
+  pub count : entries ≡ length (policiesEntries 0 value)
+
+pub accepts : (text : List ℕ) (room policies entries : ℕ) → Accepted policies entries ≡ foundOf text room → Accepts text room policies entries
+unfolding foundOf foundBy choose
+accepts text room policies entries e = go (ltb mostBytes (length text)) refl (ltb room (roomFor text)) refl (said text) refl e
+  where
+    go : (a : Bool) → ltb mostBytes (length text) ≡ a → (b : Bool) → ltb room (roomFor text) ≡ b → (p : reader.Answer (List Policy)) → said text ≡ p
+        → Accepted policies entries ≡ choose a (λ _. Unfit 1) (λ _. choose b (λ _. Unfit 2) (λ _. foundBy text p)) → Accepts text room policies entries
+    go true x b y p z e = absurd (clash-unfit (sym e))
+    go false x true y p z e = absurd (clash-unfit (sym e))
+    go false x false y (took ps r) z e = record { short = ltb-false _ _ x; roomy = ltb-false _ _ y; value = ps; rest = r; is = z; many = cc; count = cc }
+    go false x false y (refuse n r) z e = absurd (clash (sym e))
+
+-- ---- a refused token lies in the text
+
+module _ (text : List ℕ) where
+  lies-within : (n at : ℕ) → at ≤ length text → (before : List Lexeme) (x : Lexeme) (s : List Lexeme) → tokensUpTo n text at ≡ before ++ x ∷ s → x .start ≤ length text
+  unfolding tokensUpTo following choose
+  lies-within zero at h [] x s e = absurd (let z : _≡_ {A = ℕ} 0 1 = cc in omega arith)
+  lies-within zero at h (y ∷ before) x s e = absurd (let z : _≡_ {A = ℕ} 0 1 = cc in omega arith)
+  lies-within (suc n) at h before x s e =
+      go (eqb (tokenAt text at .kind) 0) before (λ b r. lies-within n (tokenAt text at .end) (reads text at h .high) b x s r) e
+    where
+      go : (o : Bool) (before : List Lexeme) → ((b : List Lexeme) → tokensUpTo n text (tokenAt text at .end) ≡ b ++ x ∷ s → x .start ≤ length text)
+          → choose o (λ _. []) (λ _. lexeme text (tokenAt text at) ∷ tokensUpTo n text (tokenAt text at .end)) ≡ before ++ x ∷ s → x .start ≤ length text
+      go true [] f e = absurd (let z : _≡_ {A = ℕ} 0 1 = cc in omega arith)
+      go true (y ∷ before) f e = absurd (let z : _≡_ {A = ℕ} 0 1 = cc in omega arith)
+      go false [] f e =
+          let same : lexeme text (tokenAt text at) ≡ x = cc in
+          let l = reads text at h in let o = l .order in let g = l .high in
+          rw (← same) (omega arith)
+      go false (y ∷ before) f e = f before (cc)
+
+  token-inside : (n : ℕ) (r : List Lexeme) → said text ≡ refuse n r → refusalAt text n r .start ≤ length text
+  unfolding said refusalAt RefusedRightly tokensFrom
+  token-inside n [] q = omega arith
+  token-inside n (x ∷ s) q = let w = refused-rightly (tokensOf text) (x ∷ s) n q in lies-within (suc (length text)) 0 (omega arith) (w .before) x s (w .split)
+
+  -- a refusal's place is in the text
+  pub place-inside : (room : ℕ) {f : Refusal} → found.Turned f ≡ foundOf text room → f .start ≤ length text
+  unfolding foundOf foundBy choose
+  place-inside room {f} e = go (ltb mostBytes (length text)) (ltb room (roomFor text)) (said text) refl e
+    where
+      go : (a b : Bool) (p : reader.Answer (List Policy)) → said text ≡ p
+          → found.Turned f ≡ choose a (λ _. Unfit 1) (λ _. choose b (λ _. Unfit 2) (λ _. foundBy text p)) → f .start ≤ length text
+      go true b p q e = absurd (let z : _≡_ {A = ℕ} 0 1 = cc in omega arith)
+      go false true p q e = absurd (let z : _≡_ {A = ℕ} 0 1 = cc in omega arith)
+      go false false (took ps r) q e = absurd (clash e)
+      go false false (refuse n r) q e = let z : f ≡ refusalAt text n r = cc in rw z (token-inside n r q)
+
+-- ---- the table afterwards
+
+-- the table of a text that is not accepted is left alone
+pub same-table : (text old : List ℕ) {x : Found} → ((policies entries : ℕ) → x ≡ Accepted policies entries → ⊥) → x ≡ foundOf text (length old) → old ≡ tableAfter text old
+unfolding foundOf foundBy tableAfter tableBy choose
+same-table text old {x} not e = go (ltb mostBytes (length text)) (ltb (length old) (roomFor text)) (said text) e
+  where
+    go : (a b : Bool) (p : reader.Answer (List Policy)) → x ≡ choose a (λ _. Unfit 1) (λ _. choose b (λ _. Unfit 2) (λ _. foundBy text p))
+        → old ≡ choose a (λ _. old) (λ _. choose b (λ _. old) (λ _. tableBy p old))
+    go true b p e = refl
+    go false true p e = refl
+    go false false (took ps r) e = absurd (not _ _ e)
+    go false false (refuse n r) e = refl
+
+-- what is accepted has no more entries than the text has bytes
+pub no-more : {text seen old new : List ℕ} {room policies entries : ℕ} {r : Whole} → Accepts text room policies entries → Told text seen old new (said text) r → entries ≤ length text
+no-more {text} {entries = entries} h (complete k) =
+    let same : k .value ≡ h .value = (let x = sym (k .is) ∙ h .is in cc) in
+    let count : entries ≡ length (policiesEntries 0 (k .value)) = rw same (h .count) in
+    let x = k .room in let y = k .counted .free-is in omega arith
+no-more h (lost k) = absurd (let x = sym (k .is) ∙ h .is in let z : _≡_ {A = ℕ} 0 1 = cc in omega arith)
+
+-- an accepted one's gets the compiled bytes
+pub new-table : {text seen old new : List ℕ} {policies entries : ℕ} {r : Whole} → Accepts text (length old) policies entries → Told text seen old new (said text) r → new ≡ tableAfter text old
+unfolding tableAfter tableBy compiledBytes choose
+new-table {text} {old = old} h (complete k) =
+    let same : k .value ≡ h .value = (let x = sym (k .is) ∙ h .is in cc) in
+    let n = no-more h (complete k) in
+    let c = h .count in let z = h .roomy in let l = length-bytesOf (policiesEntries 0 (h .value)) in
+    k .stored ∙ rw (same, le-ltb _ _ (h .short), le-ltb _ _ (h .roomy), h .is) (puts-front (policiesEntries 0 (h .value)) old (omega arith))
+new-table h (lost k) = absurd (let x = sym (k .is) ∙ h .is in let z : _≡_ {A = ℕ} 0 1 = cc in omega arith)
+
+-- ---- a table that begins right
+
+module _ (text table : List ℕ) where
+  pub too-long-held : mostBytes < length text → heldOf text table ≡ Wrong
+  unfolding heldOf choose
+  too-long-held h = rw (lt-ltb _ _ h)
+
+  pub fitting-held : length text ≤ mostBytes → heldOf text table ≡ heldBy table (said text)
+  unfolding heldOf choose
+  fitting-held l = rw (le-ltb _ _ l)
+
+pub lost-held : {text : List ℕ} (table : List ℕ) {p : reader.Answer (List Policy)} {f : Refusal} → Turned text p f → Wrong ≡ heldBy table p
+unfolding heldBy
+lost-held table h = rw (h .is)
+
+module _ {text table old new : List ℕ} {p : reader.Answer (List Policy)} {policies free : ℕ} {ok : Bool} (k : Complete text table old new p policies free ok) where
+  starts-is : ok ≡ startsWith (compiledBytes (k .value)) table
+  unfolding compiledBytes
+  starts-is = k .counted .ok-is ∙ held-starts table 0 (policiesEntries 0 (k .value))
+
+  pub right-held : ok ≡ true → Right policies free ≡ heldBy table p
+  unfolding heldBy choose
+  right-held e =
+      let z : free ≡ length (policiesEntries 0 (k .value)) = (let y = k .counted .free-is in omega arith) in
+      rw (k .is, ← starts-is, e, k .many, ← z)
+
+  pub wrong-held : ok ≡ false → Wrong ≡ heldBy table p
+  unfolding heldBy choose
+  wrong-held e = rw (k .is, ← starts-is, e)
+
+module _ (text table : List ℕ) where
+  pub right-begins : {policies entries : ℕ} → Right policies entries ≡ heldOf text table → true ≡ beginsOf text table
+  unfolding heldOf heldBy beginsOf beginsBy choose
+  right-begins {policies} {entries} e = go (ltb mostBytes (length text)) (said text) e
+    where
+      at-bytes : (ps : List Policy) (b : Bool) → Right policies entries ≡ choose b (λ _. Right (length ps) (length (policiesEntries 0 ps))) (λ _. Wrong) → true ≡ b
+      at-bytes ps true e = refl
+      at-bytes ps false e = absurd (let z : _≡_ {A = ℕ} 0 1 = cc in omega arith)
+
+      go : (a : Bool) (p : reader.Answer (List Policy)) → Right policies entries ≡ choose a (λ _. Wrong) (λ _. heldBy table p) → true ≡ choose a (λ _. false) (λ _. beginsBy table p)
+      go true p e = absurd (let z : _≡_ {A = ℕ} 0 1 = cc in omega arith)
+      go false (took ps r) e = at-bytes ps (startsWith (compiledBytes ps) table) e
+      go false (refuse n r) e = absurd (let z : _≡_ {A = ℕ} 0 1 = cc in omega arith)
+
+  pub wrong-begins : Wrong ≡ heldOf text table → false ≡ beginsOf text table
+  unfolding heldOf heldBy beginsOf beginsBy choose
+  wrong-begins e = go (ltb mostBytes (length text)) (said text) e
+    where
+      at-bytes : (ps : List Policy) (b : Bool) → Wrong ≡ choose b (λ _. Right (length ps) (length (policiesEntries 0 ps))) (λ _. Wrong) → false ≡ b
+      at-bytes ps true e = absurd (let z : _≡_ {A = ℕ} 0 1 = cc in omega arith)
+      at-bytes ps false e = refl
+
+      go : (a : Bool) (p : reader.Answer (List Policy)) → Wrong ≡ choose a (λ _. Wrong) (λ _. heldBy table p) → false ≡ choose a (λ _. false) (λ _. beginsBy table p)
+      go true p e = refl
+      go false (took ps r) e = at-bytes ps (startsWith (compiledBytes ps) table) e
+      go false (refuse n r) e = refl

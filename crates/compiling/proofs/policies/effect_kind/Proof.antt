@@ -1,0 +1,14 @@
+use Rattle.table.specs.Entries.{effectKind}
+use Rattle.compiling.proofs.policies.effect_kind.Statement.{statement}
+use Rattle.compiling.proofs.policies.effect_kind.Tie as tie
+
+returns : tie.Need-returns
+unfolding effectKind
+returns c = rw (c .if1 .taken)
+
+returns-2 : tie.Need-returns-2
+unfolding effectKind
+returns-2 c = rw (c .if1 .left)
+
+pub effect-kind-spec : {M : Type 1} → statement M
+effect-kind-spec = tie.close (tie.spec returns returns-2)

@@ -1,0 +1,68 @@
+use Rattle.compiling.proofs.Gates.{gate, gate-first, standing, gate-done, gated}
+use Rattle.conditions.proofs.Earlier.{lying, ready-at, weaker, told-as}
+use Rattle.parts.proofs.Writing.{turned-done, as-read, as-refused, next-lies, expected-done}
+use Rattle.parts.proofs.Standing.{turned-as, turned-bind}
+use Rattle.grammar.specs.Parser.{read-principal as principal-spec}
+use Rattle.reading.specs.Reader.{before, need}
+use Rattle.reading.specs.Lexemes.{stream}
+use Rattle.tokens.specs.Kinds as kinds
+use native.Mathlib.Omega.{arith}
+use Prim.Native.Nat.{_+_, _-_}
+use mathlib.Core.Path.{_∙_}
+use borrow.Author.Needs.{needs}
+use Rattle.compiling.proofs.policies.read_first.Statement.{statement}
+use Rattle.compiling.proofs.policies.read_first.Tie as tie
+
+expected-requires : tie.Need-expected-requires
+expected-requires c κs = search needs
+
+expected-requires-2 : tie.Need-expected-requires-2
+expected-requires-2 c κs =
+    let d = gate-done 40 (omega arith) (standing (c .before .before .before .before .args .seen .now) (c .before .before .before .before .args .table .now) (c .before .before .before .before .args .t) (lying (c .before .before .before .before .args .t .start - 1 + 1) (c .before .before .before .before .pre .lies) (omega (arith, c .before .before .before .before .pre .lies .low)))) (c .expected .ensures) in
+    (c .before .before .before .before .pre .table, next-lies (d .says))
+
+enum-known-word : tie.Need-enum-known-word
+enum-known-word c = search needs
+
+enum-told : tie.Need-enum-told
+enum-told c = search needs
+
+returns : tie.Need-returns
+returns c =
+    let d = gate-done 204 (omega arith) (gate-done 40 (omega arith) (standing (c .before .before .before .before .before .before .before .args .seen .now) (c .before .before .before .before .before .before .before .args .table .now) (c .before .before .before .before .before .before .before .args .t) (lying (c .before .before .before .before .before .before .before .args .t .start - 1 + 1) (c .before .before .before .before .before .before .before .pre .lies) (omega (arith, c .before .before .before .before .before .before .before .pre .lies .low)))) (c .before .before .before .expected .ensures)) (c .before .before .expected2 .ensures) in
+    let e = c .enum-told .given .1 in
+    told-as e (turned-done (turned-as (gate-first 40 (need kinds.principalWord (before kinds.comma principal-spec)) (stream (c .before .before .before .before .before .before .before .args .text .now) (c .before .before .before .before .before .before .before .args .t)) ∙ gate 204 (before kinds.comma principal-spec) _) (turned-bind _ (as-refused e (d .says)))))
+
+read-principal-requires : tie.Need-read-principal-requires
+read-principal-requires c κs =
+    let d = gate-done 204 (omega arith) (gate-done 40 (omega arith) (standing (c .before .before .before .before .before .before .before .before .before .args .seen .now) (c .before .before .before .before .before .before .before .before .before .args .table .now) (c .before .before .before .before .before .before .before .before .before .args .t) (lying (c .before .before .before .before .before .before .before .before .before .args .t .start - 1 + 1) (c .before .before .before .before .before .before .before .before .before .pre .lies) (omega (arith, c .before .before .before .before .before .before .before .before .before .pre .lies .low)))) (c .before .before .before .before .before .expected .ensures)) (c .before .before .before .before .expected2 .ensures) in
+    let k = as-read (c .before .before .word .given .1) (d .says) in
+    ready-at (c .before .before .before .before .before .before .before .before .before .pre) (lying _ (k .lies) (omega (arith, k .counted .free-is, k .lies .low, c .before .before .before .before .before .before .before .before .before .pre .lies .low)))
+
+expected-requires-3 : tie.Need-expected-requires-3
+expected-requires-3 c κs = (c .before .before .before .before .before .before .before .before .before .before .before .before .pre .table, next-lies (c .before .before .read-principal .ensures .says))
+
+same-length : tie.Need-same-length
+same-length c = search needs
+
+returns-2 : tie.Need-returns-2
+unfolding before
+returns-2 c =
+    let d = gate-done 204 (omega arith) (gate-done 40 (omega arith) (standing (c .before .before .before .before .before .before .before .before .before .before .before .before .before .args .seen .now) (c .before .before .before .before .before .before .before .before .before .before .before .before .before .args .table .now) (c .before .before .before .before .before .before .before .before .before .before .before .before .before .args .t) (lying (c .before .before .before .before .before .before .before .before .before .before .before .before .before .args .t .start - 1 + 1) (c .before .before .before .before .before .before .before .before .before .before .before .before .before .pre .lies) (omega (arith, c .before .before .before .before .before .before .before .before .before .before .before .before .before .pre .lies .low)))) (c .before .before .before .before .before .before .before .before .before .expected .ensures)) (c .before .before .before .before .before .before .before .before .expected2 .ensures) in
+    let k = as-read (c .before .before .before .before .before .before .word .given .1) (d .says) in
+    weaker (omega (arith, c .before .before .before .before .before .before .before .before .before .before .before .before .before .pre .lies .low)) (gated (before kinds.comma principal-spec) k (gate-first 40 (need kinds.principalWord (before kinds.comma principal-spec)) (stream (c .before .before .before .before .before .before .before .before .before .before .before .before .before .args .text .now) (c .before .before .before .before .before .before .before .before .before .before .before .before .before .args .t)) ∙ gate 204 (before kinds.comma principal-spec) _) (omega (arith, k .lies .low))
+    (expected-done 44 (omega arith) (c .before .before .before .read-principal .ensures) (c .expected3 .ensures)))
+
+pub read-first-spec : {M : Type 1} → statement M
+read-first-spec =
+    tie.close
+    (tie.spec
+    expected-requires
+    expected-requires-2
+    enum-known-word
+    enum-told
+    returns
+    read-principal-requires
+    expected-requires-3
+    same-length
+    returns-2)

@@ -1,0 +1,113 @@
+// Compiling: a rule text into the table that is lent, and whether a table begins with what its text compiles to.
+pub mod policies;
+
+ghost use mathlib.Core.Path.{_≡_};
+ghost use Prim.Native.Nat.{ℕ, _≤_};
+ghost use lib.ListN.{length};
+ghost use Rattle.tokens.specs.Table.{classTable};
+ghost use Rattle.compiling.specs.declared.Found.the-variants.{Turned};
+ghost use Rattle.compiling.specs.Outcome.{foundOf, toldOf, heldOf, beginsOf, CompiledInto};
+use crate::policies::Whole;
+use crate::policies::read_all;
+use parts::answers::Refusal;
+use tokens::classes::class_table;
+use tokens::places::place_of;
+
+// What a text has: so many policies and entries; or its refusal, by its size or the table's, or at a token.
+pub enum Found {
+    Accepted(usize, usize),
+    Unfit(u8),
+    Turned(Refusal),
+}
+
+// What compiling answers: the policies and the bytes of the table that they use; or the refusal's number, line and column.
+pub enum Compiled {
+    Policies(usize, usize),
+    Refused(u8, usize, usize),
+}
+
+// The policies and entries of a text whose table begins with them.
+pub enum Held {
+    Right(usize, usize),
+    Wrong,
+}
+
+// What a text has, where a table of so many bytes is lent; nothing is written.
+pub fn recognise(classes: &[u8; 256], text: &[u8], room: usize) -> Found
+    requires { ⌜ now classes ≡ classTable ⌝ }
+    ensures { λ r. ⌜ r ≡ foundOf (now (text .entry)) room ⌝ }
+{
+    if 8192 < text.len() {
+        return Found::Unfit(1);
+    }
+    if room < 8 * text.len() {
+        return Found::Unfit(2);
+    }
+    let mut none = [0u8; 1];
+    let empty = [0u8; 1];
+    let whole = read_all(classes, text, &mut none, &empty);
+    match whole {
+        Whole::Lost(f) => Found::Turned(f),
+        Whole::All(policies, entries, _) => Found::Accepted(policies, entries),
+    }
+}
+
+// What is told of a refusal at a token: its number, and where the token stands.
+fn told(text: &[u8], f: Refusal) -> Compiled
+    requires { ⌜ f .start ≤ length (now text) ⌝ }
+    ensures { λ r. ⌜ r ≡ toldOf (now (text .entry)) (Turned f) ⌝ }
+{
+    let p = place_of(text, f.start);
+    Compiled::Refused(f.number, p.line, p.column)
+}
+
+// Compiles a text into the table. The bytes past those used stay, and a refusal changes nothing.
+pub fn compile(text: &[u8], table: &mut [u8]) -> Compiled
+    ensures { λ r. ⌜ CompiledInto (now (text .entry)) (now (table .entry)) (now (table .exit)) r ⌝ }
+{
+    let classes = class_table();
+    let found = recognise(&classes, text, table.len());
+    match found {
+        Found::Unfit(number) => Compiled::Refused(number, 0, 0),
+        Found::Turned(f) => told(text, f),
+        Found::Accepted(policies, entries) => {
+            let empty = [0u8; 1];
+            read_all(&classes, text, table, &empty);
+            Compiled::Policies(policies, 5 * entries)
+        }
+    }
+}
+
+// The policies and entries of a text whose table begins with the bytes that it compiles to.
+pub fn held_policies(classes: &[u8; 256], text: &[u8], table: &[u8]) -> Held
+    requires { ⌜ now classes ≡ classTable ⌝ }
+    ensures { λ r. ⌜ r ≡ heldOf (now (text .entry)) (now (table .entry)) ⌝ }
+{
+    if 8192 < text.len() {
+        return Held::Wrong;
+    }
+    let mut none = [0u8; 1];
+    let whole = read_all(classes, text, &mut none, table);
+    match whole {
+        Whole::Lost(_) => Held::Wrong,
+        Whole::All(policies, entries, same) => {
+            if same {
+                Held::Right(policies, entries)
+            } else {
+                Held::Wrong
+            }
+        }
+    }
+}
+
+// Whether a text compiles and the table begins with its bytes.
+pub fn begins(text: &[u8], table: &[u8]) -> bool
+    ensures { λ r. ⌜ r ≡ beginsOf (now (text .entry)) (now (table .entry)) ⌝ }
+{
+    let classes = class_table();
+    let held = held_policies(&classes, text, table);
+    match held {
+        Held::Right(_, _) => true,
+        Held::Wrong => false,
+    }
+}

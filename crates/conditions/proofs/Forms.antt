@@ -1,0 +1,136 @@
+-- A condition by its first token, and its parts. Assumes nothing.
+use mathlib.Core.Path.{_≡_, refl, _∙_}
+use mathlib.Core.Bool.{Bool, true, false}
+use mathlib.Core.List.{List, [], _∷_, _++_}
+use Prim.Native.Nat.{ℕ, zero, suc, _+_, _-_, _≤_}
+use native.Mathlib.Omega.{arith}
+use native.Mathlib.Numerals.{sub-one}
+use lib.Dec.{eqb}
+use lib.ListN.{length}
+use borrow.Author.Tests.{eq-eqb, ne-eqb, eqb-true, eqb-false}
+use Rattle.tokens.specs.Kinds as kinds
+use Rattle.tokens.specs.declared.reader.Token.{Token}
+use Rattle.tokens.specs.Tokens.{tokenAt, Reads}
+use Rattle.tokens.proofs.ReadLaws.{reads}
+use Rattle.reading.specs.Lexemes.{Lexeme, lexeme, is, choose, stream}
+use Rattle.reading.specs.Reader as reader
+use Rattle.reading.specs.Reader.{Reader, took, numbered, refuseBy, bind, on, ten, before, mapped}
+use Rattle.reading.proofs.Stream.{stream-end, stream-token, next-on, next-off}
+use Rattle.grammar.specs.Policies.{Tree, literal, choice}
+use Rattle.grammar.specs.Rules.{isLiteral, literalOf, isRoot, rootOf}
+use Rattle.grammar.specs.Parser.{noLevel, read-operator, read-rooted, read-simple, read-negated, read-bracketed, read-conditional, read-deeper, read-condition}
+use Rattle.table.specs.Entries.{entry, treeEntries}
+use Rattle.parts.specs.Names.{rootFrom}
+use Rattle.parts.specs.Answers.{Taken, Put, Done, closedOf, EntryPut}
+use Rattle.parts.specs.declared.answers.Answer.{Answer}
+use Rattle.parts.proofs.Writing.{kept-append, as-kept, closing}
+
+-- the token after a token stands past its first byte
+pub past-start : (text : List ℕ) (t n : Token) {from : ℕ} → Reads text from t → n ≡ tokenAt text (t .end) → (t .kind ≡ 0 → ⊥) → t .start ≤ n .start - 1
+past-start text t n r q e = rw q (let s = reads text (t .end) (r .high) .low in let x = r .some e in omega arith)
+
+-- ---- by the first token
+
+pub literal-some : (t : Token) → isLiteral (lexeme [] t) ≡ true → t .kind ≡ 0 → ⊥
+literal-some t h e = let z : false ≡ true = rw e at h in let y : _≡_ {A = ℕ} 0 1 = cc in omega arith
+
+pub root-some : (t : Token) → isRoot (lexeme [] t) ≡ true → t .kind ≡ 0 → ⊥
+root-some t h e = let z : false ≡ true = rw e at h in let y : _≡_ {A = ℕ} 0 1 = cc in omega arith
+
+on-same : {A : Type 0} (k : Lexeme → Bool) (f : Lexeme → Reader A) (g g′ : Reader A) (i : List Lexeme) → g i ≡ g′ i → on k f g i ≡ on k f g′ i
+unfolding on choose
+on-same k f g g′ [] h = h
+on-same {A = A} k f g g′ (x ∷ r) h = go (k x)
+  where
+    go : (b : Bool) → choose b (λ _. f x r) (λ _. g (x ∷ r)) ≡ choose b (λ _. f x r) (λ _. g′ (x ∷ r))
+    go true = refl
+    go false = h
+
+deeper-is : (d : ℕ) → (d ≡ 0 → ⊥) → read-condition d ≡ read-simple (read-deeper (read-condition (d - 1)))
+unfolding read-condition
+deeper-is zero h = absurd (h refl)
+deeper-is (suc d) h = rw sub-one
+
+module _ (text : List ℕ) (t : Token) where
+  level : (t .kind ≡ kinds.bang → ⊥) → (t .kind ≡ kinds.leftRound → ⊥) → (t .kind ≡ kinds.ifWord → ⊥) → ten (lexeme text t) ≡ noLevel (lexeme text t)
+  unfolding noLevel
+  level n₁ n₂ n₃ = rw (ne-eqb _ _ n₁, ne-eqb _ _ n₂, ne-eqb _ _ n₃)
+
+  refused-same : {A : Type 0} (number number′ : Lexeme → ℕ) → number (lexeme text t) ≡ number′ (lexeme text t) → refuseBy {A = A} number (stream text t) ≡ refuseBy number′ (stream text t)
+  unfolding refuseBy numbered
+  refused-same {A = A} number number′ h = go (eqb (t .kind) 0) refl
+    where
+      go : (b : Bool) → eqb (t .kind) 0 ≡ b → refuseBy {A = A} number (stream text t) ≡ refuseBy number′ (stream text t)
+      go true e = rw (stream-end text t (eqb-true _ _ e))
+      go false e = rw (stream-token text t (eqb-false _ _ e), h)
+
+  simple-same : (inner : Reader Tree) → read-deeper inner (stream text t) ≡ refuseBy noLevel (stream text t) → read-simple (read-deeper inner) (stream text t) ≡ read-condition 0 (stream text t)
+  unfolding read-condition read-simple
+  simple-same inner h = on-same isLiteral _ _ _ (stream text t) (on-same isRoot _ _ _ (stream text t) h)
+
+  module _ (n : Token) (q : n ≡ tokenAt text (t .end)) (high : t .end ≤ length text) where
+    pub literal-first : isLiteral (lexeme [] t) ≡ true → read-condition 0 (stream text t) ≡ read-operator (literal (literalOf (lexeme text t))) (stream text n)
+    unfolding read-condition read-simple
+    literal-first e = next-on text t isLiteral _ _ n (literal-some t e) high q e
+
+    module _ (n₁ : isLiteral (lexeme [] t) ≡ false) where
+      pub root-first : isRoot (lexeme [] t) ≡ true → read-condition 0 (stream text t) ≡ read-rooted (rootFrom (t .kind)) (stream text n)
+      unfolding read-condition read-simple rootOf
+      root-first e = next-off text t isLiteral _ _ n₁ ∙ next-on text t isRoot _ _ n (root-some t e) high q e
+
+      pub none-first : isRoot (lexeme [] t) ≡ false → read-condition 0 (stream text t) ≡ refuseBy noLevel (stream text t)
+      unfolding read-condition read-simple
+      none-first e = next-off text t isLiteral _ _ n₁ ∙ next-off text t isRoot _ _ e
+
+    module _ (d : ℕ) (deep : d ≡ 0 → ⊥) where
+      -- a token that is no literal and no root goes one deeper
+      deeper-first : isLiteral (lexeme text t) ≡ false → isRoot (lexeme text t) ≡ false → read-condition d (stream text t) ≡ read-deeper (read-condition (d - 1)) (stream text t)
+      unfolding read-simple
+      deeper-first l r = rw (deeper-is d deep) (next-off text t isLiteral _ _ l ∙ next-off text t isRoot _ _ r)
+
+      pub negation-first : t .kind ≡ kinds.bang → read-condition d (stream text t) ≡ read-negated (read-condition (d - 1)) (stream text n)
+      unfolding read-deeper
+      negation-first e = deeper-first (rw e) (rw e) ∙ next-on text t (is kinds.bang) _ _ n (λ (z : t .kind ≡ 0). omega arith) high q (eq-eqb _ _ e)
+
+      module _ (n₁ : t .kind ≡ kinds.bang → ⊥) where
+        pub group-first : t .kind ≡ kinds.leftRound → read-condition d (stream text t) ≡ read-bracketed (read-condition (d - 1)) (stream text n)
+        unfolding read-deeper
+        group-first e =
+            deeper-first (rw e) (rw e) ∙ next-off text t (is kinds.bang) _ _ (ne-eqb _ _ n₁)
+            ∙ next-on text t (is kinds.leftRound) _ _ n (λ (z : t .kind ≡ 0). omega arith) high q (eq-eqb _ _ e)
+
+        module _ (n₂ : t .kind ≡ kinds.leftRound → ⊥) where
+          pub choice-first : t .kind ≡ kinds.ifWord → read-condition d (stream text t) ≡ read-conditional (read-condition (d - 1)) (stream text n)
+          unfolding read-deeper
+          choice-first e =
+              deeper-first (rw e) (rw e) ∙ next-off text t (is kinds.bang) _ _ (ne-eqb _ _ n₁) ∙ next-off text t (is kinds.leftRound) _ _ (ne-eqb _ _ n₂)
+              ∙ next-on text t (is kinds.ifWord) _ _ n (λ (z : t .kind ≡ 0). omega arith) high q (eq-eqb _ _ e)
+
+          -- any other token stands as where no level is left
+          pub flat-first : (t .kind ≡ kinds.ifWord → ⊥) → read-condition d (stream text t) ≡ read-condition 0 (stream text t)
+          unfolding read-deeper
+          flat-first n₃ = rw (deeper-is d deep) (simple-same (read-condition (d - 1)) (
+              next-off text t (is kinds.bang) _ _ (ne-eqb _ _ n₁) ∙ next-off text t (is kinds.leftRound) _ _ (ne-eqb _ _ n₂) ∙ next-off text t (is kinds.ifWord) _ _ (ne-eqb _ _ n₃)
+              ∙ refused-same ten noLevel (level n₁ n₂ n₃)))
+
+-- ---- the parts of a choice, in order
+
+module _ (inner : Reader Tree) (i : List Lexeme) {m : List Lexeme} {a : Tree} (e : before kinds.thenWord inner i ≡ took a m) where
+  pub choice-second : read-conditional inner i ≡ bind (before kinds.elseWord inner m) (λ b. mapped (choice a b) inner)
+  unfolding read-conditional bind
+  choice-second = rw e
+
+  pub choice-third : {n : List Lexeme} {b : Tree} → before kinds.elseWord inner m ≡ took b n → read-conditional inner i ≡ bind (inner n) (λ t. took (choice a b t))
+  unfolding bind mapped
+  choice-third f = choice-second ∙ rw f
+
+module _ {text seen : List ℕ} {from′ from first free₁ free₂ : ℕ} {same same₁ same₂ : Bool} {next₁ next₂ : Token} {T T₁ T₂ T₃ T₄ : List ℕ} {p₁ p₂ p₃ : reader.Answer Tree} {r r₂ : Answer}
+    (k₁ : Taken treeEntries text seen from first same p₁ next₁ free₁ same₁) (w₁ : Put treeEntries first T T₁ p₁)
+    (k₂ : Taken treeEntries text seen (next₁ .start) free₁ same₁ p₂ next₂ free₂ same₂) (w₂ : Put treeEntries free₁ T₁ T₂ p₂) where
+  pub choice-done : from′ + 1 ≤ from → Done treeEntries text seen (next₂ .start) free₂ same₂ T₂ T₃ p₃ r → (r₂ ≡ closedOf seen (λ _. entry 28 free₁ free₂) r) × EntryPut T₃ (λ _. entry 28 free₁ free₂) r T₄
+      → Done treeEntries text seen from′ first same T T₄ (bind p₃ (λ t. took (choice (k₁ .value) (k₂ .value) t))) r₂
+  unfolding treeEntries
+  choice-done l d c =
+      let x = k₁ .room in let y = k₂ .room in
+      closing (treeEntries first (k₁ .value) ++ treeEntries free₁ (k₂ .value)) (choice (k₁ .value) (k₂ .value)) (kept-append (as-kept k₁ w₁) (as-kept k₂ w₂)) (λ _. entry 28 free₁ free₂)
+      (λ t n e. rw (← k₁ .counted .free-is, ← k₂ .counted .free-is)) (omega arith) d c

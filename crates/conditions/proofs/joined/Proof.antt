@@ -1,0 +1,22 @@
+use native.Mathlib.Omega.{arith}
+use Prim.Native.Nat.{ℕ}
+use mathlib.Core.Bool.{true, false}
+use mathlib.Core.Path.{_≡_, refl}
+use borrow.Author.Needs.{needs}
+use Rattle.conditions.proofs.joined.Statement.{statement}
+use Rattle.conditions.proofs.joined.Tie as tie
+
+closed-requires : tie.Need-closed-requires
+closed-requires c κs = search needs
+
+same-length : tie.Need-same-length
+same-length c = search needs
+
+returns : tie.Need-returns
+returns c = record { first = λ (e : _ ≡ false). absurd (let t = c .before .before .before .before .if1 .taken in let z : _≡_ {A = ℕ} 0 1 = cc in omega arith); later = λ e. c .before .before .closed .ensures }
+
+returns-2 : tie.Need-returns-2
+returns-2 c = record { first = λ e. (refl, refl); later = λ (e : _ ≡ true). absurd (let t = c .if1 .left in let z : _≡_ {A = ℕ} 0 1 = cc in omega arith) }
+
+pub joined-spec : {M : Type 1} → statement M
+joined-spec = tie.close (tie.spec closed-requires same-length returns returns-2)

@@ -1,0 +1,14 @@
+use Rattle.grammar.specs.Parser.{noLevel}
+use Rattle.conditions.proofs.no_level.Statement.{statement}
+use Rattle.conditions.proofs.no_level.Tie as tie
+
+returns : tie.Need-returns
+unfolding noLevel
+returns c = rw (c .if1 .taken)
+
+returns-2 : tie.Need-returns-2
+unfolding noLevel
+returns-2 c = rw (c .if1 .left)
+
+pub no-level-spec : {M : Type 1} → statement M
+no-level-spec = tie.close (tie.spec returns returns-2)

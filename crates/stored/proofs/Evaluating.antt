@@ -1,0 +1,165 @@
+-- From a condition's last entry to its parts, and from the last policy to those before it. Assumes nothing.
+use mathlib.Core.Path.{_≡_, sym, _∙_, subst}
+use mathlib.Core.List.{List, [], _∷_}
+use mathlib.Core.Option.{Option, some}
+use Prim.Native.Nat.{ℕ, _+_, _-_, _≤_, _<_}
+use native.Mathlib.Omega.{arith}
+use Rattle.placing.specs.Placed.{Each, and-each, TreePlaced, a-negation, in-brackets, a-conjunction, a-disjunction, a-choice, PolicyPlaced, ConditionPlaced}
+use Rattle.placing.specs.Placed as placing
+use Rattle.grammar.specs.Policies.{Root, Root.Principal, Root.Resource, Root.Env, Root.Action, Comparator, Comparator.Equal, Comparator.NotEqual, Comparator.More, Comparator.AtLeast, Comparator.Less, Comparator.AtMost, Which, Which.All, Which.Any, Tree, Policy}
+use Rattle.table.specs.declared.Entry.{Entry}
+use Rattle.table.specs.Entries.{comparatorKind, whichKind, hasKind}
+use Rattle.table.specs.Layout.{entryAt}
+use Rattle.stored.specs.Stored.{Stored, StoredPolicies, View, is-true, is-false, is-comparison, is-like, is-among, is-within, is-contains, is-has, is-not, is-brackets, is-both, is-either, is-choice, ConditionView, no-condition, a-condition}
+use Rattle.stored.specs.ReadBack.{treeAt, policiesAt}
+use Rattle.stored.specs.Ready.{Ready, ReadyPart, Room, Parts, Node, ReadyPolicies, Last}
+use Rattle.stored.proofs.Standing.{each-left, each-right}
+use Rattle.stored.proofs.Views.{view-of, stored-some, stored-few}
+use Rattle.stored.proofs.Policies.{last-policy}
+use Rattle.stored.proofs.ReadingBack.{tree-back, seen-back, policy-back, policies-back}
+
+-- what is stored, and lies in the text, is read back
+pub ready : {text table : List ℕ} {end : ℕ} {t : Tree} → Stored table end t → TreePlaced text t → Ready text table end
+ready {text} {table} {end} h p = record { stored = subst (Stored table end) (sym (tree-back h)) h; placed = subst (TreePlaced text) (sym (tree-back h)) p }
+
+comparator-kind : (c : Comparator) → (13 ≤ comparatorKind c) × (comparatorKind c ≤ 18)
+comparator-kind Equal = (omega arith, omega arith)
+comparator-kind NotEqual = (omega arith, omega arith)
+comparator-kind More = (omega arith, omega arith)
+comparator-kind AtLeast = (omega arith, omega arith)
+comparator-kind Less = (omega arith, omega arith)
+comparator-kind AtMost = (omega arith, omega arith)
+
+which-kind : (w : Which) → (22 ≤ whichKind w) × (whichKind w ≤ 23)
+which-kind All = (omega arith, omega arith)
+which-kind Any = (omega arith, omega arith)
+
+has-kind : (root : Root) → (5 ≤ hasKind root) × (hasKind root ≤ 8)
+has-kind Principal = (omega arith, omega arith)
+has-kind Resource = (omega arith, omega arith)
+has-kind Env = (omega arith, omega arith)
+has-kind Action = (omega arith, omega arith)
+
+-- ---- conditions
+
+module _ {table : List ℕ} {end : ℕ} where
+  kind-of : {t : Tree} {x : Entry} → View table end t x → (5 ≤ x .kind) × (x .kind ≤ 28)
+  kind-of is-true = (omega arith, omega arith)
+  kind-of is-false = (omega arith, omega arith)
+  kind-of (is-comparison {c = c} q n h k) = let (a, b) = comparator-kind c in (omega arith, omega arith)
+  kind-of (is-like n h) = (omega arith, omega arith)
+  kind-of (is-among n h k) = (omega arith, omega arith)
+  kind-of (is-within n h k) = (omega arith, omega arith)
+  kind-of (is-contains {w = w} q n h k) = let (a, b) = which-kind w in (omega arith, omega arith)
+  kind-of (is-has {root = root} q) = let (a, b) = has-kind root in (omega arith, omega arith)
+  kind-of (is-not s) = (omega arith, omega arith)
+  kind-of (is-brackets s) = (omega arith, omega arith)
+  kind-of (is-both n l r) = (omega arith, omega arith)
+  kind-of (is-either n l r) = (omega arith, omega arith)
+  kind-of (is-choice m n c a b) = (omega arith, omega arith)
+
+no-operands : {end : ℕ} {x : Entry} → (13 ≤ x .kind → x .kind ≤ 23 → ⊥) → Room end x
+no-operands n = record {
+  compared = λ a b. absurd (n a (omega arith));
+  like = λ a. absurd (n (omega arith) (omega arith));
+  among = λ a. absurd (n (omega arith) (omega arith));
+  within = λ a. absurd (n (omega arith) (omega arith));
+  contains = λ a b. absurd (n (omega arith) b);
+}
+
+two-operands : {end : ℕ} {x : Entry} → 3 ≤ end → x .kind ≤ 21 → (x .kind ≡ 20 → ⊥) → Room end x
+two-operands n h l = record { compared = λ a b. n; like = λ a. omega arith; among = λ a. absurd (l a); within = λ a. n; contains = λ a b. absurd (omega arith) }
+
+a-list : {end : ℕ} {x : Entry} → x .first + 2 ≤ end → 20 ≤ x .kind → (x .kind ≡ 21 → ⊥) → Room end x
+a-list n h w = record { compared = λ a b. absurd (omega arith); like = λ a. omega arith; among = λ a. n; within = λ a. absurd (w a); contains = λ a b. n }
+
+room-of : {table : List ℕ} {end : ℕ} {t : Tree} {x : Entry} → View table end t x → Room end x
+room-of is-true = no-operands (λ l h. omega arith)
+room-of is-false = no-operands (λ l h. omega arith)
+room-of (is-comparison {c = c} q n h k) = let (a, b) = comparator-kind c in two-operands n (omega arith) (λ e. omega arith)
+room-of (is-like n h) =
+    record { compared = λ a b. absurd (omega arith); like = λ a. n; among = λ a. absurd (omega arith); within = λ a. absurd (omega arith); contains = λ a b. absurd (omega arith) }
+room-of (is-among n h k) = a-list n (omega arith) (λ e. omega arith)
+room-of (is-within n h k) = two-operands n (omega arith) (λ e. omega arith)
+room-of (is-contains {w = w} q n h k) = let (a, b) = which-kind w in a-list n (omega arith) (λ e. omega arith)
+room-of (is-has {root = root} q) = let (a, b) = has-kind root in no-operands (λ l h. omega arith)
+room-of (is-not s) = no-operands (λ l h. omega arith)
+room-of (is-brackets s) = no-operands (λ l h. omega arith)
+room-of (is-both n l r) = no-operands (λ l h. omega arith)
+room-of (is-either n l r) = no-operands (λ l h. omega arith)
+room-of (is-choice m n c a b) = no-operands (λ l h. omega arith)
+
+module _ {text table : List ℕ} {end : ℕ} where
+  part-ready : {m : ℕ} {t : Tree} → m < end → Stored table m t → TreePlaced text t → ReadyPart text table end m
+  part-ready l h p = record { ready = ready h p; falls = l }
+
+  no-parts : {x : Entry} → x .kind < 24 → Parts text table end x
+  no-parts h = record { last = λ a. absurd (omega arith); left = λ a. absurd (omega arith); middle = λ a. absurd (omega arith) }
+
+  one-part : {x : Entry} → x .kind < 26 → ReadyPart text table end (end - 1) → Parts text table end x
+  one-part h p = record { last = λ a. p; left = λ a. absurd (omega arith); middle = λ a. absurd (omega arith) }
+
+  two-parts : {x : Entry} → x .kind < 28 → ReadyPart text table end (x .first) → ReadyPart text table end (end - 1) → Parts text table end x
+  two-parts h l r = record { last = λ a. r; left = λ a. l; middle = λ a. absurd (omega arith) }
+
+  parts-of : {t : Tree} {x : Entry} → 0 < end → View table end t x → TreePlaced text t → Parts text table end x
+  parts-of n is-true p = no-parts (omega arith)
+  parts-of n is-false p = no-parts (omega arith)
+  parts-of n (is-comparison {c = c} q m h k) p = let (a, b) = comparator-kind c in no-parts (omega arith)
+  parts-of n (is-like m h) p = no-parts (omega arith)
+  parts-of n (is-among m h k) p = no-parts (omega arith)
+  parts-of n (is-within m h k) p = no-parts (omega arith)
+  parts-of n (is-contains {w = w} q m h k) p = let (a, b) = which-kind w in no-parts (omega arith)
+  parts-of n (is-has {root = root} q) p = let (a, b) = has-kind root in no-parts (omega arith)
+  parts-of n (is-not s) (a-negation p) = one-part (omega arith) (part-ready (omega arith) s p)
+  parts-of n (is-brackets s) (in-brackets p) = one-part (omega arith) (part-ready (omega arith) s p)
+  parts-of n (is-both m l r) (a-conjunction p q) = two-parts (omega arith) (part-ready m l p) (part-ready (omega arith) r q)
+  parts-of n (is-either m l r) (a-disjunction p q) = two-parts (omega arith) (part-ready m l p) (part-ready (omega arith) r q)
+  parts-of n (is-choice i j c a b) (a-choice p q r) =
+      record { last = λ x. part-ready (omega arith) b r; left = λ x. part-ready i c p; middle = λ x. part-ready j a q }
+
+  -- a condition's last entry says which it is and where its parts are, each ready
+  pub node-of : Ready text table end → Node text table end (entryAt table (end - 1))
+  node-of r =
+      let n = stored-some (r .stored) in let v = view-of (treeAt table end) (r .stored) in let (low, high) = kind-of v in
+      let back = seen-back table (treeAt table) end (λ m u h l. tree-back h) n v in
+      record {
+        is = sym back;
+        placed = subst (TreePlaced text) (sym back) (r .placed);
+        some = n;
+        few = stored-few (r .stored);
+        low = low;
+        high = high;
+        room = room-of v;
+        parts = parts-of n v (r .placed);
+      }
+
+-- ---- policies
+
+pub ready-policies : {text table : List ℕ} {end : ℕ} {ps : List Policy} → StoredPolicies table end ps → Each (PolicyPlaced text) ps → ReadyPolicies text table end
+ready-policies {text} {table} {end} h p =
+    record { stored = subst (StoredPolicies table end) (sym (policies-back h)) h; placed = subst (Each (PolicyPlaced text)) (sym (policies-back h)) p }
+
+only : {A : Type 0} {P : A → Type 0} {a : A} → Each P (a ∷ []) → P a
+only (and-each p k) = p
+
+condition-ready : {text table : List ℕ} {first end : ℕ} {c : Option Tree} → ConditionView table first end c → ConditionPlaced text c → first < end → Ready text table end
+condition-ready (no-condition e) p l = absurd (omega arith)
+condition-ready (a-condition m h) (placing.a-condition p d) l = ready h p
+
+-- the last policy, and those before it, ready too
+pub last-of : {text table : List ℕ} {end : ℕ} → ReadyPolicies text table end → 0 < end → Last text table end (entryAt table (end - 1))
+last-of {text} {table} {end} r n =
+    let k = last-policy (policiesAt table end) (r .stored) n in
+    let v = k .policy in
+    let each = subst (Each (PolicyPlaced text)) (k .is) (r .placed) in
+    let p = only (each-right (k .front) (k .last ∷ []) each) in
+    record {
+      is = k .is ∙ rw (← policies-back (k .before), ← policy-back v);
+      placed = subst (PolicyPlaced text) (sym (policy-back v)) p;
+      begins = v .begins;
+      ends = v .ends;
+      few = r .stored .stands .few;
+      before = ready-policies (k .before) (each-left (k .front) (k .last ∷ []) each);
+      condition = condition-ready (v .condition) (p .condition);
+    }

@@ -1,0 +1,10 @@
+pub mod Standing
+pub mod Views
+pub mod Policies
+pub mod Counting
+pub mod Begun
+pub mod ReadingBack
+pub mod Nodes
+pub mod Evaluating
+pub mod Theorems
+pub mod Examples

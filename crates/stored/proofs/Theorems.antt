@@ -1,0 +1,39 @@
+-- The bytes that a text is compiled to say its policies: they are read back from any table that begins with them. Assumes nothing.
+use mathlib.Core.Path.{_≡_, sym, _∙_, ap, subst}
+use mathlib.Core.List.{List, [], append-nil}
+use Prim.Native.Nat.{ℕ}
+use native.Mathlib.Omega.{arith}
+use lib.ListN.{length}
+use Rattle.grammar.specs.Policies.{Policy}
+use Rattle.placing.proofs.Theorems.{policies-placed}
+use Rattle.table.specs.Entries.{policiesEntries}
+use Rattle.table.specs.Layout.{bytesOf, Begins}
+use Rattle.table.proofs.Holding.{length-bytesOf}
+use Rattle.stored.specs.Stored.{Says, StoredPolicies}
+use Rattle.stored.specs.ReadBack.{policiesAt}
+use Rattle.stored.specs.Ready.{ReadyPolicies}
+use Rattle.stored.proofs.Begun.{begins-stored}
+use Rattle.stored.proofs.ReadingBack.{policies-back, one-list}
+use Rattle.stored.proofs.Evaluating.{ready-policies}
+
+-- a table that begins with a text's compiled bytes says its policies
+module _ {table text : List ℕ} {ps : List Policy} (says : Says text ps) (b : Begins (bytesOf (policiesEntries 0 ps)) table) where
+  pub compiled-says : policiesAt table (length (policiesEntries 0 ps)) ≡ ps
+  compiled-says = policies-back (begins-stored says b)
+
+  -- and they can be evaluated there
+  pub compiled-ready : ReadyPolicies text table (length (policiesEntries 0 ps))
+  compiled-ready = ready-policies (begins-stored says b) (policies-placed text ps (says .read) .each)
+
+-- two texts that are compiled to the same bytes, or to the same entries, say the same policies
+module _ {a b : List ℕ} {ps qs : List Policy} (h : Says a ps) (k : Says b qs) where
+  pub same-bytes : bytesOf (policiesEntries 0 ps) ≡ bytesOf (policiesEntries 0 qs) → ps ≡ qs
+  same-bytes e =
+      let T = bytesOf (policiesEntries 0 ps) in
+      let n = length-bytesOf (policiesEntries 0 ps) in let m = length-bytesOf (policiesEntries 0 qs) in let l = ap length e in
+      let same : length (policiesEntries 0 qs) ≡ length (policiesEntries 0 ps) = omega arith in
+      one-list (begins-stored h (record { rest = []; is = sym (append-nil T) }))
+      (subst (λ (i : ℕ). StoredPolicies T i qs) same (begins-stored k (record { rest = []; is = e ∙ sym (append-nil (bytesOf (policiesEntries 0 qs))) })))
+
+  pub same-entries : policiesEntries 0 ps ≡ policiesEntries 0 qs → ps ≡ qs
+  same-entries e = same-bytes (ap bytesOf e)

@@ -1,0 +1,1 @@
+// How policies are read back from a table that begins with their entries. Definitions and theorems, no code.
