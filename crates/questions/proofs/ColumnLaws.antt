@@ -263,4 +263,5 @@ question-is s p h =
         let n = byte s (p .end) in
         let o = only-at (ltb (p .end) (length s) && leb n 6) (columnsEnd n s (p .end + 1)) e q in
         let m = only-at (distinct (each n (columnEnd s) (nameOf Column s) (p .end + 1))) (many n (columnEnd s) (p .end + 1)) e (o .1) in
-        record { sections = w; few = leb-true n 6 (and-true (ltb (p .end) (length s)) (leb n 6) (o .0) .1); last = e; columns = m .1 }
+        let c = and-true (ltb (p .end) (length s)) (leb n 6) (o .0) in
+        record { sections = w; counted = ltb-true (p .end) (length s) (c .0); few = leb-true n 6 (c .1); last = e; columns = m .1 }

@@ -1,5 +1,5 @@
 -- Questions, the places of their columns and candidates, and the number of their rows. Definitions only.
-use Prim.Native.Nat.{ℕ, _+_, _*_, _≤_}
+use Prim.Native.Nat.{ℕ, _+_, _*_, _<_, _≤_}
 use mathlib.Core.Path.{_≡_}
 use mathlib.Core.List.{List, [], _∷_}
 use mathlib.Core.Bool.{Bool, false, _&&_, cond}
@@ -29,6 +29,7 @@ isQuestion s = leb (length s) 4096 && follows s (sectionsOf s)
 -- what a question whose sections are p says
 pub record Question (s : List ℕ) (p : Sections) : Type 0 where
   pub sections : Sectioned s p
+  pub counted : p .end < length s
   pub few : byte s (p .end) ≤ 6
   pub last : ℕ
   pub columns : many (byte s (p .end)) (columnEnd s) (p .end + 1) ≡ At last

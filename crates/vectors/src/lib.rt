@@ -35,6 +35,17 @@ pub fn print_number(n: u64, end: u8) {
     io::write_all(STDOUT_FILENO, &after);
 }
 
+// Writes a blank and a number.
+pub fn print_more(n: u64) {
+    io::write_all(STDOUT_FILENO, b" ");
+    io::print_decimal(STDOUT_FILENO, n);
+}
+
+// Ends a line.
+pub fn print_end() {
+    io::write_all(STDOUT_FILENO, b"\n");
+}
+
 // Writes a number's bits as 16 hexadecimal digits, and a byte after them.
 pub fn print_bits(x: f64, end: u8)
     requires { ⌜ T (not (isNan x)) ⌝ }

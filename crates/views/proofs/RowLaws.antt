@@ -4,16 +4,18 @@ use mathlib.Core.List.{List, [], map}
 use mathlib.Core.Path.{_≡_, refl, sym, _∙_, ap}
 use borrow.Author.Tests.{lt-ltb}
 use native.Mathlib.Omega.{arith}
+use lib.Dec.{T}
+use lib.Ieee.Scale.{finite}
 use lib.ListN.{getD}
 use Rattle.bags.specs.Reading.{many}
 use Rattle.bags.specs.Sections.{Sectioned}
 use Rattle.bags.specs.declared.After.the-variants.{At}
 use Rattle.bags.specs.declared.sections.Sections.{Sections}
 use Rattle.bags.proofs.ReadLaws.{nth}
-use Rattle.lookups.specs.Values.{absent as absentValue, Valued, Whole}
+use Rattle.lookups.specs.Values.{absent as absentValue, valueAt, Valued, Whole}
 use Rattle.lookups.specs.Lookups.{lookIn, baseOf}
 use Rattle.lookups.specs.declared.values.Value.{Value}
-use Rattle.lookups.proofs.BagLaws.{value-whole, base-whole}
+use Rattle.lookups.proofs.BagLaws.{value-whole, value-finite, base-whole, base-finite}
 use Rattle.questions.specs.Columns.{candidateEnd, countAt, columnEnd}
 use Rattle.questions.specs.Questions.{headOf, countOf, choiceOf, cell}
 use Rattle.questions.proofs.ColumnLaws.{Columned, column-at, candidate-valued}
@@ -32,11 +34,19 @@ module _ (s : List ℕ) (p : Sections) (n : ℕ) (heads values : List ℕ) (w : 
   unfolding rowValue rowView baseBag
   row-is = columns-mean s (chosenOf n s heads values) (baseValue s p) (look (baseBag s p)) root path (look-means s (baseOf s p root) path)
 
-  row-whole : Whole s (rowValue s p n heads values root path)
+  -- what the base's values have, and those of the candidates
+  row-has : (P : Value → Type 0) → P (baseValue s p root path) → ((k : ℕ) → Valued s k → P (valueAt s k)) → P (rowValue s p n heads values root path)
   unfolding rowValue chosenOf
-  row-whole =
-      columns-have (λ i. chosenAt s (getD heads i 0) (getD values i 0)) (baseValue s p) root path (Whole s) (base-whole s path p root (w .sections)) n 0
-      (λ j l. let z : 0 + j ≡ j = omega arith in rw z (value-whole s (getD values j 0) (w .valued j l)))
+  row-has P base some =
+      columns-have (λ i. chosenAt s (getD heads i 0) (getD values i 0)) (baseValue s p) root path P base n 0
+      (λ j l. let z : 0 + j ≡ j = omega arith in rw z (some (getD values j 0) (w .valued j l)))
+
+  row-whole : Whole s (rowValue s p n heads values root path)
+  row-whole = row-has (Whole s) (base-whole s path p root (w .sections)) (value-whole s)
+
+  -- a number of the row is finite
+  pub row-finite : T (finite (rowValue s p n heads values root path .number))
+  row-finite = row-has (λ v. T (finite (v .number))) (base-finite s path p root (w .sections)) (value-finite s)
 
   pub row-reads : Reads s (rowValue s p n heads values root path) (rowView s p n heads values root path)
   row-reads = record { is = row-is; whole = row-whole }
