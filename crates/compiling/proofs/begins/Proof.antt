@@ -1,3 +1,4 @@
+-- `compiling::begins` meets its contract: by whether the table is held. Assumes nothing.
 use Rattle.compiling.proofs.Outcomes.{right-begins, wrong-begins}
 use Rattle.compiling.proofs.Outcomes.{right-begins, wrong-begins}
 use mathlib.Core.Path.{_∙_, sym}

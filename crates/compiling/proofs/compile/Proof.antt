@@ -1,3 +1,4 @@
+-- `compiling::compile` meets its contract: by what is found; the second pass writes what the first has counted. Assumes nothing.
 use Rattle.compiling.proofs.Outcomes.{accepts, clash, clash-unfit, place-inside, same-table, no-more, new-table}
 use Rattle.compiling.specs.Outcome.{said, toldOf, compiledOf}
 use lib.ListN.{length}

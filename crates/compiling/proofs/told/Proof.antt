@@ -1,3 +1,4 @@
+-- `compiling::told` meets its contract: the place of the refused token. Assumes nothing.
 use Rattle.compiling.specs.Outcome.{toldOf}
 use borrow.Author.Needs.{needs}
 use Rattle.compiling.proofs.told.Statement.{statement}

@@ -1,3 +1,4 @@
+-- The readers of conditions meet their contracts. They end: four times the levels that are left, and the reader's rank; a chain's loop takes of the text. Assumes nothing.
 use native.Mathlib.Omega.{arith}
 use borrow.Author.Needs.{needs}
 use Rattle.conditions.proofs.Forms.{past-start, negation-first, group-first, choice-first, flat-first, choice-second, choice-third, choice-done}

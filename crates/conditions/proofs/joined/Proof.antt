@@ -1,3 +1,4 @@
+-- `conditions::joined` meets its contract: by whether a part stands before. Assumes nothing.
 use native.Mathlib.Omega.{arith}
 use Prim.Native.Nat.{ℕ}
 use mathlib.Core.Bool.{true, false}

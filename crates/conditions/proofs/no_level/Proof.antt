@@ -1,3 +1,4 @@
+-- `conditions::no_level` meets its contract: by the token's kind. Assumes nothing.
 use Rattle.grammar.specs.Parser.{noLevel}
 use Rattle.conditions.proofs.no_level.Statement.{statement}
 use Rattle.conditions.proofs.no_level.Tie as tie

@@ -1,3 +1,4 @@
+-- `conditions::read_flat` meets its contract: by the first token. Assumes nothing.
 use native.Mathlib.Omega.{arith}
 use Rattle.conditions.proofs.Forms.{literal-some, root-some, literal-first, root-first, none-first, past-start}
 use Rattle.parts.proofs.Writing.{done-as, turned-done}

@@ -1,3 +1,4 @@
+-- `compiling::policies::effect_kind` meets its contract: by the effect. Assumes nothing.
 use Rattle.table.specs.Entries.{effectKind}
 use Rattle.compiling.proofs.policies.effect_kind.Statement.{statement}
 use Rattle.compiling.proofs.policies.effect_kind.Tie as tie

@@ -1,3 +1,4 @@
+-- `compiling::policies::no_policy` meets its contract: by the token's kind. Assumes nothing.
 use Rattle.grammar.specs.Parser.{noPolicy}
 use Rattle.compiling.proofs.policies.no_policy.Statement.{statement}
 use Rattle.compiling.proofs.policies.no_policy.Tie as tie

@@ -1,3 +1,4 @@
+-- `compiling::policies::read_all` meets its contract: the policies so far are read, and the rest is what is read from here on; each policy takes of the text. Assumes nothing.
 use borrow.Author.Needs.{needs}
 use Rattle.parts.proofs.Standing.{ready-past}
 use Rattle.grammar.specs.Parser.{noPolicy}

@@ -1,3 +1,4 @@
+-- `compiling::policies::read_policy` meets its contract: its four parts in order. Assumes nothing.
 use Rattle.compiling.proofs.Gates.{policy-first, policy-second, policy-third, policy-last, policy-done}
 use Rattle.conditions.proofs.Earlier.{lying, ready-at, told-as}
 use Rattle.parts.proofs.Writing.{done-as, turned-done, as-read, as-refused, free-small, next-lies, expected-done}

@@ -1,3 +1,4 @@
+-- `compiling::policies::read_second` meets its contract: a token that must stand there, the part, and its comma. Assumes nothing.
 use Rattle.compiling.proofs.Gates.{gate-first, standing, gate-done, gated}
 use Rattle.conditions.proofs.Earlier.{lying, ready-at, weaker, told-as}
 use Rattle.parts.proofs.Writing.{turned-done, as-read, as-refused, next-lies, expected-done}

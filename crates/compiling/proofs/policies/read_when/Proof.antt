@@ -1,3 +1,4 @@
+-- `compiling::policies::read_when` meets its contract: by whether `when` stands next. Assumes nothing.
 use Rattle.compiling.proofs.Gates.{gate-first, standing, gate-done, gated}
 use Rattle.conditions.proofs.Earlier.{lying, ready-at, weaker, told-as}
 use Rattle.parts.proofs.Writing.{settled, turned-done, as-read, as-refused, next-lies, kept-none, continuing, expected-done}
