@@ -1,6 +1,5 @@
 pub mod Gates
 pub mod Texts
-pub mod Counting
 pub mod Outcomes
 pub mod Promised
 pub mod Examples

@@ -32,7 +32,7 @@ use Rattle.compiling.specs.declared.Found.{Found}
 use Rattle.compiling.specs.declared.Found.the-variants.{Accepted, Unfit, Turned}
 use Rattle.compiling.specs.declared.Compiled.the-variants.{Policies, Refused}
 use Rattle.compiling.proofs.Outcomes.{fitting, too-long, no-room, accepts, same-table, clash, clash-unfit}
-use Rattle.compiling.proofs.Counting.{no-more-than-tokens, no-more-than-bytes}
+use Rattle.table.proofs.Counting.{entries-few as entries-below}
 use Rattle.compiling.specs.declared.Held.the-variants.{Right, Wrong}
 
 -- ---- what an answer says of what is found
@@ -218,9 +218,8 @@ nothing-changed text old number line column e = go (foundOf text (length old)) r
 
 -- a rule text has no more entries than bytes
 entries-few : (text : List ℕ) (ps : List Policy) → said text ≡ took ps [] → length (policiesEntries 0 ps) ≤ length text
-unfolding grammar.AcceptedExactly said
-entries-few text ps e =
-    let x = no-more-than-tokens sizes (accepted-exactly (tokensOf text) ps .0 e) in let y = no-more-than-bytes text in omega arith
+unfolding said
+entries-few text ps e = entries-below text ps e
 
 pub enough-room : EnoughRoom
 unfolding EnoughRoom

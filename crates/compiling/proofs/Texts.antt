@@ -1,10 +1,9 @@
 -- A whole text: its policies one after the other, and its end. Assumes nothing.
 use mathlib.Core.Path.{_≡_, refl, _∙_, sym, ap, subst}
 use mathlib.Core.Bool.{Bool, true, false, not, _&&_}
-use mathlib.Core.List.{List, [], _∷_, _++_, append-assoc}
+use mathlib.Core.List.{List, [], _∷_, _++_}
 use Prim.Native.Nat.{ℕ, _+_, _≤_}
 use native.Mathlib.Omega.{arith}
-use native.Mathlib.Nat.{add-zero}
 use lib.Dec.{ltb}
 use lib.ListN.{length, length-append}
 use borrow.Author.Tests.{ltb-true}
@@ -19,6 +18,7 @@ use Rattle.grammar.specs.Policies.{Policy}
 use Rattle.grammar.specs.Rules.{isEffect, mostPolicies}
 use Rattle.grammar.specs.Parser.{noPolicy, begins, read-policy, read-next-policy, atEnd, read-text}
 use Rattle.grammar.proofs.Steps.{policies-step}
+use Rattle.table.proofs.Counting.{policies-append}
 use Rattle.table.specs.declared.Entry.{Entry}
 use Rattle.table.specs.Entries.{policyEntries, policiesEntries}
 use Rattle.parts.specs.Answers.{Turned, turnedAway, Taken, Put}
@@ -29,20 +29,6 @@ use Rattle.compiling.specs.declared.policies.Whole.the-variants.{All, Lo
 use Rattle.parts.proofs.Standing.{turned, turned-as, turned-bind}
 use Rattle.parts.proofs.Writing.{Kept, kept-none, kept-append, as-kept}
 use Rattle.conditions.proofs.Earlier.{lying}
-
--- the entries of policies and of one more
-pub policies-append : (e : ℕ) (ps : List Policy) (p : Policy) → policiesEntries e (ps ++ p ∷ []) ≡ policiesEntries e ps ++ policyEntries (e + length (policiesEntries e ps)) p
-unfolding policiesEntries
-policies-append e [] p = rw add-zero (append-nil′ (policyEntries e p))
-  where
-    append-nil′ : (l : List Entry) → l ++ [] ≡ l
-    append-nil′ [] = refl
-    append-nil′ (x ∷ l) = rw (append-nil′ l)
-policies-append e (q ∷ ps) p =
-    let first = policyEntries e q in
-    let rest = policiesEntries (e + length first) ps in
-    let n : e + length (first ++ rest) ≡ e + length first + length rest = (let x = length-append first rest in omega arith) in
-    rw (n, policies-append (e + length first) ps p) (sym (append-assoc first rest (policyEntries (e + length first + length rest) p)))
 
 un-not : (b : Bool) → not b ≡ true → b ≡ false
 un-not true e = sym e

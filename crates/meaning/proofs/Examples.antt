@@ -1,6 +1,6 @@
 -- Document 01's cases G, H, I and L, and rules of 'Deciding', computed from the definitions. Assumes nothing.
 use mathlib.Core.Path.{_≡_, refl}
-use mathlib.Core.Bool.{Bool, true, false, cond, _&&_}
+use mathlib.Core.Bool.{true, false, cond, _&&_}
 use mathlib.Core.List.{List, [], _∷_}
 use Prim.Native.Nat.{ℕ}
 use Prim.Native.String.{String}
@@ -19,7 +19,7 @@ use Rattle.grammar.specs.Policies.{Tree, Policy}
 use Rattle.grammar.specs.Rules.{rootOf, literalOf, comparatorOf, whichOf, principalTypes, resourceTypes, typeAmong, admitted, wildcards, plain, isPattern}
 use Rattle.grammar.specs.Parser.{noName, bare, noType, noLevel, noPattern, tooMany, noPolicy, fits, read-first-name, goesOn, read-next-name, read-way, spannedBy, read-path, read-attribute, read-operand, isElement, read-element, read-list, read-bare, read-in, isLike, read-pattern, read-operator, read-call, read-rest, read-rooted, read-simple, read-joined, read-conjunction, read-disjunction, read-negated, read-bracketed, read-conditional, read-deeper, read-condition, read-conditions, read-type, read-principal, read-action, read-resource, read-when, read-policy, begins, read-next-policy, atEnd, read-text}
 use Rattle.tokens.specs.Blanks.{unblanked}
-use Rattle.views.specs.Meaning.{Datum, text, flag, texts, absent, View}
+use Rattle.views.specs.Meaning.{text, flag, texts, absent, View}
 use Rattle.meaning.specs.Values.{withAction, literalValue, attributeValue, operandValue, compares}
 use Rattle.meaning.specs.Conditions.{told, given, givenBoth, settled, negated, bothOf, eitherOf, choiceOf, some, all, verdict}
 use Rattle.meaning.specs.Targets.{Request, kindOf, idOf, isTyped, isAction, partMatches, isString, actionMatches}
@@ -27,7 +27,7 @@ use Rattle.meaning.specs.Decisions.{targetMatches, conditionHolds, satis
 use Rattle.meaning.specs.declared.Verdict.{Verdict}
 use Rattle.meaning.specs.declared.Verdict.the-variants.{Yes, No, Missing}
 use Rattle.meaning.specs.declared.Decision.{Decision}
-use Rattle.meaning.specs.declared.Decision.the-variants.{Allowed, Forbidden, Nothing, System}
+use Rattle.meaning.specs.declared.Decision.the-variants.{Allowed, Forbidden, Nothing}
 
 -- no attributes at all; and principal.a, principal.b and principal.l alone
 abbrev pub nothing : View

@@ -4,8 +4,7 @@ use mathlib.Core.Logic.{_⊎_, _↔_}
 use mathlib.Core.Bool.{Bool, true, false, cond, not, _&&_}
 use mathlib.Core.List.{List, [], _∷_}
 use mathlib.Core.Option.{Option, none, some}
-use Prim.Native.Nat.{ℕ, zero, suc, _<_, _≤_}
-use lib.ListN.{length, getD}
+use Prim.Native.Nat.{ℕ, zero, suc, _≤_}
 use Rattle.grammar.specs.Policies.{Tree, Policy}
 use Rattle.grammar.specs.Rules.{principalTypes, resourceTypes}
 use Rattle.views.specs.Meaning.{View}

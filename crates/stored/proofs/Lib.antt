@@ -1,7 +1,6 @@
 pub mod Standing
 pub mod Views
 pub mod Policies
-pub mod Counting
 pub mod Begun
 pub mod ReadingBack
 pub mod Nodes

@@ -1,12 +1,12 @@
 -- Policies that a table has, from the last to the first. Assumes nothing.
-use mathlib.Core.Path.{_≡_, refl, sym, _∙_, ap, subst}
-use mathlib.Core.List.{List, [], _∷_, _++_, append-assoc, append-nil}
+use mathlib.Core.Path.{_≡_, refl, sym, ap, subst}
+use mathlib.Core.List.{List, [], _∷_, _++_}
 use mathlib.Core.Option.{Option, none, some}
 use Prim.Native.Nat.{ℕ, _+_, _-_, _<_}
 use native.Mathlib.Omega.{arith}
-use native.Mathlib.Nat.{add-zero}
 use lib.ListN.{length, length-append, length-map}
 use Rattle.grammar.specs.Policies.{Tree, Actions, every, oneOf, Policy}
+use Rattle.table.proofs.Counting.{policies-append}
 use Rattle.table.specs.declared.Entry.{Entry}
 use Rattle.table.specs.Entries.{entry, literalEntry, literalEntries, partEntry, actionEntries, conditionEntries, effectKind, targetEntries, policyEntries, policiesEntries}
 use Rattle.table.specs.Layout.{entryAt}
@@ -68,14 +68,6 @@ policy-view {T} {end} p h =
     (subst (PolicyView T end p) (sym is) view, ap (λ (y : Entry). y .first) is)
 
 -- ---- all policies
-
-pub policies-append : (e : ℕ) (ps : List Policy) (p : Policy) → policiesEntries e (ps ++ p ∷ []) ≡ policiesEntries e ps ++ policyEntries (e + length (policiesEntries e ps)) p
-unfolding policiesEntries
-policies-append e [] p = append-nil (policyEntries e p) ∙ ap (λ (i : ℕ). policyEntries i p) (sym (add-zero e))
-policies-append e (q ∷ ps) p =
-    let a = policyEntries e q in let f = e + length a in let b = policiesEntries f ps in
-    let place : f + length b ≡ e + length (a ++ b) = (let n = length-append a b in omega arith) in
-    ap (λ (l : List Entry). a ++ l) (policies-append f ps p ∙ ap (λ (i : ℕ). b ++ policyEntries i p) place) ∙ sym (append-assoc a b (policyEntries (e + length (a ++ b)) p))
 
 pub policies-view : {T : List ℕ} {end : ℕ} (ps : List Policy) (p : Policy) → StoredPolicies T end (ps ++ p ∷ []) → LastPolicy T end (ps ++ p ∷ [])
 policies-view {T} {end} ps p h =

@@ -1,9 +1,10 @@
--- No more entries than tokens, and no more tokens than bytes. Assumes nothing.
+-- No more entries than tokens, and no more tokens than bytes: so a text's policies have no more entries than the text has bytes. Assumes nothing.
 use mathlib.Core.Path.{_≡_, refl, _∙_, sym, ap}
 use mathlib.Core.Bool.{Bool, true, false}
-use mathlib.Core.List.{List, [], _∷_, _++_, map}
-use mathlib.Core.Option.{Option, none, some}
-use Prim.Native.Nat.{ℕ, zero, suc, _+_, _*_, _≤_, _<_}
+use mathlib.Core.List.{List, [], _∷_, _++_, append-nil, append-assoc}
+use mathlib.Core.Option.{Option, some}
+use Prim.Native.Nat.{ℕ, zero, suc, _+_, _≤_}
+use native.Mathlib.Nat.{add-zero}
 use native.Mathlib.Omega.{arith}
 use lib.Dec.{eqb}
 use lib.ListN.{length, length-append, length-map}
@@ -12,16 +13,28 @@ use Rattle.tokens.specs.Kinds as kinds
 use Rattle.tokens.specs.Tokens.{tokenAt}
 use Rattle.tokens.proofs.ReadLaws.{reads}
 use Rattle.reading.specs.Lexemes.{Lexeme, lexeme, is, choose, following, tokensUpTo, tokensFrom, tokensOf}
-use Rattle.reading.specs.Reads.{Reads, Chain, Chain.alone, Chain.more, Onto, Onto.onto, Before, Before.ended, After, After.begun}
-use Rattle.reading.proofs.Readers.{Shrinks}
-use Rattle.grammar.specs.Policies.{Root, Literal, Operand, Tree, constant, not, brackets, both, either, choice, Part, Actions, Policy}
-use Rattle.grammar.specs.Rules.{isLiteral, literalOf, whichOf}
-use Rattle.grammar.specs.Grammar.{Limits, Names, Attribute, rooted, AnOperand, given, Element, element, Listing, Simple, comparison, likeness, listed, held, call, having, Joined, Conjunction, Disjunction, Form, simple, negation, bracketed, conditional, Nothing, Condition, Typed, ResourceRest, ActionRest, When, PolicyRest, Policies, RuleText}
+use Rattle.reading.specs.Reads.{Reads, Chain, Chain.alone, Chain.more, Onto.onto, Before.ended, After.begun}
+use Rattle.grammar.specs.Policies.{Literal, Operand, Tree, constant, both, either, Part, Actions, Policy}
+use Rattle.grammar.specs.Rules.{literalOf, whichOf}
+use Rattle.grammar.specs.Grammar.{Limits, Attribute, rooted, AnOperand, given, Element, element, Listing, Simple, comparison, likeness, listed, held, call, having, Joined, Conjunction, Disjunction, Form, simple, negation, bracketed, conditional, Condition, Typed, ResourceRest, ActionRest, When, PolicyRest, Policies, RuleText}
 use Rattle.grammar.specs.Grammar as grammar
+use Rattle.grammar.specs.Grammar.{sizes}
+use Rattle.grammar.specs.Parser.{read-text}
+use Rattle.grammar.specs.Promise.{AcceptedExactly}
+use Rattle.grammar.proofs.Exactly.{accepted-exactly}
 use Rattle.grammar.proofs.Framing.{shrinks-names}
+use Rattle.reading.specs.Reader.{took}
 use Rattle.table.specs.declared.Entry.{Entry}
 use Rattle.table.specs.Entries.{entry, placed, rootKind, whichKind, operandEntry, literalEntry, literalEntries, joint, treeEntries, partEntry, actionEntries, conditionEntries, effectKind, targetEntries, policyEntries, policiesEntries}
-use Rattle.compiling.proofs.Texts.{policies-append}
+
+-- the entries of policies and of one more
+pub policies-append : (e : ℕ) (ps : List Policy) (p : Policy) → policiesEntries e (ps ++ p ∷ []) ≡ policiesEntries e ps ++ policyEntries (e + length (policiesEntries e ps)) p
+unfolding policiesEntries
+policies-append e [] p = append-nil (policyEntries e p) ∙ ap (λ (i : ℕ). policyEntries i p) (sym (add-zero e))
+policies-append e (q ∷ ps) p =
+    let a = policyEntries e q in let f = e + length a in let b = policiesEntries f ps in
+    let place : f + length b ≡ e + length (a ++ b) = (let n = length-append a b in omega arith) in
+    ap (λ (l : List Entry). a ++ l) (policies-append f ps p ∙ ap (λ (i : ℕ). b ++ policyEntries i p) place) ∙ sym (append-assoc a b (policyEntries (e + length (a ++ b)) p))
 
 -- what R reads has a token for each of its entries
 record Pays {A : Type 0} (es : ℕ → A → List Entry) (R : Reads A) : Type 0 where
@@ -146,7 +159,7 @@ module _ (L : Limits) where
       omega arith
 
   -- a text's policies have no more entries than the text has tokens
-  pub no-more-than-tokens : {i : List Lexeme} {ps : List Policy} → RuleText L i ps → length (policiesEntries 0 ps) ≤ length i
+  no-more-than-tokens : {i : List Lexeme} {ps : List Policy} → RuleText L i ps → length (policiesEntries 0 ps) ≤ length i
   unfolding policiesEntries
   no-more-than-tokens h = let x = policies-tokens h in omega arith
 
@@ -164,6 +177,11 @@ module _ (text : List ℕ) where
       go false e x = let r = reads text at h in let s = r .some (eqb-false _ _ e) in let l = r .low in omega arith
 
   -- no text has more tokens than bytes
-  pub no-more-than-bytes : length (tokensOf text) ≤ length text
+  no-more-than-bytes : length (tokensOf text) ≤ length text
   unfolding tokensFrom
   no-more-than-bytes = let x = tokens-bytes (suc (length text)) 0 (omega arith) in omega arith
+
+-- no more entries than bytes
+pub entries-few : (text : List ℕ) (ps : List Policy) → read-text (tokensOf text) ≡ took ps [] → length (policiesEntries 0 ps) ≤ length text
+unfolding AcceptedExactly
+entries-few text ps e = let x = no-more-than-tokens sizes (accepted-exactly (tokensOf text) ps .0 e) in let y = no-more-than-bytes text in omega arith
