@@ -7,7 +7,8 @@ use native.Mathlib.Omega.{arith}
 use native.Mathlib.Numerals.{add-one}
 use lib.ListN.{length, take, drop}
 use lib.Seq.{drop-cons}
-use Rattle.bags.specs.Reading.{_then_, only, many, each, byte, part}
+use Rattle.slices.specs.Parts.{part}
+use Rattle.bags.specs.Reading.{_then_, only, many, each, byte}
 use Rattle.bags.specs.declared.After.{After}
 use Rattle.bags.specs.declared.After.the-variants.{At, Bad}
 

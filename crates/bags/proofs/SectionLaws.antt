@@ -10,7 +10,8 @@ use lib.ListN.{length, take, drop}
 use Rattle.slices.specs.Decides.{Decides}
 use Rattle.slices.specs.Order.{Before, before}
 use Rattle.slices.proofs.Order.{before-is}
-use Rattle.bags.specs.Reading.{byte, part, only, many}
+use Rattle.slices.specs.Parts.{part}
+use Rattle.bags.specs.Reading.{byte, only, many}
 use Rattle.bags.specs.Paths.{isPath}
 use Rattle.bags.specs.Values.{valueEnd}
 use Rattle.bags.specs.Sections.{pathAt, kindAt, entryEnd, ascends, ascending, pathsOf, entriesEnd, sectionEnd, sectionsOf, Sectioned, isBag}

@@ -3,7 +3,7 @@ use Prim.Native.Nat.{ℕ, zero, suc}
 use mathlib.Core.List.{List, [], _∷_}
 use mathlib.Core.Bool.{Bool, true, false}
 use lib.Dec.{eqb}
-use lib.ListN.{getD, take, drop}
+use lib.ListN.{getD}
 use Rattle.bags.specs.declared.After.{After}
 use Rattle.bags.specs.declared.After.the-variants.{At, Bad}
 
@@ -45,7 +45,3 @@ each (suc n) next what at = following (next at) λ e. what at e ∷ each n next 
 -- the byte at a place, and 0 past the end
 abbrev pub byte : List ℕ → ℕ → ℕ
 byte s at = getD s at 0
-
--- the n bytes from a place on
-unfoldable pub part : List ℕ → ℕ → ℕ → List ℕ
-part s at n = take n (drop at s)

@@ -6,7 +6,8 @@ use mathlib.Core.Bool.{Bool, true, false, _&&_}
 use lib.Dec.{ltb, leb, eqb}
 use lib.ListN.{length}
 use Rattle.slices.specs.Order.{Before, before}
-use Rattle.bags.specs.Reading.{byte, part, only, many, each}
+use Rattle.slices.specs.Parts.{part}
+use Rattle.bags.specs.Reading.{byte, only, many, each}
 use Rattle.bags.specs.Paths.{isPath}
 use Rattle.bags.specs.Values.{valueEnd}
 use Rattle.bags.specs.declared.After.{After}

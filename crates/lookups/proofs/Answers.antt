@@ -8,15 +8,14 @@ use native.Mathlib.Omega.{arith}
 use lib.Dec.{T}
 use lib.Ieee.Scale.{finite}
 use lib.ListN.{length, take, drop}
-use denote.Ref.{RefT, now}
-use Rattle.bags.specs.Reading.{byte, part}
+use Rattle.bags.specs.Reading.{byte}
 use Rattle.bags.specs.Paths.{isPath}
 use Rattle.bags.specs.Sections.{sectionsOf, isBag}
 use Rattle.bags.specs.declared.sections.Sections.{Sections}
 use Rattle.bags.specs.declared.sections.Divided.the-variants.{In}
 use Rattle.tokens.specs.Blanks.{unblanked}
 use Rattle.lookups.specs.Values.{absent}
-use Rattle.lookups.specs.Lookups.{lookIn, baseOf, bagOf, lookupOf, said, startOf, lengthOf, IsPart}
+use Rattle.lookups.specs.Lookups.{lookIn, baseOf, bagOf, lookupOf, said, startOf, lengthOf}
 use Rattle.lookups.specs.declared.values.Value.{Value}
 use Rattle.lookups.specs.declared.Answer.{Answer}
 use Rattle.lookups.specs.declared.Answer.the-variants.{Refused, Found}
@@ -94,18 +93,8 @@ module _ (s : List ℕ) (answer : Answer) (n : ℕ) (is : answer ≡ Refused n) 
   unfolding lengthOf
   refused-length = simp is
 
--- `&s[a..e]` is the part from a of e - a bytes
-pub part-is : (s r : RefT (List ℕ)) (a e start n : ℕ) → start ≡ a → n ≡ e - a
-    → now r ≡ take (e - a) (drop a (now s)) → r .ptr ≡ (s .ptr .0, a + s .ptr .1) → IsPart s r start n
-unfolding part
-part-is s r a e start n p q b o = record { bytes = simp (p, q) b; block = ap (λ (x : ℕ × ℕ). x .0) o; offset = rw p (ap (λ (x : ℕ × ℕ). x .1) o) }
-
 -- ---- one answer
 
 -- any two answers that the contract of `lookup` allows are the same, and so is what they say
 pub one-lookup : (s : List ℕ) (root : ℕ) (path : List ℕ) {r r' : Answer} → r ≡ lookupOf s root path → r' ≡ lookupOf s root path → (r ≡ r') × (said r ≡ said r')
 one-lookup s root path p q = (p ∙ sym q, ap said (p ∙ sym q))
-
--- any two parts that the contract of `string_part` allows coincide, in their bytes and in where they lie
-pub one-part : {s r r' : RefT (List ℕ)} {a n : ℕ} → IsPart s r a n → IsPart s r' a n → (now r ≡ now r') × (r .ptr .0 ≡ r' .ptr .0) × (r .ptr .1 ≡ r' .ptr .1)
-one-part p q = (p .bytes ∙ sym (q .bytes), p .block ∙ sym (q .block), p .offset ∙ sym (q .offset))

@@ -9,7 +9,8 @@ use Rattle.slices.specs.Same.{same}
 use Rattle.tokens.specs.Bytes.{classOf}
 use Rattle.tokens.specs.Words.{reserved, kindAmong}
 use Rattle.numbers.specs.Bits.{numberAt}
-use Rattle.bags.specs.Reading.{many, each, part}
+use Rattle.slices.specs.Parts.{part}
+use Rattle.bags.specs.Reading.{many, each}
 use Rattle.bags.specs.Paths.{every, isName, pieces, isPath}
 use Rattle.bags.specs.Values.{stringEnd, numberEnd, flagEnd, listEnd, valueEnd}
 use Rattle.bags.specs.Sections.{entryEnd, ascends, ascending, entriesEnd, sectionEnd, sectionsOf, isBag}

@@ -14,7 +14,8 @@ use Rattle.tokens.specs.Bytes.{classOf}
 use Rattle.tokens.specs.Runs.{is}
 use Rattle.tokens.proofs.Table.{agree}
 use Rattle.tokens.specs.declared.classes.Sort.the-variants.{Blanks}
-use Rattle.bags.specs.Reading.{byte, part, each}
+use Rattle.slices.specs.Parts.{part}
+use Rattle.bags.specs.Reading.{byte, each}
 use Rattle.bags.specs.Sections.{sectionsOf}
 use Rattle.bags.specs.declared.After.{After}
 use Rattle.bags.specs.declared.After.the-variants.{At}

@@ -2,12 +2,10 @@
 use Prim.Native.Nat.{ℕ, _+_}
 use mathlib.Core.List.{List, [], _∷_}
 use mathlib.Core.Bool.{cond}
-use mathlib.Core.Path.{_≡_}
 use lib.Dec.{eqb}
 use lib.Ieee.{Float}
-use denote.Ref.{RefT, now}
 use Rattle.slices.specs.Same.{same}
-use Rattle.bags.specs.Reading.{byte, part, each}
+use Rattle.bags.specs.Reading.{byte, each}
 use Rattle.bags.specs.Sections.{pathAt, kindAt, entryEnd, sectionsOf, isBag}
 use Rattle.bags.specs.declared.sections.Sections.{Sections}
 use Rattle.bags.specs.declared.sections.Divided.{Divided}
@@ -71,9 +69,3 @@ startOf (Found v) = cond (eqb (v .kind) 1) (v .place + 1) 0
 unfoldable pub lengthOf : List ℕ → Answer → ℕ
 lengthOf s (Refused n) = 0
 lengthOf s (Found v) = cond (eqb (v .kind) 1) (byte s (v .place)) 0
-
--- r is the n bytes of the slice s from a on: the bytes, and where they lie
-pub record IsPart (s r : RefT (List ℕ)) (a n : ℕ) : Type 0 where
-  pub bytes : now r ≡ part (now s) a n
-  pub block : r .ptr .0 ≡ s .ptr .0
-  pub offset : r .ptr .1 ≡ a + s .ptr .1

@@ -1,6 +1,7 @@
 // Attributes of a bag, looked up by root byte and dotted path.
 ghost use mathlib.Core.Path.{_≡_};
-ghost use Rattle.lookups.specs.Lookups.{lookupOf, startOf, lengthOf, IsPart};
+ghost use Rattle.slices.specs.Parts.{IsPart};
+ghost use Rattle.lookups.specs.Lookups.{lookupOf, startOf, lengthOf};
 use crate::finding::base_value;
 use crate::values::Value;
 use crate::values::absent_value;

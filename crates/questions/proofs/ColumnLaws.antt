@@ -10,7 +10,8 @@ use lib.ListN.{length, take, drop}
 use Rattle.slices.specs.Decides.{Decides}
 use Rattle.slices.specs.Same.{same}
 use Rattle.slices.proofs.Equal.{same-is}
-use Rattle.bags.specs.Reading.{byte, part, endsAt, many, each}
+use Rattle.slices.specs.Parts.{part}
+use Rattle.bags.specs.Reading.{byte, endsAt, many, each}
 use Rattle.bags.specs.Paths.{isPath}
 use Rattle.bags.specs.Values.{valueEnd}
 use Rattle.bags.specs.Sections.{sectionsOf, Sectioned}

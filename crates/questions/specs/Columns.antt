@@ -5,7 +5,8 @@ use mathlib.Core.List.{List}
 use mathlib.Core.Bool.{Bool, _&&_, cond}
 use lib.Dec.{ltb, leb, eqb}
 use lib.ListN.{length}
-use Rattle.bags.specs.Reading.{byte, part, only, many, each}
+use Rattle.slices.specs.Parts.{part}
+use Rattle.bags.specs.Reading.{byte, only, many, each}
 use Rattle.bags.specs.Paths.{isPath}
 use Rattle.bags.specs.Values.{valueEnd}
 use Rattle.bags.specs.declared.After.{After}

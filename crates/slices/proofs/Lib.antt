@@ -1,3 +1,4 @@
 pub mod Equal
 pub mod Order
+pub mod Parts
 pub mod Rest

@@ -1,4 +1,5 @@
 pub mod Ascii
 pub mod Decides
 pub mod Order
+pub mod Parts
 pub mod Same

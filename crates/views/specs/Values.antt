@@ -6,7 +6,8 @@ use mathlib.Core.Path.{_≡_}
 use lib.Dec.{eqb}
 use lib.Ieee.{eq}
 use Rattle.numbers.specs.Bits.{numberAt}
-use Rattle.bags.specs.Reading.{byte, part, each}
+use Rattle.slices.specs.Parts.{part}
+use Rattle.bags.specs.Reading.{byte, each}
 use Rattle.bags.specs.Values.{stringEnd}
 use Rattle.bags.specs.declared.sections.Sections.{Sections}
 use Rattle.lookups.specs.Values.{unit, Whole}

@@ -5,8 +5,9 @@ use lib.ListN.{length}
 use mathlib.Core.Path.{refl, sym, _∙_}
 use native.Mathlib.Nat.{add-sub-cancel-left}
 use native.Mathlib.Omega.{arith}
+use Rattle.slices.proofs.Parts.{part-is}
 use Rattle.bags.specs.Reading.{byte}
-use Rattle.lookups.proofs.Answers.{string-inside, string-start, string-length, other-start, other-length, refused-start, refused-length, part-is}
+use Rattle.lookups.proofs.Answers.{string-inside, string-start, string-length, other-start, other-length, refused-start, refused-length}
 use Rattle.lookups.proofs.string_part.Statement.{statement}
 use Rattle.lookups.proofs.string_part.Tie as tie
 

@@ -5,7 +5,7 @@ use lib.ListN.{length}
 use mathlib.Core.Path.{_≡_, sym, _∙_}
 use native.Mathlib.Omega.{arith}
 use Rattle.bags.proofs.SectionLaws.{Entry, entry-at, entriesAfter, entries-first, entries-done, entries-stop, entries-on, entries-halt}
-use Rattle.bags.specs.Reading.{part}
+use Rattle.slices.specs.Parts.{part}
 use Rattle.bags.specs.Sections.{entriesEnd}
 use Rattle.bags.proofs.sections.entries_end.Statement.{statement}
 use Rattle.bags.proofs.sections.entries_end.Tie as tie

@@ -4,7 +4,7 @@ use borrow.Author.Needs.{needs}
 use lib.ListN.{length, drop}
 use mathlib.Core.Path.{_≡_, refl, sym, _∙_}
 use native.Mathlib.Omega.{arith}
-use Rattle.bags.specs.Reading.{part}
+use Rattle.slices.specs.Parts.{part}
 use Rattle.slices.specs.Same.{same}
 use Rattle.lookups.proofs.FindLaws.{path-end, path-blank, path-short, path-differs, path-on}
 use Rattle.tokens.specs.Blanks.{unblanked}

@@ -1,0 +1,16 @@
+-- Parts of byte strings, and parts of lent slices: their bytes, and where they lie. Definitions only.
+use mathlib.Core.Path.{_≡_}
+use mathlib.Core.List.{List}
+use Prim.Native.Nat.{ℕ, _+_}
+use lib.ListN.{take, drop}
+use denote.Ref.{RefT, now}
+
+-- the n bytes from a place on
+unfoldable pub part : List ℕ → ℕ → ℕ → List ℕ
+part s at n = take n (drop at s)
+
+-- r is the n bytes of the slice s from a on: the bytes, and where they lie
+pub record IsPart (s r : RefT (List ℕ)) (a n : ℕ) : Type 0 where
+  pub bytes : now r ≡ part (now s) a n
+  pub block : r .ptr .0 ≡ s .ptr .0
+  pub offset : r .ptr .1 ≡ a + s .ptr .1
