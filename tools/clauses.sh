@@ -1,0 +1,132 @@
+#!/bin/sh
+# Checks that what docs/CLAUSES.md and README.md's table 'Where each promise is stated' cite is there. From anywhere:
+#   tools/clauses.sh [FILE ..]
+# In each row of a table, after its first cell, stand names in backticks and then files: each name must be defined in one of the files behind it (a function, a type, a
+# definition, a theorem, a case or a field; in a folder, in any of its files; an edit by its name), and each file must be there and define one of the names before it, as far
+# as the last semicolon. A file may leave out crates/, the crate of the file before it, or its folder. The crates of a line 'Not here yet: NAME, ..' may be missing, and
+# must be. Prints what is wrong and ends with status 1, or prints how many names were found.
+set -eu
+cd "$(dirname "$0")/.."
+[ $# -gt 0 ] || set -- docs/CLAUSES.md README.md
+exec awk '
+function there(p) {
+    if (!(p in known)) known[p] = system("test -e \"" p "\"") == 0
+    return known[p]
+}
+# the file that is meant: as it is written, under crates/, in the crate or in the folder of the file before it
+function file_of(p) {
+    sub(/\/$/, "", p)
+    if (there(p)) return p
+    if (there("crates/" p)) return "crates/" p
+    if (crate != "" && there(crate "/" p)) return crate "/" p
+    if (folder != "" && there(folder "/" p)) return folder "/" p
+    return ""
+}
+function crate_of(p, parts) {
+    split(p, parts, "/")
+    return parts[1] == "crates" ? "crates/" parts[2] : ""
+}
+# the names that a line defines: in antt what stands before a colon, in Rattle what is declared
+function defined_in(line, file, top, parts, n, i) {
+    if (file ~ /\.rt$/) {
+        n = split(line, parts, /[^A-Za-z0-9_]+/)
+        for (i = 1; i < n; i++)
+            if (parts[i] ~ /^(fn|struct|enum|const|mod)$/) { defines[top, parts[i + 1]] = 1; return }
+        if (line ~ /^    [A-Z][A-Za-z]*(\(.*\))?,$/) { sub(/^ */, "", line); sub(/[(,].*/, "", line); defines[top, line] = 1 }
+        return
+    }
+    sub(/^ +/, "", line)
+    while (line ~ /^(pub|abbrev|unfoldable) /) sub(/^[a-z]+ /, "", line)
+    if (line ~ /^(data|record) /) {
+        sub(/^[a-z]+ /, "", line); sub(/[ :].*/, "", line)
+        defines[top, line] = 1
+        return
+    }
+    if (line !~ / :( |$)/) return
+    sub(/ :( .*)?$/, "", line)
+    if (index(line, " :")) line = substr(line, 1, index(line, " :") - 1)
+    if (line ~ /[(){}=,.]/) return
+    n = split(line, parts, / /)
+    for (i = 1; i <= n; i++) defines[top, parts[i]] = 1
+}
+function read_in(top, list, f, line, base) {
+    if (top in seen) return
+    seen[top] = 1
+    list = "find \"" top "\" -type f"
+    while ((list | getline f) > 0) {
+        if (f ~ /\.edit$/) { base = f; sub(/^.*\//, "", base); sub(/\.edit$/, "", base); defines[top, base] = 1 }
+        if (f !~ /\.(antt|rt)$/) continue
+        while ((getline line < f) > 0) defined_in(line, f, top)
+        close(f)
+    }
+    close(list)
+}
+function fails(what) { print at ": " what; bad++ }
+# a group: names, and the files behind them
+function judge(i, j, ok) {
+    for (i = 1; i <= names; i++) {
+        ok = 0
+        for (j = 1; j <= files; j++) if ((file[j], name[i]) in defines) ok = 1
+        if (ok) found++
+        else if (later) later_names++
+        else fails("`" name[i] "` is not defined in " (files ? cited : "any file that is cited"))
+    }
+    for (j = 1; j <= files && names > 0; j++) {
+        if (file[j] !~ /\.(antt|rt)$/ && file[j] !~ /^crates\//) continue
+        ok = 0
+        for (i = 1; i <= names; i++) if ((file[j], name[i]) in defines) ok = 1
+        if (!ok) fails(file[j] " defines none of the names before it")
+    }
+    names = files = later = 0
+    cited = ""
+}
+function cite(p, f) {
+    f = file_of(p)
+    if (f == "") {
+        if (p !~ /\// && p !~ /\.(antt|rt|edit|md)$/) return
+        if (crate_of(p) in waiting || crate_of("crates/" p) in waiting) { later = 1; return }
+        fails(p " is not there")
+        cited = cited " " p
+        return
+    }
+    file[++files] = f
+    cited = cited " " f
+    if (crate_of(f) != "") crate = crate_of(f)
+    folder = f
+    sub(/\/[^\/]*$/, "", folder)
+    read_in(f)
+}
+FNR == 1 { whole = FILENAME !~ /README/; on = whole }
+/^Not here yet: / {
+    at = FILENAME ":" FNR
+    n = split($0, words, /[ ,.]+/)
+    for (i = 4; i <= n; i++) {
+        if (words[i] == "") continue
+        waiting["crates/" words[i]] = 1
+        if (there("crates/" words[i])) fails("crates/" words[i] " is here")
+    }
+}
+/^## / { if (!whole) on = /Where each promise is stated/ }
+!on || !/^\|/ || /^\|[-: |]*$/ { next }
+{
+    at = FILENAME ":" FNR
+    row = $0
+    gsub(/\\\|/, " ", row)
+    sub(/^\|[^|]*\|/, "", row)
+    crate = folder = ""
+    while (match(row, /`[^`]*`|;|[A-Za-z0-9_+.\/-]+/)) {
+        word = substr(row, RSTART, RLENGTH)
+        row = substr(row, RSTART + RLENGTH)
+        if (word ~ /^[`;]/ && (files > 0 || later)) judge()
+        if (word ~ /^`/) name[++names] = substr(word, 2, length(word) - 2)
+        else {
+            sub(/\.$/, "", word)
+            if (word ~ /\/|\.(antt|rt|edit|md)$/ || (crate != "" && word ~ /^(specs|proofs|src)$/)) cite(word)
+        }
+    }
+    judge()
+}
+END {
+    if (bad) { print bad " citations are wrong"; exit 1 }
+    print found " citations are right" (later_names ? ", " later_names " are of crates that are not here yet" : "")
+}' "$@"
