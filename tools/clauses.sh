@@ -27,8 +27,8 @@ function crate_of(p, parts) {
     return parts[1] == "crates" ? "crates/" parts[2] : ""
 }
 # the names that a line defines: in antt what stands before a colon, in Rattle what is declared
-function defined_in(line, file, top, parts, n, i) {
-    if (file ~ /\.rt$/) {
+function defined_in(line, source, top, parts, n, i) {
+    if (source ~ /\.rt$/) {
         n = split(line, parts, /[^A-Za-z0-9_]+/)
         for (i = 1; i < n; i++)
             if (parts[i] ~ /^(fn|struct|enum|const|mod)$/) { defines[top, parts[i + 1]] = 1; return }
@@ -44,7 +44,6 @@ function defined_in(line, file, top, parts, n, i) {
     }
     if (line !~ / :( |$)/) return
     sub(/ :( .*)?$/, "", line)
-    if (index(line, " :")) line = substr(line, 1, index(line, " :") - 1)
     if (line ~ /[(){}=,.]/) return
     n = split(line, parts, / /)
     for (i = 1; i <= n; i++) defines[top, parts[i]] = 1
