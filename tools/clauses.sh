@@ -28,6 +28,7 @@ function crate_of(p, parts) {
 }
 # the names that a line defines: in antt what stands before a colon, in Rattle what is declared
 function defined_in(line, source, top, parts, n, i) {
+    if (line ~ /^ *(--|\/\/|let )/) return
     if (source ~ /\.rt$/) {
         n = split(line, parts, /[^A-Za-z0-9_]+/)
         for (i = 1; i < n; i++)
