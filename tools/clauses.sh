@@ -3,7 +3,7 @@
 #   tools/clauses.sh [FILE ..]
 # In each row of a table, after its first cell, stand names in backticks and then files: each name must be defined in one of the files behind it (a function, a type, a
 # definition, a theorem, a case or a field; in a folder, in any of its files; an edit by its name), and each file must be there and define one of the names before it, as far
-# as the last semicolon. A file may leave out crates/, the crate of the file before it, or its folder. The crates of a line 'Not here yet: NAME, ..' may be missing, and
+# as the last semicolon. A file may leave out crates/, the crate of the file before it, or its folder. The crates of a line 'Not here yet: NAME, NAME.' may be missing, and
 # must be. Prints what is wrong and ends with status 1, or prints how many names were found.
 set -eu
 cd "$(dirname "$0")/.."
@@ -99,9 +99,10 @@ function cite(p, f) {
 FNR == 1 { whole = FILENAME !~ /README/; on = whole }
 /^Not here yet: / {
     at = FILENAME ":" FNR
-    n = split($0, words, /[ ,.]+/)
-    for (i = 4; i <= n; i++) {
-        if (words[i] == "") continue
+    sub(/^Not here yet: /, "")
+    sub(/\..*/, "")
+    n = split($0, words, /, */)
+    for (i = 1; i <= n; i++) {
         waiting["crates/" words[i]] = 1
         if (there("crates/" words[i])) fails("crates/" words[i] " is here")
     }
