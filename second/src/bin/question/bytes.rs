@@ -6,7 +6,7 @@ use second::numbers::finite_number;
 use second::questions::{MOST_CANDIDATES, MOST_COLUMNS};
 
 use crate::form::{attribute, bytes_of_candidate, Column, Form, Section, ROOTS};
-use crate::words::{grouped, count_of, ordinal};
+use crate::words::{count_of, grouped, ordinal};
 use crate::writing::quoted;
 
 /// What is wrong, and the offset of the byte, from 0.
@@ -98,7 +98,11 @@ impl<'a> Reader<'a> {
                 let what = if last == path {
                     format!("{} stands twice in its section", name)
                 } else {
-                    format!("{} stands after {}; entries ascend by the bytes of their paths", name, attribute(root, &last))
+                    format!(
+                        "{} stands after {}; entries ascend by the bytes of their paths",
+                        name,
+                        attribute(root, &last)
+                    )
                 };
                 return self.wrong_at(start, what);
             }
@@ -266,7 +270,11 @@ mod tests {
             }
             match read_bytes(&bytes) {
                 Ok(form) => {
-                    let known = if form.columns.is_some() { read_question(&bytes).is_some() } else { read_bag(&bytes).is_some() };
+                    let known = if form.columns.is_some() {
+                        read_question(&bytes).is_some()
+                    } else {
+                        read_bag(&bytes).is_some()
+                    };
                     assert!(known, "{:?}", bytes);
                     assert_eq!(form.bytes(), bytes);
                 }

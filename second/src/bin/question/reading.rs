@@ -21,8 +21,7 @@ fn wrong<T>(at: usize, what: impl Into<String>) -> Read<T> {
     Err(Wrong { at, what: what.into() })
 }
 
-const A_LINE: &str =
-    "expected an attribute (principal, resource or env, a dot and a path), or column, question or bag";
+const A_LINE: &str = "expected an attribute (principal, resource or env, a dot and a path), or column, question or bag";
 const AN_ATTRIBUTE: &str = "expected an attribute after column: principal, resource or env, a dot and a path";
 const A_VALUE: &str = "expected a value: a string in quotes, a number, true, false, or a list of strings in [ ]";
 const A_CANDIDATE: &str =
@@ -182,7 +181,8 @@ impl<'a> Reader<'a> {
 
     fn base_value(&mut self) -> Read<Content> {
         if self.word_here() == b"absent" {
-            let what = "absent is for the candidates of a column; an attribute that is left out is absent from the base";
+            let what =
+                "absent is for the candidates of a column; an attribute that is left out is absent from the base";
             return wrong(self.at, what);
         }
         self.value(A_VALUE)
@@ -407,7 +407,8 @@ impl<'a> Reader<'a> {
         if !is_decimal(written) {
             return wrong(start, A_NUMBER);
         }
-        let number: f64 = String::from_utf8_lossy(written).parse().map_err(|_| Wrong { at: start, what: A_NUMBER.into() })?;
+        let number: f64 =
+            String::from_utf8_lossy(written).parse().map_err(|_| Wrong { at: start, what: A_NUMBER.into() })?;
         let digits = written.split(|byte| matches!(byte, b'e' | b'E')).next().unwrap_or(written);
         let is_written_zero = !digits.iter().any(|byte| matches!(byte, b'1'..=b'9'));
         if number.is_infinite() {
@@ -448,7 +449,8 @@ fn is_decimal(written: &[u8]) -> bool {
     let unsigned = written.strip_prefix(b"-").unwrap_or(written);
     let mut parts = unsigned.splitn(2, |byte| matches!(byte, b'e' | b'E'));
     let are_digits = |digits: &[u8]| !digits.is_empty() && digits.iter().all(u8::is_ascii_digit);
-    let mantissa_is_good = parts.next().map_or(false, |mantissa| mantissa.splitn(2, |byte| *byte == b'.').all(are_digits));
+    let mantissa_is_good =
+        parts.next().map_or(false, |mantissa| mantissa.splitn(2, |byte| *byte == b'.').all(are_digits));
     let exponent_is_good = parts.next().map_or(true, |exponent| {
         let unsigned = exponent.strip_prefix(b"-").or_else(|| exponent.strip_prefix(b"+")).unwrap_or(exponent);
         are_digits(unsigned)
@@ -517,7 +519,8 @@ column resource.taught = true | absent
 
     #[test]
     fn numbers_are_rounded_once() {
-        let bits = |text: &str| match read_text(format!("env.a = {}", text).as_bytes()).unwrap().sections[2][&b"a"[..]] {
+        let bits = |text: &str| match read_text(format!("env.a = {}", text).as_bytes()).unwrap().sections[2][&b"a"[..]]
+        {
             Content::Number(number) => number.to_bits(),
             _ => panic!("{} is no number", text),
         };
@@ -545,14 +548,8 @@ column resource.taught = true | absent
             ),
             ("principal = 3", "1:10: expected a dot and a path directly after principal"),
             ("env .a = 3", "1:4: expected a dot and a path directly after env"),
-            (
-                "env.a..b = 3",
-                "1:7: expected a name, which begins with a letter; a path is names joined by single dots",
-            ),
-            (
-                "env.a.1 = 3",
-                "1:7: expected a name, which begins with a letter; a path is names joined by single dots",
-            ),
+            ("env.a..b = 3", "1:7: expected a name, which begins with a letter; a path is names joined by single dots"),
+            ("env.a.1 = 3", "1:7: expected a name, which begins with a letter; a path is names joined by single dots"),
             ("env.a.if = 3", "1:7: if is a reserved word of rule texts; expected another name in a path"),
             ("env.a b = 3", "1:7: expected = and a value after the attribute"),
             ("env.a: 3", "1:6: expected = and a value after the attribute"),

@@ -83,7 +83,6 @@ fn escaped(string: &[u8], in_quotes: bool) -> String {
         let (character, length) = first_character(rest);
         match character {
             Some(mark @ ('"' | '\\')) if in_quotes => text.extend(['\\', mark]),
-            Some(mark @ ('"' | '\\' | '\'')) => text.push(mark),
             Some('\n') => text.push_str("\\n"),
             Some('\r') => text.push_str("\\r"),
             Some('\t') => text.push_str("\\t"),
@@ -107,7 +106,10 @@ pub fn first_character(bytes: &[u8]) -> (Option<char>, usize) {
 
 /// Whether the character shows on paper: no control, no invisible and no combining one.
 pub fn is_seen(character: char) -> bool {
-    character == '\'' || character == ' ' || (!character.is_whitespace() && character.escape_debug().count() == 1)
+    if character.is_ascii() {
+        return character == ' ' || character.is_ascii_graphic();
+    }
+    !character.is_whitespace() && character.escape_debug().count() == 1
 }
 
 #[cfg(test)]
