@@ -1,7 +1,7 @@
 //! The printed sheet as plain text: aligned, and no line longer than 100 characters where that can be helped.
 
 use crate::refusals::RefusalShown;
-use crate::report::{Mark, Report, RowShown};
+use crate::report::{ColumnShown, Mark, Report, RowShown};
 use crate::words::{count_of, grouped};
 
 /// The width of the page.
@@ -100,37 +100,37 @@ impl Widths {
 fn widths(report: &Report) -> Widths {
     let row = report.listed.last().map_or(1, |row| row.number.to_string().len()).max(3);
     let number = report.policies.last().map_or(1, |policy| policy.number.to_string().len()).max("policy".len());
-    let natural: Vec<usize> = report
-        .columns
-        .iter()
-        .map(|column| {
-            let texts = column.candidates.iter().map(|candidate| length(candidate.as_deref().unwrap_or(HOLE)));
-            texts.chain([length(&column.name)]).max().unwrap_or(0)
-        })
-        .collect();
-    let others = MARK + GAP + row + GAP + OUTCOME + GAP + natural.len() * GAP;
-    for policy in [ROOM_FOR_POLICY, number] {
-        let columns = fitted(&natural, WIDTH.saturating_sub(others + policy), policy == number);
-        let used = others + columns.iter().sum::<usize>();
-        if used + policy <= WIDTH || policy == number {
-            return Widths { row, columns, policy: WIDTH.saturating_sub(used).max(number) };
-        }
-    }
-    unreachable!("the last turn returns")
+    let full: Vec<usize> = report.columns.iter().map(|column| length(&column.name).max(longest_cell(column))).collect();
+    let unbroken: Vec<usize> =
+        report.columns.iter().map(|column| longest_part(column).max(longest_cell(column))).collect();
+    let others = MARK + GAP + row + GAP + OUTCOME + GAP + full.len() * GAP;
+    let with_policies = fitted(&full, &unbroken, WIDTH.saturating_sub(others + ROOM_FOR_POLICY));
+    let columns = with_policies.unwrap_or_else(|| {
+        let narrowest: Vec<usize> = full.iter().map(|width| NARROWEST.min(*width)).collect();
+        fitted(&full, &narrowest, WIDTH.saturating_sub(others + number)).unwrap_or(narrowest)
+    });
+    let left = WIDTH.saturating_sub(others + columns.iter().sum::<usize>());
+    Widths { row, columns, policy: left.max(number) }
 }
 
-/// The widths made narrower, the widest first, until they fit; halves at most, or down to the narrowest.
-fn fitted(natural: &[usize], room: usize, to_the_narrowest: bool) -> Vec<usize> {
-    let mut widths = natural.to_vec();
-    let least = |width: usize| if to_the_narrowest { NARROWEST.min(width) } else { (width / 2).max(16).min(width) };
+/// The most characters of a column's values.
+fn longest_cell(column: &ColumnShown) -> usize {
+    column.candidates.iter().map(|candidate| length(candidate.as_deref().unwrap_or(HOLE))).max().unwrap_or(0)
+}
+
+/// The most characters of a part of the column's name, up to a dot.
+fn longest_part(column: &ColumnShown) -> usize {
+    column.name.split_inclusive('.').map(length).max().unwrap_or(0)
+}
+
+/// The widths made narrower, the widest first, until they fit the room; nothing if the least widths do not fit.
+fn fitted(full: &[usize], least: &[usize], room: usize) -> Option<Vec<usize>> {
+    let mut widths = full.to_vec();
     while widths.iter().sum::<usize>() > room {
-        let widest = (0..widths.len()).filter(|n| widths[*n] > least(natural[*n])).max_by_key(|n| widths[*n]);
-        match widest {
-            Some(widest) => widths[widest] -= 1,
-            None => break,
-        }
+        let widest = (0..widths.len()).filter(|n| widths[*n] > least[*n]).max_by_key(|n| widths[*n])?;
+        widths[widest] -= 1;
     }
-    widths
+    Some(widths)
 }
 
 /// The heading, and the rows with an empty line between the groups of the first column.
@@ -221,13 +221,13 @@ fn cut(text: &str, width: usize) -> String {
     text.chars().take(width - 2).collect::<String>() + ".."
 }
 
-/// The text in parts of at most this width, broken after a blank or a mark where one stands in the part's second half.
+/// The text in parts of at most this width, broken after a blank or a mark where there is one.
 fn wrapped(text: &str, width: usize) -> Vec<String> {
     let mut rest: Vec<char> = text.chars().collect();
     let mut parts = Vec::new();
     while rest.len() > width {
         let is_good = |n: &usize| matches!(rest[*n - 1], ' ' | '.' | ',' | ':' | '-' | '_');
-        let end = (width / 2 + 1..=width).rev().find(is_good).unwrap_or(width);
+        let end = (1..=width).rev().find(is_good).unwrap_or(width);
         parts.push(rest[..end].iter().collect::<String>().trim_end().to_string());
         rest.drain(..end);
     }

@@ -36,27 +36,35 @@ pub fn read_printed(bytes: &[u8]) -> Result<Printed, String> {
     };
     let mut listed: Vec<Listed> = Vec::new();
     for (index, line) in lines.iter().enumerate().skip(1) {
-        let wrong = |what: &str| Err(format!("line {} of the sheet's output: {}", index + 1, what));
-        if let Some(numbers) = numbers_after("allowed", line, 1) {
-            if numbers[0] != listed.len() {
-                return wrong(&format!("expected allowed {}, the number of rows above", listed.len()));
+        let wrong = |what: String| format!("line {} of the sheet's output: {}", index + 1, what);
+        match numbers_after("allowed", line, 1) {
+            None => {
+                let row = row_of(line, rows, listed.last()).map_err(wrong)?;
+                listed.push(row);
             }
-            return match lines.len() {
-                last if last == index + 1 => Ok(Printed::Sheet { rows, listed }),
-                _ => Err(format!("line {} of the sheet's output: expected nothing after allowed", index + 2)),
-            };
-        }
-        match numbers_after("", line, 3) {
-            None => return wrong("expected a row's number, outcome and policy, or allowed and a number"),
-            Some(numbers) => {
-                if numbers[0] >= rows || listed.last().map_or(false, |last| last.row >= numbers[0]) {
-                    return wrong(&format!("row {} is out of order or past the last", numbers[0]));
-                }
-                listed.push(Listed { row: numbers[0], outcome: numbers[1], policy: numbers[2] });
+            Some(numbers) if numbers[0] != listed.len() => {
+                return Err(wrong(format!("expected allowed {}, the number of rows above", listed.len())));
             }
+            Some(_) if index + 1 < lines.len() => {
+                return Err(format!("line {} of the sheet's output: expected nothing after allowed", index + 2));
+            }
+            Some(_) => return Ok(Printed::Sheet { rows, listed }),
         }
     }
     Err("the sheet's output has no last line: expected allowed and a number".to_string())
+}
+
+/// The row that a line lists, after the last one.
+fn row_of(line: &str, rows: usize, last: Option<&Listed>) -> Result<Listed, String> {
+    match numbers_after("", line, 3).as_deref() {
+        Some([row, outcome, policy]) => {
+            if *row >= rows || last.map_or(false, |last| last.row >= *row) {
+                return Err(format!("row {} is out of order or past the last", row));
+            }
+            Ok(Listed { row: *row, outcome: *outcome, policy: *policy })
+        }
+        _ => Err("expected a row's number, outcome and policy, or allowed and a number".to_string()),
+    }
 }
 
 /// So many numbers after a word, with single blanks between.
