@@ -1,4 +1,5 @@
-//! The modules of the second program that the tool `question` uses, as a library.
+//! The modules of the second program that the tool `question` uses, as a library. Their tests are run with the program itself.
+#![cfg(not(test))]
 
 pub mod bag_bytes;
 pub mod bags;

@@ -44,7 +44,7 @@ pre { border-left: 1mm solid #888; padding: 1mm 3mm; white-space: pre; overflow-
 
 /// The page of a sheet.
 pub fn sheet_page(report: &Report) -> String {
-    let title = format!("Sheet for {}", report.request.join(", "));
+    let title = report.title();
     let mut body = format!("<h1>{}</h1>\n", escaped(&title));
     body += &sums(report);
     body += &columns(report);
@@ -108,7 +108,7 @@ fn columns(report: &Report) -> String {
         <th class=\"number\">absent and allowed</th><th class=\"number\">of these !!</th></tr></thead>\n<tbody>\n"
         .to_string();
     for column in &report.columns {
-        let candidates: Vec<String> = column.candidates.iter().map(|candidate| value(candidate)).collect();
+        let candidates: Vec<String> = column.candidates.iter().map(value).collect();
         text += &format!(
             "<tr><td>{}</td><td>{}</td><td class=\"number\">{}</td><td class=\"number\">{}</td></tr>\n",
             escaped(&column.name),

@@ -18,7 +18,7 @@ const HOLE: &str = "ABSENT !!";
 
 /// The title line, the sums, the base and the columns, the table, and the policies that decide.
 pub fn sheet_text(report: &Report) -> String {
-    let mut lines = wrapped(&format!("Sheet for {}", report.request.join(", ")), WIDTH);
+    let mut lines = wrapped(&report.title(), WIDTH);
     lines.push(String::new());
     lines.extend(sums(report).iter().flat_map(|line| wrapped(line, WIDTH)));
     lines.extend(base(report));

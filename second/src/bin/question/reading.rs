@@ -464,6 +464,8 @@ mod tests {
     use crate::documented;
     use crate::writing::text_of;
     use second::bag_bytes::question;
+    use second::bags::read_bag;
+    use second::questions::read_question;
     use second::random::Random;
 
     /// The first thing that is wrong with a text, as line, column and words.
@@ -652,6 +654,53 @@ column resource.taught = true | absent
             }
         }
         assert!(read > 5_000, "{}", read);
+    }
+
+    // Whatever is written is a bag or a question to the second program, and a wrong text only gives a message.
+    #[test]
+    fn what_is_written_is_a_question() {
+        let mut random = Random::new(95);
+        let mut written = 0;
+        for _ in 0..6_000 {
+            let text = match crate::bytes::read_bytes(&question(&mut random).bytes()) {
+                Ok(form) => text_of(&form).into_bytes(),
+                Err(_) => continue,
+            };
+            match read_text(&damaged_text(text, &mut random)) {
+                Ok(form) => {
+                    let bytes = form.bytes();
+                    assert_eq!(read_question(&bytes).is_some(), form.columns.is_some());
+                    assert_eq!(read_bag(&bytes).is_some(), form.columns.is_none());
+                    written += 1;
+                }
+                Err(wrong) => assert!(!wrong.what.is_empty()),
+            }
+        }
+        assert!(written > 500 && written < 4_000, "{}", written);
+    }
+
+    /// A few bytes changed, removed or inserted, a line doubled or moved, or the end cut off.
+    fn damaged_text(mut text: Vec<u8>, random: &mut Random) -> Vec<u8> {
+        for _ in 0..random.between(1, 3) {
+            let at = random.below(text.len() + 1);
+            let byte = random.pick(b"\"\\[]|,=.# \n\rxbe-+019aA\x00\x7F\xC3\xFF");
+            match random.below(8) {
+                0 => text.truncate(at),
+                1 | 2 => text.insert(at, byte),
+                3 if at < text.len() => {
+                    text.remove(at);
+                }
+                4 => {
+                    let mut lines: Vec<Vec<u8>> = text.split(|byte| *byte == b'\n').map(|line| line.to_vec()).collect();
+                    let line = lines[random.below(lines.len())].clone();
+                    lines.insert(random.below(lines.len() + 1), line);
+                    text = lines.join(&b'\n');
+                }
+                _ if at < text.len() => text[at] = byte,
+                _ => text.push(byte),
+            }
+        }
+        text
     }
 
     // Lines in another order give the same bytes, for the base's order is the form's.

@@ -129,6 +129,12 @@ impl Report {
         self.listed.push(row);
     }
 
+    /// Whose sheet it is. The parts that a request of the system leaves out are left out.
+    pub fn title(&self) -> String {
+        let parts: Vec<&str> = self.request.iter().map(String::as_str).filter(|part| !part.is_empty()).collect();
+        format!("Sheet for {}", parts.join(", "))
+    }
+
     /// The sums over all listed rows.
     pub fn sums(&self) -> Sums {
         let mut sums = Sums::default();
@@ -263,6 +269,7 @@ pub mod tests {
     fn rows_of_the_system_name_no_policy() {
         let report = report(EXAMPLE, "column env.a = absent | 1", "system");
         assert!(report.listed.iter().all(|row| row.is_system));
+        assert_eq!(report.title(), "Sheet for system");
         assert_eq!(report.sums(), Sums { listed: 2, absent: 1, holes: 0 });
         assert!(report.policies.is_empty());
     }
