@@ -89,6 +89,8 @@ fn sums(report: &Report) -> String {
     if sums.absent > 0 {
         let rows = count_of(sums.absent, "row is", "rows are");
         text += &format!("<p><b>!</b> {} allowed though an attribute is {}.</p>\n", rows, absent());
+    }
+    if sums.holes > 0 {
         text += &format!(
             "<p><b>!!</b> {} of them would not be allowed with another candidate in its place: it is shown as \
              <span class=\"hole\">{}</span>.</p>\n",

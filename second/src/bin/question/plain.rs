@@ -51,9 +51,11 @@ fn sums(report: &Report) -> Vec<String> {
     let mut lines = vec![format!("{}, {} {}.", count_of(report.rows, "row", "rows"), grouped(sums.listed), allowed)];
     if sums.absent > 0 {
         let rows = count_of(sums.absent, "row is", "rows are");
-        lines.push(format!("!   {} allowed though an attribute is absent,", rows));
-        let rows = count_of(sums.holes, "of them would not be allowed", "of them would not be allowed");
-        lines.push(format!("!!  {} with another candidate in its place.", rows));
+        lines.push(format!("!   {} allowed though an attribute is absent.", rows));
+    }
+    if sums.holes > 0 {
+        let rows = grouped(sums.holes);
+        lines.push(format!("!!  {} of them would not be allowed with another candidate in its place.", rows));
     }
     for column in report.columns.iter().filter(|column| column.sums.absent > 0) {
         let rows = count_of(column.sums.absent, "row", "rows");
