@@ -9,11 +9,11 @@ use crate::tokens::{class_of, token_at, Class, NAME};
 /// 01, "Bags and questions": a bag has at most 4,096 bytes, and a question too.
 pub const LONGEST_BAG: usize = 4_096;
 /// A section has 0 to 32 entries.
-const MOST_ENTRIES: u8 = 32;
+pub const MOST_ENTRIES: u8 = 32;
 /// A string has 0 to 127 bytes.
-const LONGEST_STRING: u8 = 127;
+pub const LONGEST_STRING: u8 = 127;
 /// A list has 0 to 16 strings.
-const MOST_STRINGS: u8 = 16;
+pub const MOST_STRINGS: u8 = 16;
 
 /// What a value is.
 #[derive(Clone, PartialEq, Debug)]

@@ -4,9 +4,9 @@
 use crate::bags::{Bag, BagReader, Value, LONGEST_BAG};
 
 /// A question has 0 to 6 columns.
-const MOST_COLUMNS: u8 = 6;
+pub const MOST_COLUMNS: u8 = 6;
 /// A column has 1 to 8 candidates.
-const MOST_CANDIDATES: u8 = 8;
+pub const MOST_CANDIDATES: u8 = 8;
 
 /// A question: the three sections of a bag, and the columns.
 #[derive(PartialEq, Debug)]
