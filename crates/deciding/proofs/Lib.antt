@@ -1,2 +1,4 @@
 pub mod Lowest
 pub mod Counting
+pub mod HeldLaws
+pub mod Answering

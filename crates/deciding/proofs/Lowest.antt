@@ -43,7 +43,7 @@ first-after test n (q ∷ qs) p = go (test q) (first-after test (suc n) qs p)
 
 -- ---- a policy met, of effect `allows`, satisfied where `sat`
 
-and-false : (b : Bool) → b && false ≡ false
+pub and-false : (b : Bool) → b && false ≡ false
 and-false true = refl
 and-false false = refl
 

@@ -1,1 +1,3 @@
 pub mod Row
+pub mod Answers
+pub mod Promise
