@@ -2,3 +2,4 @@ pub mod Lowest
 pub mod Counting
 pub mod HeldLaws
 pub mod Answering
+pub mod Promised
