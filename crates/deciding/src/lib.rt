@@ -1,6 +1,5 @@
 // Deciding: what the policies of a table decide over a row, and the public call, which decides a request over a bag.
 pub mod row;
-mod stand_in;
 
 ghost use mathlib.Core.Path.{_≡_};
 ghost use Rattle.tokens.specs.Table.{classTable};

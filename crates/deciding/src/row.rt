@@ -12,7 +12,7 @@ ghost use Rattle.meaning.specs.Decisions.{byNumbers, policiesDecide};
 ghost use Rattle.targets.specs.Matching.{request};
 ghost use Rattle.deciding.specs.Row.{countsOf};
 use bags::sections::Sections;
-use crate::stand_in::evaluate;
+use evaluating::evaluate;
 use meaning::Decision;
 use meaning::Verdict;
 use table::Entry;

@@ -12,7 +12,7 @@ use Rattle.deciding.proofs.row.counts.Tie as tie
 use Rattle.deciding.proofs.row.counts.Reads as reads
 use Rattle.deciding.proofs.row.counts.Lts as lts
 use Rattle.deciding.proofs.row.is_yes.Reads as is-yes-reads
-use Rattle.deciding.proofs.stand_in.evaluate.Reads as evaluate-reads
+use Rattle.evaluating.proofs.evaluate.Reads as evaluate-reads
 use Rattle.targets.proofs.matching.target_matches.Reads as target-matches-reads
 
 -- src/row.rt:60:9
