@@ -113,7 +113,7 @@ module _ (text : List ℕ) (t : Token) where
               next-off text t (is kinds.bang) _ _ (ne-eqb _ _ n₁) ∙ next-off text t (is kinds.leftRound) _ _ (ne-eqb _ _ n₂) ∙ next-off text t (is kinds.ifWord) _ _ (ne-eqb _ _ n₃)
               ∙ refused-same ten noLevel (level n₁ n₂ n₃)))
 
--- ---- the parts of a choice, in order
+-- ---- a choice after its first part, and after its second
 
 module _ (inner : Reader Tree) (i : List Lexeme) {m : List Lexeme} {a : Tree} (e : before kinds.thenWord inner i ≡ took a m) where
   pub choice-second : read-conditional inner i ≡ bind (before kinds.elseWord inner m) (λ b. mapped (choice a b) inner)
@@ -123,14 +123,3 @@ module _ (inner : Reader Tree) (i : List Lexeme) {m : List Lexeme} {a : Tree} (e
   pub choice-third : {n : List Lexeme} {b : Tree} → before kinds.elseWord inner m ≡ took b n → read-conditional inner i ≡ bind (inner n) (λ t. took (choice a b t))
   unfolding bind mapped
   choice-third f = choice-second ∙ rw f
-
-module _ {text seen : List ℕ} {from′ from first free₁ free₂ : ℕ} {same same₁ same₂ : Bool} {next₁ next₂ : Token} {T T₁ T₂ T₃ T₄ : List ℕ} {p₁ p₂ p₃ : reader.Answer Tree} {r r₂ : Answer}
-    (k₁ : Taken treeEntries text seen from first same p₁ next₁ free₁ same₁) (w₁ : Put treeEntries first T T₁ p₁)
-    (k₂ : Taken treeEntries text seen (next₁ .start) free₁ same₁ p₂ next₂ free₂ same₂) (w₂ : Put treeEntries free₁ T₁ T₂ p₂) where
-  pub choice-done : from′ + 1 ≤ from → Done treeEntries text seen (next₂ .start) free₂ same₂ T₂ T₃ p₃ r → (r₂ ≡ closedOf seen (λ _. entry 28 free₁ free₂) r) × EntryPut T₃ (λ _. entry 28 free₁ free₂) r T₄
-      → Done treeEntries text seen from′ first same T T₄ (bind p₃ (λ t. took (choice (k₁ .value) (k₂ .value) t))) r₂
-  unfolding treeEntries
-  choice-done l d c =
-      let x = k₁ .room in let y = k₂ .room in
-      closing (treeEntries first (k₁ .value) ++ treeEntries free₁ (k₂ .value)) (choice (k₁ .value) (k₂ .value)) (kept-append (as-kept k₁ w₁) (as-kept k₂ w₂)) (λ _. entry 28 free₁ free₂)
-      (λ t n e. rw (← k₁ .counted .free-is, ← k₂ .counted .free-is)) (omega arith) d c
