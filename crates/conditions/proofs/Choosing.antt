@@ -1,16 +1,16 @@
 -- The loop of a choice: what is known where one of its three parts begins, how a turn goes on, and what is read where the loop is left. Assumes nothing.
 use mathlib.Core.Path.{_≡_, refl, _∙_, sym, ap, subst}
 use mathlib.Core.Bool.{Bool, _&&_}
-use mathlib.Core.List.{List, [], _∷_, _++_}
-use Prim.Native.Nat.{ℕ, _+_, _≤_, _<_}
+use mathlib.Core.List.{List, [], _++_}
+use Prim.Native.Nat.{ℕ, _+_, _≤_}
 use native.Mathlib.Omega.{arith}
 use lib.ListN.{length, length-append}
 use Rattle.tokens.specs.Kinds as kinds
 use Rattle.tokens.specs.declared.reader.Token.{Token}
 use Rattle.tokens.specs.Tokens.{tokenAt}
-use Rattle.reading.specs.Lexemes.{Lexeme, stream}
+use Rattle.reading.specs.Lexemes.{stream}
 use Rattle.reading.specs.Reader as reader
-use Rattle.reading.specs.Reader.{Reader, took, bind, before, mapped}
+use Rattle.reading.specs.Reader.{Reader, bind, before, mapped}
 use Rattle.grammar.specs.Policies.{Tree, choice}
 use Rattle.grammar.specs.Parser.{read-conditional}
 use Rattle.table.specs.declared.Entry.{Entry}

@@ -1,3 +1,4 @@
+-- The readers of conditions meet their contracts. They end: four times the levels that are left, and the reader's rank; the loops of chains and choices take of the text. Assumes nothing.
 use native.Mathlib.Omega.{arith}
 use borrow.Author.Needs.{needs}
 use Rattle.conditions.proofs.Forms.{negation-first, group-first, choice-first, flat-first}
@@ -48,12 +49,8 @@ use Rattle.conditions.proofs.word_after.Reads as word-after-reads
 use Rattle.parts.proofs.answers.turned_away.Reads as turned-away-reads
 use Rattle.table.proofs.append.Reads as append-reads
 use Rattle.tokens.proofs.reader.next_token.Reads as next-token-reads
-use Rattle.conditions.proofs.+read_choice+read_condition+read_conjunction+read_disjunction+read_group+read_negation.{
-  statement,
-}
-use Rattle.conditions.proofs.+read_choice+read_condition+read_conjunction+read_disjunction+read_group+read_negation.Tie.{
-  close,
-}
+use Rattle.conditions.proofs.+read_choice+read_condition+read_conjunction+read_disjunction+read_group+read_negation.{statement}
+use Rattle.conditions.proofs.+read_choice+read_condition+read_conjunction+read_disjunction+read_group+read_negation.Tie.{close}
 
 abbrev μ-read-choice : Measures 4 read-choice-kinds.ps ℕ
 μ-read-choice κs a = 4 * a .1 .1 .1 .1 .1 .0 + 4
@@ -186,9 +183,9 @@ read-choice-loop-less t c =
 
 read-choice-loop-again : (t : ℕ) → read-choice-lts.Need-loop-again (read-choice-claims t) (read-choice-at t) read-choice.Post read-choice-Inv-loop read-choice-μ-loop
 read-choice-loop-again t c = (
-      rw (c .word-after .ensures) (choosing.turn (c .before .before .before .before .before .before .before .before .before .before .before .loop .inv .0) (c .before .before .before .before .before .before .before .before .before .read-condition .ensures) (c .before .before .before .before .before .part .given .1) (c .before .before .before .if1 .left) (c .before .if2 .left)),
-      omega (arith, c .before .before .before .before .before .before .before .before .before .read-condition .kept, c .before .before .before .before .before .before .before .before .before .before .before .loop .inv .1),
-    )
+  rw (c .word-after .ensures) (choosing.turn (c .before .before .before .before .before .before .before .before .before .before .before .loop .inv .0) (c .before .before .before .before .before .before .before .before .before .read-condition .ensures) (c .before .before .before .before .before .part .given .1) (c .before .before .before .if1 .left) (c .before .if2 .left)),
+  omega (arith, c .before .before .before .before .before .before .before .before .before .read-condition .kept, c .before .before .before .before .before .before .before .before .before .before .before .loop .inv .1),
+)
 
 read-condition-next-token-requires : (t : ℕ) → read-condition-lts.Need-next-token-requires (read-condition-claims t) (read-condition-at t) read-condition.Post
 read-condition-next-token-requires t c κs = (c .before .before .before .pre .1 .table, c .before .before .before .pre .1 .high)
@@ -314,9 +311,9 @@ read-conjunction-loop-less t c =
 read-conjunction-loop-again : (t : ℕ) → read-conjunction-lts.Need-loop-again (read-conjunction-claims t) (read-conjunction-at t) read-conjunction.Post read-conjunction-Inv-loop read-conjunction-μ-loop
 unfolding treeEntries
 read-conjunction-loop-again t c = (
-      turn (so-far (c .before .before .before .before .before .before .before .before .before .before .before .before .before .loop .inv .0) (c .before .before .before .before .before .before .before .before .before .before .before .read-condition .ensures) 26 (λ l u. refl) (c .before .before .before .before .before .before .before .part .given .1) (c .before .before .before .before .joined .ensures)) (conjunction-step (c .before .before .before .before .before .before .before .before .before .before .before .before .before .before .before .before .before .args .depth)) (omega arith) (c .if1 .left),
-      omega (arith, c .before .before .before .before .joined .kept, c .before .before .before .before .before .before .before .before .before .before .before .read-condition .kept, c .before .before .before .before .before .before .before .before .before .before .before .before .before .loop .inv .1),
-    )
+  turn (so-far (c .before .before .before .before .before .before .before .before .before .before .before .before .before .loop .inv .0) (c .before .before .before .before .before .before .before .before .before .before .before .read-condition .ensures) 26 (λ l u. refl) (c .before .before .before .before .before .before .before .part .given .1) (c .before .before .before .before .joined .ensures)) (conjunction-step (c .before .before .before .before .before .before .before .before .before .before .before .before .before .before .before .before .before .args .depth)) (omega arith) (c .if1 .left),
+  omega (arith, c .before .before .before .before .joined .kept, c .before .before .before .before .before .before .before .before .before .before .before .read-condition .kept, c .before .before .before .before .before .before .before .before .before .before .before .before .before .loop .inv .1),
+)
 
 abbrev read-disjunction-Inv-loop : read-disjunction-lts.InvT-loop
 read-disjunction-Inv-loop classes text table₀ seen from depth number same at₀ free₀ ok₀ more₀ table at free ok more =
@@ -364,9 +361,9 @@ read-disjunction-loop-less t c =
 read-disjunction-loop-again : (t : ℕ) → read-disjunction-lts.Need-loop-again (read-disjunction-claims t) (read-disjunction-at t) read-disjunction.Post read-disjunction-Inv-loop read-disjunction-μ-loop
 unfolding treeEntries
 read-disjunction-loop-again t c = (
-      turn (so-far (c .before .before .before .before .before .before .before .before .before .before .before .before .before .loop .inv .0) (c .before .before .before .before .before .before .before .before .before .before .before .read-conjunction .ensures) 27 (λ l u. refl) (c .before .before .before .before .before .before .before .part .given .1) (c .before .before .before .before .joined .ensures)) (disjunction-step (c .before .before .before .before .before .before .before .before .before .before .before .before .before .before .before .before .before .args .depth)) (omega arith) (c .if1 .left),
-      omega (arith, c .before .before .before .before .joined .kept, c .before .before .before .before .before .before .before .before .before .before .before .read-conjunction .kept, c .before .before .before .before .before .before .before .before .before .before .before .before .before .loop .inv .1),
-    )
+  turn (so-far (c .before .before .before .before .before .before .before .before .before .before .before .before .before .loop .inv .0) (c .before .before .before .before .before .before .before .before .before .before .before .read-conjunction .ensures) 27 (λ l u. refl) (c .before .before .before .before .before .before .before .part .given .1) (c .before .before .before .before .joined .ensures)) (disjunction-step (c .before .before .before .before .before .before .before .before .before .before .before .before .before .before .before .before .before .args .depth)) (omega arith) (c .if1 .left),
+  omega (arith, c .before .before .before .before .joined .kept, c .before .before .before .before .before .before .before .before .before .before .before .read-conjunction .kept, c .before .before .before .before .before .before .before .before .before .before .before .before .before .loop .inv .1),
+)
 
 read-group-read-disjunction-requires : (t : ℕ) → read-group-lts.Need-read-disjunction-requires (read-group-claims t) (read-group-at t) read-group.Post
 read-group-read-disjunction-requires t c κs = (omega (arith, c .before .before .before .before .pre .0), begins-at (c .before .before .before .before .pre .1) (omega (arith, c .before .before .before .before .pre .1 .low)) (c .before .before .before .before .pre .1 .high))

@@ -1,3 +1,4 @@
+-- `conditions::joined` meets its contract: by whether a part stands before. Assumes nothing.
 use Prim.Native.Nat.{ℕ}
 use native.Mathlib.Omega.{arith}
 use mathlib.Core.Bool.{true, false}
@@ -5,27 +6,19 @@ use mathlib.Core.Path.{_≡_, refl}
 use borrow.Author.Needs.{needs}
 use Rattle.conditions.proofs.joined.Statement.{statement}
 use Rattle.conditions.proofs.joined.Tie as tie
-use Rattle.conditions.proofs.joined.Reads as reads
-use Rattle.conditions.proofs.joined.Lts as lts
-use Rattle.table.proofs.append.Reads as append-reads
 
--- src/lib.rt:57:13
 append-requires : tie.Need-append-requires
 append-requires c κs = search needs
 
--- src/lib.rt:59:19
 add-t12 : tie.Need-add-t12
 add-t12 c = search needs
 
--- src/lib.rt:52:1
 same-length : tie.Need-same-length
 same-length c = search needs
 
--- src/lib.rt:52:1
 returns : tie.Need-returns
 returns c = record { first = λ (e : _ ≡ false). absurd (let t = c .before .before .before .before .if1 .taken in let z : _≡_ {A = ℕ} 0 1 = cc in omega arith); later = λ e. (refl, c .before .before .append .ensures .0, c .before .before .append .ensures .1) }
 
--- src/lib.rt:52:1
 returns-2 : tie.Need-returns-2
 returns-2 c = record { first = λ e. (refl, refl, refl); later = λ (e : _ ≡ true). absurd (let t = c .if1 .left in let z : _≡_ {A = ℕ} 0 1 = cc in omega arith) }
 
