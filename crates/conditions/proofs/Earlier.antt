@@ -12,7 +12,7 @@ use Rattle.table.specs.declared.Entry.{Entry}
 use Rattle.parts.specs.Answers.{Ready, Says, read, refused, Done}
 use Rattle.parts.specs.declared.answers.Answer.{Answer}
 use Rattle.parts.proofs.Standing.{lowered}
-use Rattle.conditions.specs.Joining.{Begins}
+use Rattle.conditions.specs.Joining.{ReadyAt}
 
 -- a token lies from any place on up to its start
 pub lying : {text : List ℕ} {low : ℕ} {t : Token} (from : ℕ) → Reads text low t → from ≤ t .start → Reads text from t
@@ -21,10 +21,10 @@ lying from r l = record { low = l; order = r .order; high = r .high; some = r .s
 pub ready-at : {classes text : List ℕ} {from low : ℕ} {t n : Token} → Ready classes text from t → Reads text low n → Ready classes text low n
 ready-at r s = record { table = r .table; lies = s; small = r .small }
 
-pub begins-at : {classes text : List ℕ} {from low at at′ : ℕ} → Begins classes text from at → low ≤ at′ → at′ ≤ length text → Begins classes text low at′
-begins-at b l h = record { table = b .table; low = l; high = h; small = b .small }
+pub at-place : {classes text : List ℕ} {from low at at′ : ℕ} → ReadyAt classes text from at → low ≤ at′ → at′ ≤ length text → ReadyAt classes text low at′
+at-place b l h = record { table = b .table; low = l; high = h; small = b .small }
 
-pub ready-from : {classes text : List ℕ} {from at : ℕ} {t : Token} → Begins classes text from at → Reads text at t → Ready classes text from t
+pub ready-from : {classes text : List ℕ} {from at : ℕ} {t : Token} → ReadyAt classes text from at → Reads text at t → Ready classes text from t
 ready-from b r = record { table = b .table; lies = lowered (b .low) r; small = b .small }
 
 module _ {A : Type 0} {es : ℕ → A → List Entry} {text seen : List ℕ} {first : ℕ} {same : Bool} where

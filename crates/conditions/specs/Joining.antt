@@ -1,4 +1,4 @@
--- Where a reader of conditions begins, what joins a part of a chain to those before it, and the words between the parts of a choice. Definitions only.
+-- What a reader of conditions may count on, what joins a part of a chain to those before it, and the words between the parts of a choice. Definitions only.
 use mathlib.Core.Path.{_≡_}
 use mathlib.Core.Bool.{Bool, true, false, cond, _&&_}
 use mathlib.Core.List.{List}
@@ -11,8 +11,8 @@ use Rattle.table.specs.declared.Entry.{Entry}
 use Rattle.table.specs.Layout.{putAt, entryIs}
 use Rattle.conditions.specs.declared.Count.{Count}
 
--- what the readers of conditions may count on: the class table is lent, the place at which they begin lies in the text and not before the place `from`, and the text is no longer than any can be
-pub record Begins (classes text : List ℕ) (from at : ℕ) : Type 0 where
+-- what the readers of conditions may count on: the class table is lent, the place from which they read lies in the text at or after the place `from`, and the text is no longer than any can be
+pub record ReadyAt (classes text : List ℕ) (from at : ℕ) : Type 0 where
   pub table : classes ≡ classTable
   pub low : from ≤ at
   pub high : at ≤ length text

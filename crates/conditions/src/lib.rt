@@ -9,7 +9,7 @@ ghost use Rattle.reading.specs.Lexemes.{lexeme, stream};
 ghost use Rattle.grammar.specs.Parser.{noLevel, read-condition, read-conjunction, read-disjunction, read-negated, read-bracketed, read-conditional};
 ghost use Rattle.table.specs.Entries.{treeEntries};
 ghost use Rattle.parts.specs.Answers.{Ready, Done};
-ghost use Rattle.conditions.specs.Joining.{Begins, Joins, wordAfter};
+ghost use Rattle.conditions.specs.Joining.{ReadyAt, Joins, wordAfter};
 use parts::answers::Answer;
 use parts::answers::turned_away;
 use parts::lists::is_literal;
@@ -107,7 +107,7 @@ pub fn read_disjunction(
     number: usize,
     same: bool,
 ) -> Answer
-    requires { ⌜ Begins (now classes) (now text) number from ⌝ }
+    requires { ⌜ ReadyAt (now classes) (now text) number from ⌝ }
     ensures { λ r. ⌜ Done treeEntries (now (text .entry)) (now (seen .entry)) from number same (now (table .entry)) (now (table .exit))
         (read-disjunction (read-condition depth) (stream (now (text .entry)) (tokenAt (now (text .entry)) from))) r ⌝ }
 {
@@ -152,7 +152,7 @@ pub fn read_conjunction(
     number: usize,
     same: bool,
 ) -> Answer
-    requires { ⌜ Begins (now classes) (now text) number from ⌝ }
+    requires { ⌜ ReadyAt (now classes) (now text) number from ⌝ }
     ensures { λ r. ⌜ Done treeEntries (now (text .entry)) (now (seen .entry)) from number same (now (table .entry)) (now (table .exit))
         (read-conjunction (read-condition depth) (stream (now (text .entry)) (tokenAt (now (text .entry)) from))) r ⌝ }
 {
@@ -197,7 +197,7 @@ pub fn read_condition(
     number: usize,
     same: bool,
 ) -> Answer
-    requires { ⌜ Begins (now classes) (now text) number from ⌝ }
+    requires { ⌜ ReadyAt (now classes) (now text) number from ⌝ }
     ensures { λ r. ⌜ Done treeEntries (now (text .entry)) (now (seen .entry)) from number same (now (table .entry)) (now (table .exit))
         (read-condition depth (stream (now (text .entry)) (tokenAt (now (text .entry)) from))) r ⌝ }
 {
@@ -228,7 +228,7 @@ fn read_negation(
     number: usize,
     same: bool,
 ) -> Answer
-    requires { ⌜ Begins (now classes) (now text) (number + 1) from ⌝ }
+    requires { ⌜ ReadyAt (now classes) (now text) (number + 1) from ⌝ }
     ensures { λ r. ⌜ Done treeEntries (now (text .entry)) (now (seen .entry)) (from - 1) number same (now (table .entry)) (now (table .exit))
         (read-negated (read-condition depth) (stream (now (text .entry)) (tokenAt (now (text .entry)) from))) r ⌝ }
 {
@@ -261,7 +261,7 @@ fn read_group(
     number: usize,
     same: bool,
 ) -> Answer
-    requires { ⌜ Begins (now classes) (now text) (number + 1) from ⌝ }
+    requires { ⌜ ReadyAt (now classes) (now text) (number + 1) from ⌝ }
     ensures { λ r. ⌜ Done treeEntries (now (text .entry)) (now (seen .entry)) (from - 1) number same (now (table .entry)) (now (table .exit))
         (read-bracketed (read-condition depth) (stream (now (text .entry)) (tokenAt (now (text .entry)) from))) r ⌝ }
 {
@@ -298,7 +298,7 @@ fn read_choice(
     number: usize,
     same: bool,
 ) -> Answer
-    requires { ⌜ Begins (now classes) (now text) (number + 1) from ⌝ }
+    requires { ⌜ ReadyAt (now classes) (now text) (number + 1) from ⌝ }
     ensures { λ r. ⌜ Done treeEntries (now (text .entry)) (now (seen .entry)) (from - 1) number same (now (table .entry)) (now (table .exit))
         (read-conditional (read-condition depth) (stream (now (text .entry)) (tokenAt (now (text .entry)) from))) r ⌝ }
 {

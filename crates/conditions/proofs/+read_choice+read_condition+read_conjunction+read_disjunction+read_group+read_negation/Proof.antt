@@ -6,7 +6,7 @@ use Rattle.conditions.proofs.Chains.{Going, start, low, so-far, refuses
 use Rattle.conditions.proofs.Choosing as choosing
 use Rattle.conditions.proofs.Choosing.{Choosing}
 use Rattle.conditions.proofs.Apart.{closing-read, follows, fails}
-use Rattle.conditions.proofs.Earlier.{begins-at, ready-from, weaker, told-as}
+use Rattle.conditions.proofs.Earlier.{at-place, ready-from, weaker, told-as}
 use Rattle.parts.proofs.Writing.{done-as, turned-done, as-read, as-refused, kept-none}
 use Rattle.parts.proofs.Standing.{turned-bind}
 use Rattle.table.specs.Entries.{entry, treeEntries}
@@ -135,7 +135,7 @@ read-choice-loop-holds : (t : ℕ) → read-choice-lts.Need-loop-holds (read-cho
 read-choice-loop-holds t c = (choosing.start (omega (arith, c .before .before .before .pre .1 .low)) (c .before .before .before .pre .1 .high), refl)
 
 read-choice-read-condition-requires : (t : ℕ) → read-choice-lts.Need-read-condition-requires (read-choice-claims t) (read-choice-at t) read-choice.Post read-choice-Inv-loop read-choice-μ-loop
-read-choice-read-condition-requires t c κs = let g = c .before .loop .inv .0 in (omega (arith, c .before .before .before .before .before .pre .0), begins-at (c .before .before .before .before .before .pre .1) (omega (arith, g .room, c .before .before .before .before .before .pre .1 .low)) (g .high))
+read-choice-read-condition-requires t c κs = let g = c .before .loop .inv .0 in (omega (arith, c .before .before .before .before .before .pre .0), at-place (c .before .before .before .before .before .pre .1) (omega (arith, g .room, c .before .before .before .before .before .pre .1 .low)) (g .high))
 
 read-choice-enum-known-part : (t : ℕ) → read-choice-lts.Need-enum-known-part (read-choice-claims t) (read-choice-at t) read-choice.Post read-choice-Inv-loop read-choice-μ-loop
 read-choice-enum-known-part t c = search needs
@@ -208,7 +208,7 @@ read-condition-sub-read-negation t c = search needs
 read-condition-read-negation-requires : (t : ℕ) → read-condition-lts.Need-read-negation-requires (read-condition-claims t) (read-condition-at t) read-condition.Post
 read-condition-read-negation-requires t c κs =
     let t = c .before .before .before .before .next-token .result in let r = c .before .before .before .before .next-token .ensures .1 in let some = r .some (λ (z : t .kind ≡ 0). omega (arith, c .before .if2 .taken)) in
-    (omega (arith, c .before .before .before .before .before .before .before .before .pre .0, c .before .before .before .if1 .left), begins-at (c .before .before .before .before .before .before .before .before .pre .1) (omega (arith, c .before .before .before .before .before .before .before .before .pre .1 .low, r .low, some)) (r .high))
+    (omega (arith, c .before .before .before .before .before .before .before .before .pre .0, c .before .before .before .if1 .left), at-place (c .before .before .before .before .before .before .before .before .pre .1) (omega (arith, c .before .before .before .before .before .before .before .before .pre .1 .low, r .low, some)) (r .high))
 
 read-condition-same-length-2 : (t : ℕ) → read-condition-lts.Need-same-length-2 (read-condition-claims t) (read-condition-at t) read-condition.Post
 read-condition-same-length-2 t c = search needs
@@ -225,7 +225,7 @@ read-condition-sub-read-group t c = search needs
 read-condition-read-group-requires : (t : ℕ) → read-condition-lts.Need-read-group-requires (read-condition-claims t) (read-condition-at t) read-condition.Post
 read-condition-read-group-requires t c κs =
     let t = c .before .before .before .before .before .before .next-token .result in let r = c .before .before .before .before .before .before .next-token .ensures .1 in let some = r .some (λ (z : t .kind ≡ 0). omega (arith, c .before .if3 .taken)) in
-    (omega (arith, c .before .before .before .before .before .before .before .before .before .before .pre .0, c .before .before .before .before .before .if1 .left), begins-at (c .before .before .before .before .before .before .before .before .before .before .pre .1) (omega (arith, c .before .before .before .before .before .before .before .before .before .before .pre .1 .low, r .low, some)) (r .high))
+    (omega (arith, c .before .before .before .before .before .before .before .before .before .before .pre .0, c .before .before .before .before .before .if1 .left), at-place (c .before .before .before .before .before .before .before .before .before .before .pre .1) (omega (arith, c .before .before .before .before .before .before .before .before .before .before .pre .1 .low, r .low, some)) (r .high))
 
 read-condition-same-length-3 : (t : ℕ) → read-condition-lts.Need-same-length-3 (read-condition-claims t) (read-condition-at t) read-condition.Post
 read-condition-same-length-3 t c = search needs
@@ -242,7 +242,7 @@ read-condition-sub-read-choice t c = search needs
 read-condition-read-choice-requires : (t : ℕ) → read-condition-lts.Need-read-choice-requires (read-condition-claims t) (read-condition-at t) read-condition.Post
 read-condition-read-choice-requires t c κs =
     let t = c .before .before .before .before .before .before .before .before .next-token .result in let r = c .before .before .before .before .before .before .before .before .next-token .ensures .1 in let some = r .some (λ (z : t .kind ≡ 0). omega (arith, c .before .if4 .taken)) in
-    (omega (arith, c .before .before .before .before .before .before .before .before .before .before .before .before .pre .0, c .before .before .before .before .before .before .before .if1 .left), begins-at (c .before .before .before .before .before .before .before .before .before .before .before .before .pre .1) (omega (arith, c .before .before .before .before .before .before .before .before .before .before .before .before .pre .1 .low, r .low, some)) (r .high))
+    (omega (arith, c .before .before .before .before .before .before .before .before .before .before .before .before .pre .0, c .before .before .before .before .before .before .before .if1 .left), at-place (c .before .before .before .before .before .before .before .before .before .before .before .before .pre .1) (omega (arith, c .before .before .before .before .before .before .before .before .before .before .before .before .pre .1 .low, r .low, some)) (r .high))
 
 read-condition-same-length-4 : (t : ℕ) → read-condition-lts.Need-same-length-4 (read-condition-claims t) (read-condition-at t) read-condition.Post
 read-condition-same-length-4 t c = search needs
@@ -277,7 +277,7 @@ unfolding read-conjunction-spec read-joined chain
 read-conjunction-loop-holds t c = (start (c .before .before .before .pre .1 .high), refl)
 
 read-conjunction-read-condition-requires : (t : ℕ) → read-conjunction-lts.Need-read-condition-requires (read-conjunction-claims t) (read-conjunction-at t) read-conjunction.Post read-conjunction-Inv-loop read-conjunction-μ-loop
-read-conjunction-read-condition-requires t c κs = let g = c .before .loop .inv .0 in (omega (arith, c .before .before .before .before .before .pre .0), begins-at (c .before .before .before .before .before .pre .1) (low g (c .before .before .before .before .before .pre .1 .low)) (g .high))
+read-conjunction-read-condition-requires t c κs = let g = c .before .loop .inv .0 in (omega (arith, c .before .before .before .before .before .pre .0), at-place (c .before .before .before .before .before .pre .1) (low g (c .before .before .before .before .before .pre .1 .low)) (g .high))
 
 read-conjunction-enum-known-part : (t : ℕ) → read-conjunction-lts.Need-enum-known-part (read-conjunction-claims t) (read-conjunction-at t) read-conjunction.Post read-conjunction-Inv-loop read-conjunction-μ-loop
 read-conjunction-enum-known-part t c = search needs
@@ -327,7 +327,7 @@ unfolding read-disjunction-spec read-joined chain
 read-disjunction-loop-holds t c = (start (c .before .before .before .pre .1 .high), refl)
 
 read-disjunction-read-conjunction-requires : (t : ℕ) → read-disjunction-lts.Need-read-conjunction-requires (read-disjunction-claims t) (read-disjunction-at t) read-disjunction.Post read-disjunction-Inv-loop read-disjunction-μ-loop
-read-disjunction-read-conjunction-requires t c κs = let g = c .before .loop .inv .0 in (omega (arith, c .before .before .before .before .before .pre .0), begins-at (c .before .before .before .before .before .pre .1) (low g (c .before .before .before .before .before .pre .1 .low)) (g .high))
+read-disjunction-read-conjunction-requires t c κs = let g = c .before .loop .inv .0 in (omega (arith, c .before .before .before .before .before .pre .0), at-place (c .before .before .before .before .before .pre .1) (low g (c .before .before .before .before .before .pre .1 .low)) (g .high))
 
 read-disjunction-enum-known-part : (t : ℕ) → read-disjunction-lts.Need-enum-known-part (read-disjunction-claims t) (read-disjunction-at t) read-disjunction.Post read-disjunction-Inv-loop read-disjunction-μ-loop
 read-disjunction-enum-known-part t c = search needs
@@ -366,7 +366,7 @@ read-disjunction-loop-again t c = (
 )
 
 read-group-read-disjunction-requires : (t : ℕ) → read-group-lts.Need-read-disjunction-requires (read-group-claims t) (read-group-at t) read-group.Post
-read-group-read-disjunction-requires t c κs = (omega (arith, c .before .before .before .before .pre .0), begins-at (c .before .before .before .before .pre .1) (omega (arith, c .before .before .before .before .pre .1 .low)) (c .before .before .before .before .pre .1 .high))
+read-group-read-disjunction-requires t c κs = (omega (arith, c .before .before .before .before .pre .0), at-place (c .before .before .before .before .pre .1) (omega (arith, c .before .before .before .before .pre .1 .low)) (c .before .before .before .before .pre .1 .high))
 
 read-group-enum-known-inside : (t : ℕ) → read-group-lts.Need-enum-known-inside (read-group-claims t) (read-group-at t) read-group.Post
 read-group-enum-known-inside t c = search needs
@@ -416,7 +416,7 @@ read-group-returns-3 t c =
     (follows 41 (omega arith) (c .before .before .before .before .before .before .before .before .inside .given .1) (c .before .before .before .before .before .before .before .before .before .before .before .before .read-disjunction .ensures) (c .before .before .before .before .before .if1 .left) (c .before .before .before .before .next-token .ensures .0)) (c .before .before .append .ensures)
 
 read-negation-read-condition-requires : (t : ℕ) → read-negation-lts.Need-read-condition-requires (read-negation-claims t) (read-negation-at t) read-negation.Post
-read-negation-read-condition-requires t c κs = (omega (arith, c .before .before .before .before .pre .0), begins-at (c .before .before .before .before .pre .1) (omega (arith, c .before .before .before .before .pre .1 .low)) (c .before .before .before .before .pre .1 .high))
+read-negation-read-condition-requires t c κs = (omega (arith, c .before .before .before .before .pre .0), at-place (c .before .before .before .before .pre .1) (omega (arith, c .before .before .before .before .pre .1 .low)) (c .before .before .before .before .pre .1 .high))
 
 read-negation-enum-known-inside : (t : ℕ) → read-negation-lts.Need-enum-known-inside (read-negation-claims t) (read-negation-at t) read-negation.Post
 read-negation-enum-known-inside t c = search needs
