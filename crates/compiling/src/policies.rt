@@ -141,11 +141,10 @@ fn read_when(
         return Answer::Read(t, number, same);
     }
     let next = next_token(classes, text, t.end);
-    let brace = expected(classes, text, Answer::Read(next, number, same), b'{');
-    let Answer::Read(first, free, ok) = brace else {
-        return brace;
-    };
-    let inside = read_disjunction(classes, text, table, seen, first, 31, free, ok);
+    if next.kind != b'{' {
+        return Answer::Refused(turned_away(text, next, 10));
+    }
+    let inside = read_disjunction(classes, text, table, seen, next.end, 31, number, same);
     expected(classes, text, inside, b'}')
 }
 

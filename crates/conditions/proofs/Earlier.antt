@@ -1,8 +1,9 @@
--- What was read, told from an earlier place on or by an equal answer; and what a reader may count on at another token. Assumes nothing.
+-- What was read, told from an earlier place on or by an equal answer; and what a reader may count on at another token or place. Assumes nothing.
 use mathlib.Core.Path.{_≡_, sym, subst}
 use mathlib.Core.Bool.{Bool}
 use mathlib.Core.List.{List}
 use Prim.Native.Nat.{ℕ, _≤_}
+use lib.ListN.{length}
 use native.Mathlib.Omega.{arith}
 use Rattle.tokens.specs.declared.reader.Token.{Token}
 use Rattle.tokens.specs.Tokens.{Reads}
@@ -11,6 +12,7 @@ use Rattle.table.specs.declared.Entry.{Entry}
 use Rattle.parts.specs.Answers.{Ready, Says, read, refused, Done}
 use Rattle.parts.specs.declared.answers.Answer.{Answer}
 use Rattle.parts.proofs.Standing.{lowered}
+use Rattle.conditions.specs.Joining.{ReadyAt}
 
 -- a token lies from any place on up to its start
 pub lying : {text : List ℕ} {low : ℕ} {t : Token} (from : ℕ) → Reads text low t → from ≤ t .start → Reads text from t
@@ -18,6 +20,12 @@ lying from r l = record { low = l; order = r .order; high = r .high; some = r .s
 
 pub ready-at : {classes text : List ℕ} {from low : ℕ} {t n : Token} → Ready classes text from t → Reads text low n → Ready classes text low n
 ready-at r s = record { table = r .table; lies = s; small = r .small }
+
+pub at-place : {classes text : List ℕ} {from low at at′ : ℕ} → ReadyAt classes text from at → low ≤ at′ → at′ ≤ length text → ReadyAt classes text low at′
+at-place b l h = record { table = b .table; low = l; high = h; small = b .small }
+
+pub ready-from : {classes text : List ℕ} {from at : ℕ} {t : Token} → ReadyAt classes text from at → Reads text at t → Ready classes text from t
+ready-from b r = record { table = b .table; lies = lowered (b .low) r; small = b .small }
 
 module _ {A : Type 0} {es : ℕ → A → List Entry} {text seen : List ℕ} {first : ℕ} {same : Bool} where
   weaker-says : {from′ from : ℕ} {p : reader.Answer A} {r : Answer} → from′ ≤ from → Says es text seen from first same p r → Says es text seen from′ first same p r

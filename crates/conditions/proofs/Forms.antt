@@ -1,8 +1,8 @@
--- A condition by its first token, and its parts. Assumes nothing.
+-- A condition by its first token, and a choice after its first part. Assumes nothing.
 use mathlib.Core.Path.{_≡_, refl, _∙_}
 use mathlib.Core.Bool.{Bool, true, false}
-use mathlib.Core.List.{List, [], _∷_, _++_}
-use Prim.Native.Nat.{ℕ, zero, suc, _+_, _-_, _≤_}
+use mathlib.Core.List.{List, [], _∷_}
+use Prim.Native.Nat.{ℕ, zero, suc, _-_, _≤_}
 use native.Mathlib.Omega.{arith}
 use native.Mathlib.Numerals.{sub-one}
 use lib.Dec.{eqb}
@@ -13,17 +13,12 @@ use Rattle.tokens.specs.declared.reader.Token.{Token}
 use Rattle.tokens.specs.Tokens.{tokenAt, Reads}
 use Rattle.tokens.proofs.ReadLaws.{reads}
 use Rattle.reading.specs.Lexemes.{Lexeme, lexeme, is, choose, stream}
-use Rattle.reading.specs.Reader as reader
 use Rattle.reading.specs.Reader.{Reader, took, numbered, refuseBy, bind, on, ten, before, mapped}
 use Rattle.reading.proofs.Stream.{stream-end, stream-token, next-on, next-off}
 use Rattle.grammar.specs.Policies.{Tree, literal, choice}
 use Rattle.grammar.specs.Rules.{isLiteral, literalOf, isRoot, rootOf}
 use Rattle.grammar.specs.Parser.{noLevel, read-operator, read-rooted, read-simple, read-negated, read-bracketed, read-conditional, read-deeper, read-condition}
-use Rattle.table.specs.Entries.{entry, treeEntries}
 use Rattle.parts.specs.Names.{rootFrom}
-use Rattle.parts.specs.Answers.{Taken, Put, Done, closedOf, EntryPut}
-use Rattle.parts.specs.declared.answers.Answer.{Answer}
-use Rattle.parts.proofs.Writing.{kept-append, as-kept, closing}
 
 -- the token after a token stands past its first byte
 pub past-start : (text : List ℕ) (t n : Token) {from : ℕ} → Reads text from t → n ≡ tokenAt text (t .end) → (t .kind ≡ 0 → ⊥) → t .start ≤ n .start - 1
@@ -113,24 +108,8 @@ module _ (text : List ℕ) (t : Token) where
               next-off text t (is kinds.bang) _ _ (ne-eqb _ _ n₁) ∙ next-off text t (is kinds.leftRound) _ _ (ne-eqb _ _ n₂) ∙ next-off text t (is kinds.ifWord) _ _ (ne-eqb _ _ n₃)
               ∙ refused-same ten noLevel (level n₁ n₂ n₃)))
 
--- ---- the parts of a choice, in order
-
-module _ (inner : Reader Tree) (i : List Lexeme) {m : List Lexeme} {a : Tree} (e : before kinds.thenWord inner i ≡ took a m) where
-  pub choice-second : read-conditional inner i ≡ bind (before kinds.elseWord inner m) (λ b. mapped (choice a b) inner)
-  unfolding read-conditional bind
-  choice-second = rw e
-
-  pub choice-third : {n : List Lexeme} {b : Tree} → before kinds.elseWord inner m ≡ took b n → read-conditional inner i ≡ bind (inner n) (λ t. took (choice a b t))
-  unfolding bind mapped
-  choice-third f = choice-second ∙ rw f
-
-module _ {text seen : List ℕ} {from′ from first free₁ free₂ : ℕ} {same same₁ same₂ : Bool} {next₁ next₂ : Token} {T T₁ T₂ T₃ T₄ : List ℕ} {p₁ p₂ p₃ : reader.Answer Tree} {r r₂ : Answer}
-    (k₁ : Taken treeEntries text seen from first same p₁ next₁ free₁ same₁) (w₁ : Put treeEntries first T T₁ p₁)
-    (k₂ : Taken treeEntries text seen (next₁ .start) free₁ same₁ p₂ next₂ free₂ same₂) (w₂ : Put treeEntries free₁ T₁ T₂ p₂) where
-  pub choice-done : from′ + 1 ≤ from → Done treeEntries text seen (next₂ .start) free₂ same₂ T₂ T₃ p₃ r → (r₂ ≡ closedOf seen (λ _. entry 28 free₁ free₂) r) × EntryPut T₃ (λ _. entry 28 free₁ free₂) r T₄
-      → Done treeEntries text seen from′ first same T T₄ (bind p₃ (λ t. took (choice (k₁ .value) (k₂ .value) t))) r₂
-  unfolding treeEntries
-  choice-done l d c =
-      let x = k₁ .room in let y = k₂ .room in
-      closing (treeEntries first (k₁ .value) ++ treeEntries free₁ (k₂ .value)) (choice (k₁ .value) (k₂ .value)) (kept-append (as-kept k₁ w₁) (as-kept k₂ w₂)) (λ _. entry 28 free₁ free₂)
-      (λ t n e. rw (← k₁ .counted .free-is, ← k₂ .counted .free-is)) (omega arith) d c
+-- a choice after its first part
+pub choice-second : (inner : Reader Tree) (i : List Lexeme) {m : List Lexeme} {a : Tree} → before kinds.thenWord inner i ≡ took a m
+    → read-conditional inner i ≡ bind (before kinds.elseWord inner m) (λ b. mapped (choice a b) inner)
+unfolding read-conditional bind
+choice-second inner i e = rw e

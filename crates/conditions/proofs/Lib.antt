@@ -1,3 +1,5 @@
 pub mod Earlier
+pub mod Apart
 pub mod Chains
 pub mod Forms
+pub mod Choosing

@@ -1,13 +1,28 @@
--- What joins a part of a chain to those before it. Definitions only.
+-- What a reader of conditions may count on, what joins a part of a chain to those before it, and the words between the parts of a choice. Definitions only.
 use mathlib.Core.Path.{_≡_}
-use mathlib.Core.Bool.{Bool, true, false}
+use mathlib.Core.Bool.{Bool, true, false, cond, _&&_}
 use mathlib.Core.List.{List}
-use Prim.Native.Nat.{ℕ}
+use Prim.Native.Nat.{ℕ, _+_, _^_, _≤_, _<_}
+use lib.Dec.{eqb}
+use lib.ListN.{length}
+use Rattle.tokens.specs.Kinds as kinds
+use Rattle.tokens.specs.Table.{classTable}
 use Rattle.table.specs.declared.Entry.{Entry}
-use Rattle.parts.specs.Answers.{closedOf, EntryPut}
-use Rattle.parts.specs.declared.answers.Answer.{Answer}
+use Rattle.table.specs.Layout.{putAt, entryIs}
+use Rattle.conditions.specs.declared.Count.{Count}
+
+-- what the readers of conditions may count on: the class table is lent, the place from which they read lies in the text at or after the place `from`, and the text is no longer than any can be
+pub record ReadyAt (classes text : List ℕ) (from at : ℕ) : Type 0 where
+  pub table : classes ≡ classTable
+  pub low : from ≤ at
+  pub high : at ≤ length text
+  pub small : length text < 2 ^ 60
 
 -- the first part of a chain stands alone; after any other there is one entry more
-pub record Joins (seen : List ℕ) (more : Bool) (x : Entry) (last : Answer) (old new : List ℕ) (r : Answer) : Type 0 where
-  pub first : more ≡ false → (r ≡ last) × (new ≡ old)
-  pub later : more ≡ true → (r ≡ closedOf seen (λ free. x) last) × EntryPut old (λ free. x) last new
+pub record Joins (seen : List ℕ) (more : Bool) (x : Entry) (free : ℕ) (same : Bool) (old new : List ℕ) (r : Count) : Type 0 where
+  pub first : more ≡ false → (r .free ≡ free) × (r .same ≡ same) × (new ≡ old)
+  pub later : more ≡ true → (r .free ≡ free + 1) × (r .same ≡ same && entryIs seen free x) × (new ≡ putAt old free x)
+
+-- the word that must follow the part of a choice after the one that `word` follows; 0 after the last, which none must follow
+unfoldable pub wordAfter : ℕ → ℕ
+wordAfter word = cond (eqb word kinds.thenWord) kinds.elseWord 0

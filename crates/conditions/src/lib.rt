@@ -1,18 +1,16 @@
-// The readers of conditions. They call each other, at most `depth` levels deep: so many levels may still stand inside what is read. Chains of `&&` and `||` are loops.
-// Each gets the token that stands next, puts the entries of what it reads into one table and compares them with another.
+// The readers of conditions. They call each other, at most `depth` levels deep: so many levels may still stand inside what is read. Chains of `&&` and `||` are loops,
+// and so are the three parts of a choice. Each gets the place from which the next token is read, puts the entries of what it reads into one table and compares them
+// with another. They take an answer apart as soon as they get it: their frames then hold little, and these are what nested conditions cost on the stack.
 ghost use mathlib.Core.Path.{_≡_};
 ghost use mathlib.Core.List.{[]};
 ghost use Prim.Native.Nat.{ℕ, _+_, _-_, _<_, _^_};
 ghost use Rattle.tokens.specs.Tokens.{tokenAt};
 ghost use Rattle.reading.specs.Lexemes.{lexeme, stream};
-ghost use Rattle.reading.specs.Reader.{before};
 ghost use Rattle.grammar.specs.Parser.{noLevel, read-condition, read-conjunction, read-disjunction, read-negated, read-bracketed, read-conditional};
 ghost use Rattle.table.specs.Entries.{treeEntries};
-ghost use Rattle.parts.specs.Answers.{Ready, freeOf, Done};
-ghost use Rattle.conditions.specs.Joining.{Joins};
+ghost use Rattle.parts.specs.Answers.{Ready, Done};
+ghost use Rattle.conditions.specs.Joining.{ReadyAt, Joins, wordAfter};
 use parts::answers::Answer;
-use parts::answers::closed;
-use parts::answers::expected;
 use parts::answers::turned_away;
 use parts::lists::is_literal;
 use parts::lists::literal_entry;
@@ -20,9 +18,16 @@ use parts::operators::read_operator;
 use parts::operators::read_rooted;
 use parts::paths::is_root;
 use table::Entry;
+use table::append;
 use tokens::kinds;
 use tokens::reader::Token;
 use tokens::reader::next_token;
+
+// The next free entry, and whether the table that is seen has the entries so far.
+pub struct Count {
+    pub free: usize,
+    pub same: bool,
+}
 
 // The number by which a token is refused where a condition must stand and no level is left.
 fn no_level(t: Token) -> u8
@@ -36,33 +41,44 @@ fn no_level(t: Token) -> u8
     }
 }
 
-// What was read, and where it is not the first of its chain the entry that joins it to those before.
-fn joined(table: &mut [u8], seen: &[u8], last: Answer, more: bool, x: Entry) -> Answer
-    requires { ⌜ freeOf last < 2 ^ 60 ⌝ }
-    ensures { λ r. ⌜ Joins (now (seen .entry)) more x last (now (table .entry)) (now (table .exit)) r ⌝ }
+// The word that must follow the next part of a choice: `else` after the part that `then` follows, none after the last.
+fn word_after(word: u8) -> u8
+    ensures { λ r. ⌜ r ≡ wordAfter word ⌝ }
+{
+    if word == kinds::THEN { kinds::ELSE } else { 0 }
+}
+
+// The entries after a part of a chain: where it is not the first, one more joins it to those before.
+fn joined(table: &mut [u8], seen: &[u8], free: usize, same: bool, more: bool, x: Entry) -> Count
+    requires { ⌜ free < 2 ^ 60 ⌝ }
+    ensures { λ r. ⌜ Joins (now (seen .entry)) more x free same (now (table .entry)) (now (table .exit)) r ⌝ }
 {
     if more {
-        closed(table, seen, last, x)
+        let ok = append(table, seen, free, same, x);
+        Count {
+            free: free + 1,
+            same: ok,
+        }
     } else {
-        last
+        Count { free, same }
     }
 }
 
-// A condition that holds no other, where `next` is the token after its first.
+// A condition that holds no other, from its first token on.
 fn read_flat(
     classes: &[u8; 256],
     text: &[u8],
     table: &mut [u8],
     seen: &[u8],
     t: Token,
-    next: Token,
     number: usize,
     same: bool,
 ) -> Answer
-    requires { ⌜ Ready (now classes) (now text) number t × (next ≡ tokenAt (now text) (t .end)) ⌝ }
+    requires { ⌜ Ready (now classes) (now text) number t ⌝ }
     ensures { λ r. ⌜ Done treeEntries (now (text .entry)) (now (seen .entry)) (t .start) number same (now (table .entry)) (now (table .exit))
         (read-condition 0 (stream (now (text .entry)) t)) r ⌝ }
 {
+    let next = next_token(classes, text, t.end);
     if is_literal(t) {
         return read_operator(
             classes,
@@ -86,25 +102,29 @@ pub fn read_disjunction(
     text: &[u8],
     table: &mut [u8],
     seen: &[u8],
-    t: Token,
+    from: usize,
     depth: usize,
     number: usize,
     same: bool,
 ) -> Answer
-    requires { ⌜ Ready (now classes) (now text) number t ⌝ }
-    ensures { λ r. ⌜ Done treeEntries (now (text .entry)) (now (seen .entry)) (t .start) number same (now (table .entry)) (now (table .exit))
-        (read-disjunction (read-condition depth) (stream (now (text .entry)) t)) r ⌝ }
+    requires { ⌜ ReadyAt (now classes) (now text) number from ⌝ }
+    ensures { λ r. ⌜ Done treeEntries (now (text .entry)) (now (seen .entry)) from number same (now (table .entry)) (now (table .exit))
+        (read-disjunction (read-condition depth) (stream (now (text .entry)) (tokenAt (now (text .entry)) from))) r ⌝ }
 {
-    let mut at = t;
+    let mut at = from;
     let mut free = number;
     let mut ok = same;
     let mut more = false;
     loop {
         let part = read_conjunction(classes, text, table, seen, at, depth, free, ok);
-        let sofar = joined(
+        let Answer::Read(mark, n, o) = part else {
+            return part;
+        };
+        let count = joined(
             table,
             seen,
-            part,
+            n,
+            o,
             more,
             Entry {
                 kind: 27,
@@ -112,15 +132,12 @@ pub fn read_disjunction(
                 second: 0,
             },
         );
-        let Answer::Read(or, n, o) = sofar else {
-            return sofar;
-        };
-        if or.kind != kinds::OR {
-            return sofar;
+        if mark.kind != kinds::OR {
+            return Answer::Read(mark, count.free, count.same);
         }
-        at = next_token(classes, text, or.end);
-        free = n;
-        ok = o;
+        at = mark.end;
+        free = count.free;
+        ok = count.same;
         more = true;
     }
 }
@@ -130,25 +147,29 @@ pub fn read_conjunction(
     text: &[u8],
     table: &mut [u8],
     seen: &[u8],
-    t: Token,
+    from: usize,
     depth: usize,
     number: usize,
     same: bool,
 ) -> Answer
-    requires { ⌜ Ready (now classes) (now text) number t ⌝ }
-    ensures { λ r. ⌜ Done treeEntries (now (text .entry)) (now (seen .entry)) (t .start) number same (now (table .entry)) (now (table .exit))
-        (read-conjunction (read-condition depth) (stream (now (text .entry)) t)) r ⌝ }
+    requires { ⌜ ReadyAt (now classes) (now text) number from ⌝ }
+    ensures { λ r. ⌜ Done treeEntries (now (text .entry)) (now (seen .entry)) from number same (now (table .entry)) (now (table .exit))
+        (read-conjunction (read-condition depth) (stream (now (text .entry)) (tokenAt (now (text .entry)) from))) r ⌝ }
 {
-    let mut at = t;
+    let mut at = from;
     let mut free = number;
     let mut ok = same;
     let mut more = false;
     loop {
         let part = read_condition(classes, text, table, seen, at, depth, free, ok);
-        let sofar = joined(
+        let Answer::Read(mark, n, o) = part else {
+            return part;
+        };
+        let count = joined(
             table,
             seen,
-            part,
+            n,
+            o,
             more,
             Entry {
                 kind: 26,
@@ -156,15 +177,12 @@ pub fn read_conjunction(
                 second: 0,
             },
         );
-        let Answer::Read(and, n, o) = sofar else {
-            return sofar;
-        };
-        if and.kind != kinds::AND {
-            return sofar;
+        if mark.kind != kinds::AND {
+            return Answer::Read(mark, count.free, count.same);
         }
-        at = next_token(classes, text, and.end);
-        free = n;
-        ok = o;
+        at = mark.end;
+        free = count.free;
+        ok = count.same;
         more = true;
     }
 }
@@ -174,29 +192,29 @@ pub fn read_condition(
     text: &[u8],
     table: &mut [u8],
     seen: &[u8],
-    t: Token,
+    from: usize,
     depth: usize,
     number: usize,
     same: bool,
 ) -> Answer
-    requires { ⌜ Ready (now classes) (now text) number t ⌝ }
-    ensures { λ r. ⌜ Done treeEntries (now (text .entry)) (now (seen .entry)) (t .start) number same (now (table .entry)) (now (table .exit))
-        (read-condition depth (stream (now (text .entry)) t)) r ⌝ }
+    requires { ⌜ ReadyAt (now classes) (now text) number from ⌝ }
+    ensures { λ r. ⌜ Done treeEntries (now (text .entry)) (now (seen .entry)) from number same (now (table .entry)) (now (table .exit))
+        (read-condition depth (stream (now (text .entry)) (tokenAt (now (text .entry)) from))) r ⌝ }
 {
-    let next = next_token(classes, text, t.end);
+    let t = next_token(classes, text, from);
     if depth == 0 {
-        return read_flat(classes, text, table, seen, t, next, number, same);
+        return read_flat(classes, text, table, seen, t, number, same);
     }
     if t.kind == b'!' {
-        return read_negation(classes, text, table, seen, next, depth - 1, number, same);
+        return read_negation(classes, text, table, seen, t.end, depth - 1, number, same);
     }
     if t.kind == b'(' {
-        return read_group(classes, text, table, seen, next, depth - 1, number, same);
+        return read_group(classes, text, table, seen, t.end, depth - 1, number, same);
     }
     if t.kind == kinds::IF {
-        return read_choice(classes, text, table, seen, next, depth - 1, number, same);
+        return read_choice(classes, text, table, seen, t.end, depth - 1, number, same);
     }
-    read_flat(classes, text, table, seen, t, next, number, same)
+    read_flat(classes, text, table, seen, t, number, same)
 }
 
 // After `!`.
@@ -205,26 +223,31 @@ fn read_negation(
     text: &[u8],
     table: &mut [u8],
     seen: &[u8],
-    t: Token,
+    from: usize,
     depth: usize,
     number: usize,
     same: bool,
 ) -> Answer
-    requires { ⌜ Ready (now classes) (now text) (number + 1) t ⌝ }
-    ensures { λ r. ⌜ Done treeEntries (now (text .entry)) (now (seen .entry)) (t .start - 1) number same (now (table .entry)) (now (table .exit))
-        (read-negated (read-condition depth) (stream (now (text .entry)) t)) r ⌝ }
+    requires { ⌜ ReadyAt (now classes) (now text) (number + 1) from ⌝ }
+    ensures { λ r. ⌜ Done treeEntries (now (text .entry)) (now (seen .entry)) (from - 1) number same (now (table .entry)) (now (table .exit))
+        (read-negated (read-condition depth) (stream (now (text .entry)) (tokenAt (now (text .entry)) from))) r ⌝ }
 {
-    let inside = read_condition(classes, text, table, seen, t, depth, number, same);
-    closed(
+    let inside = read_condition(classes, text, table, seen, from, depth, number, same);
+    let Answer::Read(next, free, ok) = inside else {
+        return inside;
+    };
+    let all = append(
         table,
         seen,
-        inside,
+        free,
+        ok,
         Entry {
             kind: 24,
             first: 0,
             second: 0,
         },
-    )
+    );
+    Answer::Read(next, free + 1, all)
 }
 
 // After `(`.
@@ -233,101 +256,83 @@ fn read_group(
     text: &[u8],
     table: &mut [u8],
     seen: &[u8],
-    t: Token,
+    from: usize,
     depth: usize,
     number: usize,
     same: bool,
 ) -> Answer
-    requires { ⌜ Ready (now classes) (now text) (number + 1) t ⌝ }
-    ensures { λ r. ⌜ Done treeEntries (now (text .entry)) (now (seen .entry)) (t .start - 1) number same (now (table .entry)) (now (table .exit))
-        (read-bracketed (read-condition depth) (stream (now (text .entry)) t)) r ⌝ }
+    requires { ⌜ ReadyAt (now classes) (now text) (number + 1) from ⌝ }
+    ensures { λ r. ⌜ Done treeEntries (now (text .entry)) (now (seen .entry)) (from - 1) number same (now (table .entry)) (now (table .exit))
+        (read-bracketed (read-condition depth) (stream (now (text .entry)) (tokenAt (now (text .entry)) from))) r ⌝ }
 {
-    let inside = read_disjunction(classes, text, table, seen, t, depth, number, same);
-    let round = expected(classes, text, inside, b')');
-    closed(
+    let inside = read_disjunction(classes, text, table, seen, from, depth, number, same);
+    let Answer::Read(t, free, ok) = inside else {
+        return inside;
+    };
+    if t.kind != b')' {
+        return Answer::Refused(turned_away(text, t, 10));
+    }
+    let next = next_token(classes, text, t.end);
+    let all = append(
         table,
         seen,
-        round,
+        free,
+        ok,
         Entry {
             kind: 25,
             first: 0,
             second: 0,
         },
-    )
+    );
+    Answer::Read(next, free + 1, all)
 }
 
-// A condition, and the word that must follow it.
-fn read_until(
-    classes: &[u8; 256],
-    text: &[u8],
-    table: &mut [u8],
-    seen: &[u8],
-    word: u8,
-    t: Token,
-    depth: usize,
-    number: usize,
-    same: bool,
-) -> Answer
-    requires { ⌜ Ready (now classes) (now text) number t × (0 < word) ⌝ }
-    ensures { λ r. ⌜ Done treeEntries (now (text .entry)) (now (seen .entry)) (t .start) number same (now (table .entry)) (now (table .exit))
-        (before word (read-condition depth) (stream (now (text .entry)) t)) r ⌝ }
-{
-    let part = read_condition(classes, text, table, seen, t, depth, number, same);
-    expected(classes, text, part, word)
-}
-
-// After `if`.
+// After `if`: three parts, of which `word` must follow each but the last. `before` is the first entry of the part before.
 fn read_choice(
     classes: &[u8; 256],
     text: &[u8],
     table: &mut [u8],
     seen: &[u8],
-    t: Token,
+    from: usize,
     depth: usize,
     number: usize,
     same: bool,
 ) -> Answer
-    requires { ⌜ Ready (now classes) (now text) (number + 1) t ⌝ }
-    ensures { λ r. ⌜ Done treeEntries (now (text .entry)) (now (seen .entry)) (t .start - 1) number same (now (table .entry)) (now (table .exit))
-        (read-conditional (read-condition depth) (stream (now (text .entry)) t)) r ⌝ }
+    requires { ⌜ ReadyAt (now classes) (now text) (number + 1) from ⌝ }
+    ensures { λ r. ⌜ Done treeEntries (now (text .entry)) (now (seen .entry)) (from - 1) number same (now (table .entry)) (now (table .exit))
+        (read-conditional (read-condition depth) (stream (now (text .entry)) (tokenAt (now (text .entry)) from))) r ⌝ }
 {
-    let test = read_until(
-        classes,
-        text,
-        table,
-        seen,
-        kinds::THEN,
-        t,
-        depth,
-        number,
-        same,
-    );
-    let Answer::Read(next1, free1, same1) = test else {
-        return test;
-    };
-    let main = read_until(
-        classes,
-        text,
-        table,
-        seen,
-        kinds::ELSE,
-        next1,
-        depth,
-        free1,
-        same1,
-    );
-    let Answer::Read(next2, free2, same2) = main else {
-        return main;
-    };
-    let other = read_condition(classes, text, table, seen, next2, depth, free2, same2);
-    closed(
-        table,
-        seen,
-        other,
-        Entry {
-            kind: 28,
-            first: free1,
-            second: free2,
-        },
-    )
+    let mut at = from;
+    let mut before = number;
+    let mut free = number;
+    let mut ok = same;
+    let mut word = kinds::THEN;
+    loop {
+        let part = read_condition(classes, text, table, seen, at, depth, free, ok);
+        let Answer::Read(next, n, o) = part else {
+            return part;
+        };
+        if word == 0 {
+            let all = append(
+                table,
+                seen,
+                n,
+                o,
+                Entry {
+                    kind: 28,
+                    first: before,
+                    second: free,
+                },
+            );
+            return Answer::Read(next, n + 1, all);
+        }
+        if next.kind != word {
+            return Answer::Refused(turned_away(text, next, 10));
+        }
+        at = next.end;
+        before = free;
+        free = n;
+        ok = o;
+        word = word_after(word);
+    }
 }

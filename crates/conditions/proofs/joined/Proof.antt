@@ -1,23 +1,26 @@
 -- `conditions::joined` meets its contract: by whether a part stands before. Assumes nothing.
-use native.Mathlib.Omega.{arith}
 use Prim.Native.Nat.{ℕ}
+use native.Mathlib.Omega.{arith}
 use mathlib.Core.Bool.{true, false}
 use mathlib.Core.Path.{_≡_, refl}
 use borrow.Author.Needs.{needs}
 use Rattle.conditions.proofs.joined.Statement.{statement}
 use Rattle.conditions.proofs.joined.Tie as tie
 
-closed-requires : tie.Need-closed-requires
-closed-requires c κs = search needs
+append-requires : tie.Need-append-requires
+append-requires c κs = search needs
+
+add-t12 : tie.Need-add-t12
+add-t12 c = search needs
 
 same-length : tie.Need-same-length
 same-length c = search needs
 
 returns : tie.Need-returns
-returns c = record { first = λ (e : _ ≡ false). absurd (let t = c .before .before .before .before .if1 .taken in let z : _≡_ {A = ℕ} 0 1 = cc in omega arith); later = λ e. c .before .before .closed .ensures }
+returns c = record { first = λ (e : _ ≡ false). absurd (let t = c .before .before .before .before .if1 .taken in let z : _≡_ {A = ℕ} 0 1 = cc in omega arith); later = λ e. (refl, c .before .before .append .ensures .0, c .before .before .append .ensures .1) }
 
 returns-2 : tie.Need-returns-2
-returns-2 c = record { first = λ e. (refl, refl); later = λ (e : _ ≡ true). absurd (let t = c .if1 .left in let z : _≡_ {A = ℕ} 0 1 = cc in omega arith) }
+returns-2 c = record { first = λ e. (refl, refl, refl); later = λ (e : _ ≡ true). absurd (let t = c .if1 .left in let z : _≡_ {A = ℕ} 0 1 = cc in omega arith) }
 
 pub joined-spec : {M : Type 1} → statement M
-joined-spec = tie.close (tie.spec closed-requires same-length returns returns-2)
+joined-spec = tie.close (tie.spec append-requires add-t12 same-length returns returns-2)

@@ -1,20 +1,19 @@
--- `compiling::policies::read_when` meets its contract: by whether `when` stands next. Assumes nothing.
-use Rattle.compiling.proofs.Gates.{gate-first, standing, gate-done, gated}
-use Rattle.conditions.proofs.Earlier.{lying, ready-at, weaker, told-as}
-use Rattle.parts.proofs.Writing.{settled, turned-done, as-read, as-refused, next-lies, kept-none, continuing, expected-done}
-use Rattle.parts.proofs.Standing.{turned-as, turned-bind}
-use Rattle.table.specs.Entries.{conditionEntries}
-use Rattle.grammar.specs.Parser.{read-conditions, read-when as when-spec}
-use Rattle.reading.proofs.Stream.{next-on, next-off}
-use Rattle.reading.specs.Reader.{before, mapped}
-use Rattle.reading.specs.Lexemes.{is, stream}
-use Rattle.tokens.specs.Kinds as kinds
-use borrow.Author.Tests.{eq-eqb, ne-eqb}
-use native.Mathlib.Omega.{arith}
-use Prim.Native.Nat.{_+_, _-_}
-use mathlib.Core.Option.{none, some}
-use mathlib.Core.List.{[]}
+-- `compiling::policies::read_when` meets its contract: by whether `when` and `{` stand next. Assumes nothing.
 use mathlib.Core.Path.{_≡_, refl, _∙_}
+use mathlib.Core.List.{[]}
+use mathlib.Core.Option.{none, some}
+use native.Mathlib.Omega.{arith}
+use borrow.Author.Tests.{eq-eqb, ne-eqb}
+use Rattle.tokens.specs.Kinds as kinds
+use Rattle.tokens.specs.Tokens.{tokenAt}
+use Rattle.reading.specs.Lexemes.{is}
+use Rattle.reading.specs.Reader.{before, mapped}
+use Rattle.reading.proofs.Stream.{next-on, next-off}
+use Rattle.grammar.specs.Parser.{read-conditions, read-when as when-spec}
+use Rattle.table.specs.Entries.{conditionEntries}
+use Rattle.parts.proofs.Standing.{turned-as, need-on, need-off}
+use Rattle.parts.proofs.Writing.{settled, done-as, turned-done, next-lies, kept-none, continuing, expected-done}
+use Rattle.conditions.proofs.Earlier.{lying}
 use borrow.Author.Needs.{needs}
 use Rattle.compiling.proofs.policies.read_when.Statement.{statement}
 use Rattle.compiling.proofs.policies.read_when.Tie as tie
@@ -27,34 +26,23 @@ returns c =
 next-token-requires : tie.Need-next-token-requires
 next-token-requires c κs = search needs
 
-expected-requires : tie.Need-expected-requires
-expected-requires c κs = search needs
-
-enum-known-brace : tie.Need-enum-known-brace
-enum-known-brace c = search needs
-
-enum-told : tie.Need-enum-told
-enum-told c = search needs
+turned-away-requires : tie.Need-turned-away-requires
+turned-away-requires c κs = search needs
 
 returns-2 : tie.Need-returns-2
 unfolding when-spec
 returns-2 c =
-    let t = c .before .before .before .before .before .before .before .before .before .args .t in let n = c .before .before .before .next-token .result in let r = c .before .before .before .next-token .ensures .1 in
-    let some-byte = c .before .before .before .before .before .before .before .before .before .pre .lies .some (λ (z : t .kind ≡ 0). omega (arith, c .before .before .before .before .if1 .left)) in
-    let d = gate-done 123 (omega arith) (standing (c .before .before .before .before .before .before .before .before .before .args .seen .now) (c .before .before .before .before .before .before .before .before .before .args .table .now) n (lying (n .start - 1 + 1) r (omega (arith, r .low, some-byte)))) (c .before .before .expected .ensures) in
-    let e = c .enum-told .given .1 in
-    told-as e (turned-done (turned-as (next-on (c .before .before .before .before .before .before .before .before .before .args .text .now) t (is kinds.whenWord) _ _ n (λ (z : t .kind ≡ 0). omega (arith, c .before .before .before .before .if1 .left)) (c .before .before .before .before .before .before .before .before .before .pre .lies .high) (c .before .before .before .next-token .ensures .0) (eq-eqb _ _ (c .before .before .before .before .if1 .left)) ∙ gate-first 123 (mapped some (before kinds.rightBrace read-conditions)) (stream (c .before .before .before .before .before .before .before .before .before .args .text .now) n)) (turned-bind _ (as-refused e (d .says)))))
+    let text = c .before .before .before .before .before .before .before .before .before .args .text .now in let t = c .before .before .before .before .before .before .before .before .before .args .t in let n = c .before .before .before .next-token .result in
+    turned-done (turned-as (next-on text t (is kinds.whenWord) _ _ n (λ (z : t .kind ≡ 0). omega (arith, c .before .before .before .before .if1 .left)) (c .before .before .before .before .before .before .before .before .before .pre .lies .high) (c .before .before .before .next-token .ensures .0) (eq-eqb _ _ (c .before .before .before .before .if1 .left)))
+    (need-off text n 123 _ (c .before .if2 .taken) (c .turned-away .ensures)))
 
 read-disjunction-requires : tie.Need-read-disjunction-requires
 read-disjunction-requires c κs =
-    let t = c .before .before .before .before .before .before .before .before .before .before .before .args .t in let n = c .before .before .before .before .before .next-token .result in let r = c .before .before .before .before .before .next-token .ensures .1 in
-    let some-byte = c .before .before .before .before .before .before .before .before .before .before .before .pre .lies .some (λ (z : t .kind ≡ 0). omega (arith, c .before .before .before .before .before .before .if1 .left)) in
-    let d = gate-done 123 (omega arith) (standing (c .before .before .before .before .before .before .before .before .before .before .before .args .seen .now) (c .before .before .before .before .before .before .before .before .before .before .before .args .table .now) n (lying (n .start - 1 + 1) r (omega (arith, r .low, some-byte)))) (c .before .before .before .before .expected .ensures) in
-    let k = as-read (c .before .before .brace .given .1) (d .says) in
-    ready-at (c .before .before .before .before .before .before .before .before .before .before .before .pre) (lying _ (k .lies) (omega (arith, k .counted .free-is, k .lies .low, r .low, some-byte, c .before .before .before .before .before .before .before .before .before .before .before .pre .lies .low)))
+    let t = c .before .before .before .before .before .before .before .before .before .args .t in let r = c .before .before .before .next-token .ensures .1 in let some-byte = c .before .before .before .before .before .before .before .before .before .pre .lies .some (λ (z : t .kind ≡ 0). omega (arith, c .before .before .before .before .if1 .left)) in
+    record { table = c .before .before .before .before .before .before .before .before .before .pre .table; low = omega (arith, c .before .before .before .before .before .before .before .before .before .pre .lies .low, some-byte, r .low, r .order); high = r .high; small = c .before .before .before .before .before .before .before .before .before .pre .small }
 
-expected-requires-2 : tie.Need-expected-requires-2
-expected-requires-2 c κs = (c .before .before .before .before .before .before .before .before .before .before .before .before .before .before .pre .table, next-lies (c .before .before .read-disjunction .ensures .says))
+expected-requires : tie.Need-expected-requires
+expected-requires c κs = (c .before .before .before .before .before .before .before .before .before .before .before .before .pre .table, next-lies (c .before .before .read-disjunction .ensures .says))
 
 same-length : tie.Need-same-length
 same-length c = search needs
@@ -62,12 +50,11 @@ same-length c = search needs
 returns-3 : tie.Need-returns-3
 unfolding when-spec before mapped read-conditions conditionEntries
 returns-3 c =
-    let t = c .before .before .before .before .before .before .before .before .before .before .before .before .before .before .before .args .t in let n = c .before .before .before .before .before .before .before .before .before .next-token .result in let r = c .before .before .before .before .before .before .before .before .before .next-token .ensures .1 in
-    let some-byte = c .before .before .before .before .before .before .before .before .before .before .before .before .before .before .before .pre .lies .some (λ (z : t .kind ≡ 0). omega (arith, c .before .before .before .before .before .before .before .before .before .before .if1 .left)) in
-    let d = gate-done 123 (omega arith) (standing (c .before .before .before .before .before .before .before .before .before .before .before .before .before .before .before .args .seen .now) (c .before .before .before .before .before .before .before .before .before .before .before .before .before .before .before .args .table .now) n (lying (n .start - 1 + 1) r (omega (arith, r .low, some-byte)))) (c .before .before .before .before .before .before .before .before .expected .ensures) in
-    let k = as-read (c .before .before .before .before .before .before .brace .given .1) (d .says) in
-    weaker (omega (arith, r .low, some-byte)) (gated {from₁ = c .before .before .before .before .before .before .brace .given .0 .0 .start} (mapped some (before kinds.rightBrace read-conditions)) k (next-on (c .before .before .before .before .before .before .before .before .before .before .before .before .before .before .before .args .text .now) t (is kinds.whenWord) _ _ n (λ (z : t .kind ≡ 0). omega (arith, c .before .before .before .before .before .before .before .before .before .before .if1 .left)) (c .before .before .before .before .before .before .before .before .before .before .before .before .before .before .before .pre .lies .high) (c .before .before .before .before .before .before .before .before .before .next-token .ensures .0) (eq-eqb _ _ (c .before .before .before .before .before .before .before .before .before .before .if1 .left)) ∙ gate-first 123 (mapped some (before kinds.rightBrace read-conditions)) (stream (c .before .before .before .before .before .before .before .before .before .before .before .before .before .before .before .args .text .now) n)) (omega (arith, k .lies .low))
-    (continuing [] some (kept-none _ _ _ _) (λ v. refl) (omega arith) (expected-done 125 (omega arith) (c .before .before .before .read-disjunction .ensures) (c .expected2 .ensures))))
+    let text = c .before .before .before .before .before .before .before .before .before .before .before .before .before .args .text .now in let t = c .before .before .before .before .before .before .before .before .before .before .before .before .before .args .t in let n = c .before .before .before .before .before .before .before .next-token .result in let r = c .before .before .before .before .before .before .before .next-token .ensures .1 in
+    let some-byte = c .before .before .before .before .before .before .before .before .before .before .before .before .before .pre .lies .some (λ (z : t .kind ≡ 0). omega (arith, c .before .before .before .before .before .before .before .before .if1 .left)) in
+    done-as (next-on text t (is kinds.whenWord) _ _ n (λ (z : t .kind ≡ 0). omega (arith, c .before .before .before .before .before .before .before .before .if1 .left)) (c .before .before .before .before .before .before .before .before .before .before .before .before .before .pre .lies .high) (c .before .before .before .before .before .before .before .next-token .ensures .0) (eq-eqb _ _ (c .before .before .before .before .before .before .before .before .if1 .left))
+    ∙ need-on text n 123 (mapped some (before kinds.rightBrace read-conditions)) (tokenAt text (n .end)) (omega arith) (c .before .before .before .before .before .if2 .left) (r .high) refl)
+    (continuing [] some (kept-none _ _ _ _) (λ v. refl) (omega (arith, some-byte, r .low, r .order)) (expected-done 125 (omega arith) (c .before .before .before .read-disjunction .ensures) (c .expected .ensures)))
 
 pub read-when-spec : {M : Type 1} → statement M
 read-when-spec =
@@ -75,11 +62,9 @@ read-when-spec =
     (tie.spec
     returns
     next-token-requires
-    expected-requires
-    enum-known-brace
-    enum-told
+    turned-away-requires
     returns-2
     read-disjunction-requires
-    expected-requires-2
+    expected-requires
     same-length
     returns-3)
