@@ -3,3 +3,4 @@ pub mod Digits
 pub mod Stepping
 pub mod Progress
 pub mod Listed
+pub mod SixColumns

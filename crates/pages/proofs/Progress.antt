@@ -2,7 +2,7 @@
 use mathlib.Core.Path.{_≡_, refl, sym, ap, _∙_}
 use mathlib.Core.List.{List, [], _∷_, _++_, append-assoc}
 use mathlib.Core.Bool.{Bool, true, false}
-use Prim.Native.Nat.{ℕ, suc, _+_, _*_, _/_, _-_, _≤_, _<_, zero-le}
+use Prim.Native.Nat.{ℕ, suc, _+_, _*_, _-_, _≤_, _<_, zero-le}
 use native.Mathlib.Numerals.{add-one}
 use native.Mathlib.Omega.{arith}
 use lib.ListN.{length, getD, take, drop, length-drop, List·getD-eq-default}
@@ -11,7 +11,6 @@ use borrow.Rule.Slice.PartMut.{putMid}
 use Rattle.slices.proofs.Parts.{tail-lent, tail-back}
 use Rattle.meaning.specs.Decisions.{isAllowed}
 use Rattle.meaning.specs.declared.Decision.{Decision}
-use Rattle.pages.specs.declared.Page.{Page}
 use Rattle.pages.specs.Listing.{consIf, yesOf, listed, pageRows, nextRow, rowSize, rowBytes, bytesOf, roomIn, PageWritten}
 
 -- ---- listed rows and their bytes

@@ -1,6 +1,6 @@
 -- On to the next row: a unit that the columns from a number on could not take is handed to the column before them. Assumes nothing.
-use mathlib.Core.Path.{_≡_, refl, sym, ap, _∙_}
-use mathlib.Core.List.{List, [], _∷_}
+use mathlib.Core.Path.{_≡_, sym, ap, _∙_}
+use mathlib.Core.List.{List, []}
 use Prim.Native.Nat.{ℕ, zero, suc, _+_, _*_, _%_, _≤_, _<_}
 use native.Mathlib.Nat.{mod-eq-of-lt, mod-self, not-suc-le-zero, add-mul, one-mul, zero-mul}
 use native.Mathlib.Omega.{arith}

@@ -1,7 +1,7 @@
 -- Pages that are asked for one after the other, each starting where the one before says to go on. Definitions only.
 use Prim.Native.Nat.{ℕ, _*_, _≤_}
 use mathlib.Core.List.{List, [], _∷_, _++_}
-use lib.ListN.{length, take}
+use lib.ListN.{take}
 use Rattle.meaning.specs.declared.Decision.{Decision}
 use Rattle.pages.specs.declared.Page.{Page}
 use Rattle.pages.specs.Listing.{rowSize, pageRows, nextRow, PageWritten}

@@ -1,14 +1,12 @@
 use Rattle.pages.proofs.Digits.{counts-length, no-digits, Digits, more-digits}
-use Rattle.pages.specs.Rows.{countsBy, choicesAt}
+use Rattle.pages.specs.Rows.{countsBy}
 use lib.ListN.{length, getD, length-set, drop-of-length-le}
 use native.Mathlib.Omega.{arith}
 use native.Mathlib.Nat.{mod-lt, div-one}
-use Prim.Native.Nat.{ℕ, suc, _+_, _%_, _≤_, _<_, _-_}
-use mathlib.Core.Path.{_≡_, refl, sym, ap, _∙_}
+use Prim.Native.Nat.{suc, _+_, _%_, _≤_, _<_, _-_}
+use mathlib.Core.Path.{_≡_, refl, sym}
 use Rattle.pages.proofs.rows.choices_of.Statement.{statement}
 use Rattle.pages.proofs.rows.choices_of.Tie as tie
-use Rattle.pages.proofs.rows.choices_of.Reads as reads
-use Rattle.pages.proofs.rows.choices_of.Lts as lts
 
 abbrev Inv-loop : tie.InvT-loop
 Inv-loop lasts row choices₀ rest₀ k₀ choices rest k = (k ≤ 6) × (length choices ≡ 6) × Digits (countsBy lasts) row k choices rest
@@ -16,52 +14,23 @@ Inv-loop lasts row choices₀ rest₀ k₀ choices rest k = (k ≤ 6) × (length
 abbrev μ-loop : tie.MeasureT-loop
 μ-loop lasts row choices₀ rest₀ k₀ choices rest k = k
 
--- src/rows.rt:35:5
 loop-holds : tie.Need-loop-holds Inv-loop μ-loop
 loop-holds c =
     let none = drop-of-length-le (countsBy (c .args .lasts .now)) {i = 6} (omega (arith, counts-length (c .args .lasts .now))) in
     (omega arith, refl, record { some = rw none (no-digits _); left = rw none (sym (div-one (c .args .row))) })
 
--- src/rows.rt:36:9
-sub-k : tie.Need-sub-k Inv-loop μ-loop
-sub-k c = omega arith
-
--- src/rows.rt:37:17
-element-copy-out-n : tie.Need-element-copy-out-n Inv-loop μ-loop
-element-copy-out-n c = omega arith
-
--- src/rows.rt:37:17
 cast-n : tie.Need-cast-n Inv-loop μ-loop
 cast-n c = omega (arith, c .before .before .before .pre .few (c .before .before .loop .k - 1) (omega arith))
 
--- src/rows.rt:37:17
 add-n : tie.Need-add-n Inv-loop μ-loop
 add-n c = omega (arith, c .before .before .before .pre .few (c .before .before .loop .k - 1) (omega arith))
 
--- src/rows.rt:38:23
-rem-choices : tie.Need-rem-choices Inv-loop μ-loop
-rem-choices c = omega arith
-
--- src/rows.rt:38:22
 cast-choices : tie.Need-cast-choices Inv-loop μ-loop
 cast-choices c =
     let n = getD (c .before .before .before .args .lasts .now) (c .before .before .loop .k - 1) 0 + 1 in
     let left : c .before .before .loop .rest % n < n = mod-lt (c .before .before .loop .rest) (omega arith) in
     omega (arith, c .before .before .before .pre .few (c .before .before .loop .k - 1) (omega arith), left)
 
--- src/rows.rt:38:9
-array-write-choices : tie.Need-array-write-choices Inv-loop μ-loop
-array-write-choices c = omega arith
-
--- src/rows.rt:39:16
-div-rest : tie.Need-div-rest Inv-loop μ-loop
-div-rest c = omega arith
-
--- src/rows.rt:35:5
-loop-less : tie.Need-loop-less Inv-loop μ-loop
-loop-less c = omega arith
-
--- src/rows.rt:35:5
 loop-again : tie.Need-loop-again Inv-loop μ-loop
 loop-again c =
     let lasts = c .before .before .before .args .lasts .now in
@@ -72,7 +41,6 @@ loop-again c =
       more-digits lasts (c .before .before .before .args .row) j (c .before .before .loop .choices) (c .before .before .loop .rest) (omega arith) (omega arith) (rw e at (c .before .before .loop .inv .2)),
     )
 
--- src/rows.rt:28:1
 returns : tie.Need-returns Inv-loop μ-loop
 returns c = let e : c .before .loop .k ≡ 0 = omega arith in (rw e at (c .before .loop .inv .2)) .some
 
@@ -83,14 +51,14 @@ choices-of-spec =
     Inv-loop
     μ-loop
     loop-holds
-    sub-k
-    element-copy-out-n
+    (λ c. omega arith)
+    (λ c. omega arith)
     cast-n
     add-n
-    rem-choices
+    (λ c. omega arith)
     cast-choices
-    array-write-choices
-    div-rest
-    loop-less
+    (λ c. omega arith)
+    (λ c. omega arith)
+    (λ c. omega arith)
     loop-again
     returns)

@@ -3,12 +3,10 @@ use Rattle.questions.proofs.PlaceLaws.{firstOf, first-none, fill-more}
 use Rattle.questions.specs.Questions.{countOf}
 use lib.ListN.{length, getD, getD-replicate, length-set}
 use native.Mathlib.Omega.{arith}
-use Prim.Native.Nat.{ℕ, suc, _≤_, _<_, _-_}
-use mathlib.Core.Path.{_≡_, refl, sym, ap, _∙_}
+use Prim.Native.Nat.{ℕ, _≤_, _<_, _-_}
+use mathlib.Core.Path.{_≡_, refl, ap, _∙_}
 use Rattle.pages.proofs.rows.lasts.Statement.{statement}
 use Rattle.pages.proofs.rows.lasts.Tie as tie
-use Rattle.pages.proofs.rows.lasts.Reads as reads
-use Rattle.pages.proofs.rows.lasts.Lts as lts
 
 abbrev Inv-loop : tie.InvT-loop
 Inv-loop s n heads ends₀ i₀ ends i = (length ends ≡ 6) × ((k : ℕ) → k < 6 → getD ends k 0 ≡ firstOf i (λ k. countOf s (getD heads k 0) - 1) k) × (i ≤ n)
@@ -16,62 +14,33 @@ Inv-loop s n heads ends₀ i₀ ends i = (length ends ≡ 6) × ((k : ℕ) → k
 abbrev μ-loop : tie.MeasureT-loop
 μ-loop s n heads ends₀ i₀ ends i = n - i
 
--- src/rows.rt:18:5
 loop-holds : tie.Need-loop-holds Inv-loop μ-loop
 loop-holds c = (refl, (λ k h. getD-replicate 6 k 0 0 h ∙ first-none (λ k. countOf (c .args .s .now) (getD (c .args .heads .now) k 0) - 1) k), omega arith)
 
--- src/rows.rt:19:20
-mul-head : tie.Need-mul-head Inv-loop μ-loop
-mul-head c = omega arith
-
--- src/rows.rt:19:20
-element-copy-out-head : tie.Need-element-copy-out-head Inv-loop μ-loop
-element-copy-out-head c = omega arith
-
--- src/rows.rt:20:24
 counted : (c : tie.In-loop Inv-loop μ-loop) → countAt (c .before .before .args .s .now) (getD (c .before .before .args .heads .now) (c .before .loop .i) 0) < length (c .before .before .args .s .now)
 counted c = c .before .before .pre .inside (c .before .loop .i) (c .loop-test .taken)
 
 add-count-at : tie.Need-add-count-at Inv-loop μ-loop
 add-count-at c = omega (arith, counted (c .before))
 
--- src/rows.rt:20:37
 add-count-at-2 : tie.Need-add-count-at-2 Inv-loop μ-loop
 add-count-at-2 c = omega (arith, counted (c .before))
 
--- src/rows.rt:20:35
 shared-slice-read-count-at : tie.Need-shared-slice-read-count-at Inv-loop μ-loop
 shared-slice-read-count-at c = omega (arith, counted (c .before .before))
 
--- src/rows.rt:20:35
 cast-count-at : tie.Need-cast-count-at Inv-loop μ-loop
 cast-count-at c = omega (arith, counted (c .before .before))
 
--- src/rows.rt:20:24
 add-count-at-3 : tie.Need-add-count-at-3 Inv-loop μ-loop
 add-count-at-3 c = omega (arith, counted (c .before .before))
 
--- src/rows.rt:21:19
 shared-slice-read-ends : tie.Need-shared-slice-read-ends Inv-loop μ-loop
 shared-slice-read-ends c = omega (arith, counted (c .before .before .before))
 
--- src/rows.rt:21:19
 sub-ends : tie.Need-sub-ends Inv-loop μ-loop
 sub-ends c = c .before .before .before .before .before .pre .some (c .before .before .before .before .loop .i) (c .before .before .before .loop-test .taken)
 
--- src/rows.rt:21:9
-array-write-ends : tie.Need-array-write-ends Inv-loop μ-loop
-array-write-ends c = omega arith
-
--- src/rows.rt:22:9
-add-i : tie.Need-add-i Inv-loop μ-loop
-add-i c = omega arith
-
--- src/rows.rt:18:5
-loop-less : tie.Need-loop-less Inv-loop μ-loop
-loop-less c = omega arith
-
--- src/rows.rt:18:5
 loop-again : tie.Need-loop-again Inv-loop μ-loop
 loop-again c = (
   simp length-set (c .before .before .before .before .loop .inv .0),
@@ -79,7 +48,6 @@ loop-again c = (
   omega arith,
 )
 
--- src/rows.rt:12:1
 returns : tie.Need-returns Inv-loop μ-loop
 returns c =
     let e : c .before .loop .i ≡ c .before .before .args .n = omega arith in
@@ -92,8 +60,8 @@ lasts-spec =
     Inv-loop
     μ-loop
     loop-holds
-    mul-head
-    element-copy-out-head
+    (λ c. omega arith)
+    (λ c. omega arith)
     add-count-at
     add-count-at-2
     shared-slice-read-count-at
@@ -101,8 +69,8 @@ lasts-spec =
     add-count-at-3
     shared-slice-read-ends
     sub-ends
-    array-write-ends
-    add-i
-    loop-less
+    (λ c. omega arith)
+    (λ c. omega arith)
+    (λ c. omega arith)
     loop-again
     returns)
