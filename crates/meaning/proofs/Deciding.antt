@@ -9,7 +9,7 @@ use borrow.Author.Tests.{not-true}
 use Rattle.grammar.specs.Policies.{Policy}
 use Rattle.views.specs.Meaning.{View}
 use Rattle.meaning.specs.Targets.{Request, isSystem}
-use Rattle.meaning.specs.Decisions.{satisfied, firstOf, byNumbers, decisionOf, policyOf, isAllowed, Numbered, first, later, Bites, Some, Lowest, YesExactly, Names, the-system, a-forbid, a-permit, none-named, NamedRightly, OneName}
+use Rattle.meaning.specs.Decisions.{satisfied, firstOf, byNumbers, forbids, permits, policiesDecide, decisionOf, policyOf, isAllowed, Numbered, first, later, Bites, Some, Lowest, YesExactly, Names, the-system, a-forbid, a-permit, none-named, NamedRightly, OneName}
 use Rattle.meaning.specs.declared.Decision.{Decision}
 use Rattle.meaning.specs.declared.Decision.the-variants.{Allowed, Forbidden, Nothing, System}
 
@@ -69,19 +69,13 @@ module _ (t : List ℕ) (view : View) (q : Request) (ps : List Policy) where
     tells : (p : Policy) → test p ≡ true → (p .permits ≡ permits) × (satisfied t view q p ≡ true)
     sees : (p : Policy) → p .permits ≡ permits → satisfied t view q p ≡ true → test p ≡ true
 
-  abbrev forbids : Policy → Bool
-  forbids p = not (p .permits) && satisfied t view q p
-
-  abbrev permits : Policy → Bool
-  permits p = p .permits && satisfied t view q p
-
-  forbids-tell : Tells false forbids
+  forbids-tell : Tells false (forbids t view q)
   forbids-tell = record {
     tells = λ p e. let w = both-true (not (p .permits)) (satisfied t view q p) e in (not-true (p .permits) (w .0), w .1);
     sees = λ p e f. and-both {a = not (p .permits)} (ap not e) f;
   }
 
-  permits-tell : Tells true permits
+  permits-tell : Tells true (permits t view q)
   permits-tell = record { tells = λ p e. both-true (p .permits) (satisfied t view q p) e; sees = λ p e f. and-both e f }
 
   module _ {effect : Bool} {test : Policy → Bool} (w : Tells effect test) where
@@ -98,19 +92,19 @@ module _ (t : List ℕ) (view : View) (q : Request) (ps : List Policy) where
 
 -- ---- the decision
 
-by-none : (f g : ℕ) → f ≡ 0 → g ≡ 0 → byNumbers f g ≡ Nothing
+pub by-none : (f g : ℕ) → f ≡ 0 → g ≡ 0 → byNumbers f g ≡ Nothing
 unfolding byNumbers
 by-none zero zero e h = refl
 by-none zero (suc g) e h = absurd (omega arith)
 by-none (suc f) g e h = absurd (omega arith)
 
-by-permit : (f g : ℕ) → f ≡ 0 → 0 < g → byNumbers f g ≡ Allowed g
+pub by-permit : (f g : ℕ) → f ≡ 0 → 0 < g → byNumbers f g ≡ Allowed g
 unfolding byNumbers
 by-permit zero zero e h = absurd (omega arith)
 by-permit zero (suc g) e h = refl
 by-permit (suc f) g e h = absurd (omega arith)
 
-by-forbid : (f g : ℕ) → 0 < f → byNumbers f g ≡ Forbidden f
+pub by-forbid : (f g : ℕ) → 0 < f → byNumbers f g ≡ Forbidden f
 unfolding byNumbers
 by-forbid zero g h = absurd (omega arith)
 by-forbid (suc f) g h = refl
@@ -123,7 +117,7 @@ data Decided (t : List ℕ) (view : View) (q : Request) (ps : List Policy) (d : 
   by-nobody : isSystem (q .subject) ≡ false → (Some t view q ps false → ⊥) → (Some t view q ps true → ⊥) → d ≡ Nothing → Decided t view q ps d
 
 module _ (t : List ℕ) (view : View) (q : Request) (ps : List Policy) where
-  others : (f g : ℕ) → isSystem (q .subject) ≡ false → First (forbids t view q ps) 0 ps f → First (permits t view q ps) 0 ps g → Decided t view q ps (byNumbers f g)
+  others : (f g : ℕ) → isSystem (q .subject) ≡ false → First (forbids t view q) 0 ps f → First (permits t view q) 0 ps g → Decided t view q ps (byNumbers f g)
   others f g s (somebody m p k h e low) r = by-a-forbid m s (lowest-bites t view q ps (forbids-tell t view q ps) h e low)
       (let z = positive h in let l : f ≡ m = omega arith in by-forbid f g (omega arith) ∙ ap Forbidden l)
   others f g s (nobody z n) (somebody m p k h e low) =
@@ -133,13 +127,13 @@ module _ (t : List ℕ) (view : View) (q : Request) (ps : List Policy) where
       by-nobody s (none-bites t view q ps (forbids-tell t view q ps) n) (none-bites t view q ps (permits-tell t view q ps) o) (by-none f g z y)
 
   decided : Decided t view q ps (decisionOf t view q ps)
-  unfolding decisionOf
+  unfolding decisionOf policiesDecide
   decided = go (isSystem (q .subject)) refl
     where
       go : (b : Bool) → isSystem (q .subject) ≡ b
-          → Decided t view q ps (cond b System (byNumbers (firstOf (forbids t view q ps) 1 ps) (firstOf (permits t view q ps) 1 ps)))
+          → Decided t view q ps (cond b System (byNumbers (firstOf (forbids t view q) 1 ps) (firstOf (permits t view q) 1 ps)))
       go true e = by-system e refl
-      go false e = others _ _ e (first-of (forbids t view q ps) 0 ps) (first-of (permits t view q ps) 0 ps)
+      go false e = others _ _ e (first-of (forbids t view q) 0 ps) (first-of (permits t view q) 0 ps)
 
 -- ---- demand 2
 

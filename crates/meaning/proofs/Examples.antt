@@ -23,7 +23,7 @@ use Rattle.views.specs.Meaning.{text, flag, texts, absent, View}
 use Rattle.meaning.specs.Values.{withAction, literalValue, attributeValue, operandValue, compares}
 use Rattle.meaning.specs.Conditions.{told, given, givenBoth, settled, negated, bothOf, eitherOf, choiceOf, some, all, verdict}
 use Rattle.meaning.specs.Targets.{Request, kindOf, idOf, isTyped, isAction, partMatches, isString, actionMatches}
-use Rattle.meaning.specs.Decisions.{targetMatches, conditionHolds, satisfied, firstOf, byNumbers, decisionOf, outcomeOf, policyOf}
+use Rattle.meaning.specs.Decisions.{targetMatches, conditionHolds, satisfied, firstOf, byNumbers, policiesDecide, decisionOf, outcomeOf, policyOf}
 use Rattle.meaning.specs.declared.Verdict.{Verdict}
 use Rattle.meaning.specs.declared.Verdict.the-variants.{Yes, No, Missing}
 use Rattle.meaning.specs.declared.Decision.{Decision}
@@ -89,7 +89,7 @@ pub record Computed : Type 0 where
       × (gets "permit(principal,action,resource)when{action.name==\"teach\"};" ≡ Allowed 1)
 
 pub computed : Computed
-unfolding classOf run same reserved kindAmong sized wordAt stringAt numberAt markOf markAt tokenAt choose following tokensUpTo tokensFrom numbered refuseBy bind on need before mapped upTo onwards chain rootOf literalOf comparatorOf whichOf principalTypes resourceTypes typeAmong admitted wildcards plain isPattern noName bare noType noLevel noPattern tooMany noPolicy fits read-first-name goesOn read-next-name read-way spannedBy read-path read-attribute read-operand isElement read-element read-list read-bare read-in isLike read-pattern read-operator read-call read-rest read-rooted read-simple read-joined read-conjunction read-disjunction read-negated read-bracketed read-conditional read-deeper read-condition read-conditions read-type read-principal read-action read-resource read-when read-policy begins read-next-policy atEnd read-text unblanked literalValue attributeValue operandValue compares withAction told given givenBoth settled negated bothOf eitherOf choiceOf some all verdict stands steps runs likes kindOf idOf isTyped isAction partMatches isString actionMatches targetMatches conditionHolds satisfied firstOf byNumbers decisionOf outcomeOf policyOf numberIn magnitudeIn digitsOf afterPoint
+unfolding classOf run same reserved kindAmong sized wordAt stringAt numberAt markOf markAt tokenAt choose following tokensUpTo tokensFrom numbered refuseBy bind on need before mapped upTo onwards chain rootOf literalOf comparatorOf whichOf principalTypes resourceTypes typeAmong admitted wildcards plain isPattern noName bare noType noLevel noPattern tooMany noPolicy fits read-first-name goesOn read-next-name read-way spannedBy read-path read-attribute read-operand isElement read-element read-list read-bare read-in isLike read-pattern read-operator read-call read-rest read-rooted read-simple read-joined read-conjunction read-disjunction read-negated read-bracketed read-conditional read-deeper read-condition read-conditions read-type read-principal read-action read-resource read-when read-policy begins read-next-policy atEnd read-text unblanked literalValue attributeValue operandValue compares withAction told given givenBoth settled negated bothOf eitherOf choiceOf some all verdict stands steps runs likes kindOf idOf isTyped isAction partMatches isString actionMatches targetMatches conditionHolds satisfied firstOf byNumbers policiesDecide decisionOf outcomeOf policyOf numberIn magnitudeIn digitsOf afterPoint
 computed = record {
   case-g = refl;
   case-h = refl;

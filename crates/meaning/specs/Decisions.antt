@@ -41,10 +41,20 @@ byNumbers zero zero = Nothing
 byNumbers zero (suc permit) = Allowed (suc permit)
 byNumbers (suc forbid) permit = Forbidden (suc forbid)
 
+-- a satisfied forbid, and a satisfied permit
+abbrev pub forbids : List ℕ → View → Request → Policy → Bool
+forbids t view q p = not (p .permits) && satisfied t view q p
+
+abbrev pub permits : List ℕ → View → Request → Policy → Bool
+permits t view q p = p .permits && satisfied t view q p
+
+-- what the policies decide
+unfoldable pub policiesDecide : List ℕ → View → Request → List Policy → Decision
+policiesDecide t view q ps = byNumbers (firstOf (forbids t view q) 1 ps) (firstOf (permits t view q) 1 ps)
+
+-- the system may do all
 unfoldable pub decisionOf : List ℕ → View → Request → List Policy → Decision
-decisionOf t view q ps =
-    cond (isSystem (q .subject)) System
-    (byNumbers (firstOf (λ p. not (p .permits) && satisfied t view q p) 1 ps) (firstOf (λ p. p .permits && satisfied t view q p) 1 ps))
+decisionOf t view q ps = cond (isSystem (q .subject)) System (policiesDecide t view q ps)
 
 -- what document 01 calls each decision: outcome and policy
 unfoldable pub outcomeOf : Decision → ℕ

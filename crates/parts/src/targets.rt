@@ -45,7 +45,7 @@ fn resource_type(name: &[u8]) -> usize
     number_if(name, b"controller", 1, n)
 }
 
-fn type_number(resource: bool, name: &[u8]) -> usize
+pub fn type_number(resource: bool, name: &[u8]) -> usize
     ensures { λ r. ⌜ r ≡ typeAmong (typesOf resource) 1 (now (name .entry)) ⌝ }
 {
     if resource {

@@ -6,11 +6,11 @@ use Prim.Native.Nat.{ℕ, _+_, _-_, _≤_, _<_}
 use native.Mathlib.Omega.{arith}
 use Rattle.placing.specs.Placed.{Each, and-each, TreePlaced, a-negation, in-brackets, a-conjunction, a-disjunction, a-choice, PolicyPlaced, ConditionPlaced}
 use Rattle.placing.specs.Placed as placing
-use Rattle.grammar.specs.Policies.{Root, Root.Principal, Root.Resource, Root.Env, Root.Action, Comparator, Comparator.Equal, Comparator.NotEqual, Comparator.More, Comparator.AtLeast, Comparator.Less, Comparator.AtMost, Which, Which.All, Which.Any, Tree, Policy}
+use Rattle.grammar.specs.Policies.{Root, Root.Principal, Root.Resource, Root.Env, Root.Action, Comparator, Comparator.Equal, Comparator.NotEqual, Comparator.More, Comparator.AtLeast, Comparator.Less, Comparator.AtMost, Which, Which.All, Which.Any, Tree, Actions, Policy}
 use Rattle.table.specs.declared.Entry.{Entry}
 use Rattle.table.specs.Entries.{comparatorKind, whichKind, hasKind}
 use Rattle.table.specs.Layout.{entryAt}
-use Rattle.stored.specs.Stored.{Stored, StoredPolicies, View, is-true, is-false, is-comparison, is-like, is-among, is-within, is-contains, is-has, is-not, is-brackets, is-both, is-either, is-choice, ConditionView, no-condition, a-condition}
+use Rattle.stored.specs.Stored.{Stored, StoredPolicies, View, is-true, is-false, is-comparison, is-like, is-among, is-within, is-contains, is-has, is-not, is-brackets, is-both, is-either, is-choice, ActionView, is-every, is-one-of, ConditionView, no-condition, a-condition}
 use Rattle.stored.specs.ReadBack.{treeAt, policiesAt}
 use Rattle.stored.specs.Ready.{Ready, ReadyPart, Room, Parts, Node, ReadyPolicies, Last}
 use Rattle.stored.proofs.Standing.{each-left, each-right}
@@ -147,6 +147,11 @@ condition-ready : {text table : List ℕ} {first end : ℕ} {c : Option Tree} �
 condition-ready (no-condition e) p l = absurd (omega arith)
 condition-ready (a-condition m h) (placing.a-condition p d) l = ready h p
 
+-- the strings of an action part stand before its last entry
+listed-before : {table : List ℕ} {end : ℕ} {a : Actions} {x : Entry} → 0 < end → ActionView table end a x → x .first + 1 ≤ end
+listed-before n is-every = omega arith
+listed-before n (is-one-of l h) = l
+
 -- the last policy, and those before it, ready too
 pub last-of : {text table : List ℕ} {end : ℕ} → ReadyPolicies text table end → 0 < end → Last text table end (entryAt table (end - 1))
 last-of {text} {table} {end} r n =
@@ -159,6 +164,7 @@ last-of {text} {table} {end} r n =
       placed = subst (PolicyPlaced text) (sym (policy-back v)) p;
       begins = v .begins;
       ends = v .ends;
+      listed = let b = v .begins in let l = listed-before (omega arith) (v .action) in omega arith;
       few = r .stored .stands .few;
       before = ready-policies (k .before) (each-left (k .front) (k .last ∷ []) each);
       condition = condition-ready (v .condition) (p .condition);

@@ -4,6 +4,7 @@ use mathlib.Core.List.{List, [], _∷_, _++_}
 use Prim.Native.Nat.{ℕ, _+_, _-_, _≤_, _<_}
 use Rattle.placing.specs.Placed.{Each, TreePlaced, PolicyPlaced}
 use Rattle.table.specs.declared.Entry.{Entry}
+use Rattle.table.specs.Layout.{entryAt}
 use Rattle.stored.specs.Stored.{Stored, StoredPolicies}
 use Rattle.stored.specs.ReadBack.{treeOf, treeAt, policyOf, policiesAt}
 
@@ -47,12 +48,13 @@ pub record ReadyPolicies (text table : List ℕ) (end : ℕ) : Type 0 where
   pub stored : StoredPolicies table end (policiesAt table end)
   pub placed : Each (PolicyPlaced text) (policiesAt table end)
 
--- what the last policy's last entry x, number end - 1, says
+-- what the last policy's last entry x, number end - 1, says; its action part's last entry says how many strings stand before that one
 pub record Last (text table : List ℕ) (end : ℕ) (x : Entry) : Type 0 where
   pub is : policiesAt table end ≡ policiesAt table (x .first) ++ policyOf table end x ∷ []
   pub placed : PolicyPlaced text (policyOf table end x)
   pub begins : x .first + 3 ≤ x .second
   pub ends : x .second < end
+  pub listed : entryAt table (x .second - 2) .first + 2 ≤ x .second
   pub few : end < 65536
   pub before : ReadyPolicies text table (x .first)
   pub condition : x .second < end - 1 → Ready text table (end - 1)

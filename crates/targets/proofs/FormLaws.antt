@@ -1,0 +1,84 @@
+-- What stands before and after the first colon, and the type's number of what has the form of a subject or resource. Assumes nothing.
+use mathlib.Core.Path.{_≡_, refl, sym}
+use mathlib.Core.Bool.{Bool, true, false, cond, not, _&&_}
+use mathlib.Core.List.{List, [], _∷_}
+use Prim.Native.Nat.{ℕ, zero, suc, _+_, _-_, _≤_, _<_}
+use Prim.Native.Char.{code}
+use native.Mathlib.Omega.{arith}
+use lib.Dec.{eqb, leb}
+use lib.ListN.{length, getD, take, drop, drop-of-length-le}
+use borrow.Author.Tests.{eq-eqb, ne-eqb, le-ltb, lt-ltb, le-leb, lt-leb}
+use Rattle.slices.proofs.Rest.{rest-at}
+use Rattle.meaning.specs.Targets.{kindOf, idOf, typeIn, isTyped}
+
+-- ---- the first colon, looked for from i on
+
+module _ (s : List ℕ) (i : ℕ) where
+  pub colon-here : i < length s → getD s i 0 ≡ code ":" → length (kindOf s) ≡ i + length (kindOf (drop i s)) → i ≡ length (kindOf s)
+  unfolding kindOf
+  colon-here l e k = let z : length (kindOf (drop i s)) ≡ 0 = rw (rest-at s i l, eq-eqb _ _ e) in omega arith
+
+  pub colon-on : i < length s → (getD s i 0 ≡ code ":" → ⊥) → length (kindOf s) ≡ i + length (kindOf (drop i s)) → length (kindOf s) ≡ i + 1 + length (kindOf (drop (i + 1) s))
+  unfolding kindOf
+  colon-on l n k = let z : length (kindOf (drop i s)) ≡ suc (length (kindOf (drop (i + 1) s))) = rw (rest-at s i l, ne-eqb _ _ n) in omega arith
+
+  pub colon-none : length s ≤ i → length (kindOf s) ≡ i + length (kindOf (drop i s)) → i ≡ length (kindOf s)
+  unfolding kindOf
+  colon-none l k = let z : length (kindOf (drop i s)) ≡ 0 = rw (drop-of-length-le s l) in omega arith
+
+-- ---- before it and after it
+
+pub kind-is : (s : List ℕ) → take (length (kindOf s)) s ≡ kindOf s
+unfolding kindOf
+kind-is [] = refl
+kind-is (b ∷ s) = go (eqb b (code ":")) (kind-is s)
+  where
+    go : (c : Bool) → take (length (kindOf s)) s ≡ kindOf s → take (length (cond c [] (b ∷ kindOf s))) (b ∷ s) ≡ cond c [] (b ∷ kindOf s)
+    go true h = refl
+    go false h = rw h
+
+-- `&s[0..n]`, where the first colon stands at n
+pub cut-there : (s : List ℕ) (n : ℕ) → n ≡ length (kindOf s) → take (n - 0) (drop 0 s) ≡ kindOf s
+cut-there s n e = let k : n - 0 ≡ length (kindOf s) = omega arith in rw k (kind-is s)
+
+pub kind-short : (s : List ℕ) → length (kindOf s) ≤ length s
+unfolding kindOf
+kind-short [] = omega arith
+kind-short (b ∷ s) = go (eqb b (code ":")) (kind-short s)
+  where
+    go : (c : Bool) → length (kindOf s) ≤ length s → length (cond c [] (b ∷ kindOf s)) ≤ length (b ∷ s)
+    go true h = omega arith
+    go false h = omega arith
+
+pub id-length : (s : List ℕ) → length (idOf s) ≡ length s - length (kindOf s) - 1
+unfolding kindOf idOf
+id-length [] = refl
+id-length (b ∷ s) = go (eqb b (code ":")) (id-length s)
+  where
+    go : (c : Bool) → length (idOf s) ≡ length s - length (kindOf s) - 1 → length (cond c s (idOf s)) ≡ length (b ∷ s) - length (cond c [] (b ∷ kindOf s)) - 1
+    go true h = omega arith
+    go false h = omega arith
+
+-- ---- subjects and resources
+
+third-false : (a b : Bool) → a && b && false ≡ false
+third-false true true = refl
+third-false true false = refl
+third-false false b = refl
+
+number-or-none : (n : ℕ) → cond (not (eqb n 0) && true) n 0 ≡ n
+number-or-none zero = refl
+number-or-none (suc n) = rw (ne-eqb (suc n) 0 (λ (e : suc n ≡ 0). omega arith))
+
+module _ (types : List (List ℕ)) (s : List ℕ) where
+  pub too-long : 100 < length s → 0 ≡ cond (isTyped types s) (typeIn types s) 0
+  unfolding isTyped
+  too-long l = rw (lt-leb (length s) 100 l)
+
+  pub no-id : length s ≤ length (kindOf s) + 1 → 0 ≡ cond (isTyped types s) (typeIn types s) 0
+  unfolding isTyped
+  no-id l = let h = id-length s in rw (le-ltb 0 (length (idOf s)) (omega arith), third-false (leb (length s) 100) (not (eqb (typeIn types s) 0)))
+
+  pub its-type : length s ≤ 100 → length (kindOf s) + 1 < length s → typeIn types s ≡ cond (isTyped types s) (typeIn types s) 0
+  unfolding isTyped
+  its-type l k = let h = id-length s in rw (lt-ltb 0 (length (idOf s)) (omega arith), le-leb (length s) 100 l) (sym (number-or-none (typeIn types s)))

@@ -1,0 +1,192 @@
+-- What a target's entries ask, and that a part matches by its type's number. Assumes nothing.
+use mathlib.Core.Path.{_≡_, refl, sym, _∙_, ap, subst}
+use mathlib.Core.Bool.{Bool, true, false, cond, _&&_, _||_}
+use mathlib.Core.List.{List, [], _∷_}
+use Prim.Native.Nat.{ℕ, zero, suc, _+_, _-_, _≤_, _<_}
+use native.Mathlib.Omega.{arith}
+use lib.Dec.{eqb}
+use lib.ListN.{length, take, drop, length-drop}
+use lib.Seq.{length-take-le}
+use borrow.Author.Tests.{eq-eqb, ne-eqb}
+use Rattle.slices.specs.Same.{same}
+use Rattle.slices.proofs.Equal.{other-length}
+use Rattle.grammar.specs.Policies.{Span, span, Literal, text, number, truth, Part, any, typed, pinned, Actions, oneOf}
+use Rattle.grammar.specs.Rules.{principalTypes, resourceTypes}
+use Rattle.placing.specs.Placed.{quotedAt, Each, and-each, StringPlaced, ActionPlaced, an-action, PrincipalPlaced, any-principal, principal-type, ResourcePlaced, any-resource, resource-type, one-resource, ActionsPlaced, any-action, one-of}
+use Rattle.table.specs.declared.Entry.{Entry}
+use Rattle.table.specs.Layout.{entryAt}
+use Rattle.stored.specs.ReadBack.{spanOf, literalOf, literalsAt, listAt, partOf, actionsOf, policyOf}
+use Rattle.meaning.specs.Conditions.{some}
+use Rattle.meaning.specs.Targets.{typeIn, partMatches, isString, actionMatches}
+use Rattle.meaning.specs.Decisions.{targetMatches}
+use Rattle.targets.specs.Matching.{matchesBy, request}
+
+-- ---- strings of the text
+
+pub quoted : {t : List ℕ} {s : Span} → StringPlaced t s → (s .start + 2 ≤ s .end) × (s .end ≤ length t)
+quoted p = (p .two, p .lies .high)
+
+module _ (t s : List ℕ) (start end : ℕ) (two : start + 2 ≤ end) (high : end ≤ length t) where
+  pub quoted-part : take (end - 1 - (start + 1)) (drop (start + 1) t) ≡ quotedAt t (span start end)
+  quoted-part = let e : end - 1 - (start + 1) ≡ end - start - 2 = omega arith in rw e
+
+  inside-length : length (quotedAt t (span start end)) ≡ end - 1 - (start + 1)
+  inside-length = let l = length-drop (start + 1) t in let n : end - start - 2 ≤ length (drop (start + 1) t) = omega arith in length-take-le (end - start - 2) _ n ∙ omega arith
+
+  pub quoted-length : (length s ≡ end - 1 - (start + 1) → ⊥) → false ≡ same s (quotedAt t (span start end))
+  quoted-length n = sym (other-length s (quotedAt t (span start end)) (λ e. n (e ∙ inside-length)))
+
+-- ---- parts
+
+module _ (t s : List ℕ) (sort : ℕ) (x : Entry) where
+  pub any-part : x .kind ≡ 29 → true ≡ matchesBy t s sort (partOf x)
+  unfolding matchesBy partOf
+  any-part e = rw (eq-eqb _ _ e)
+
+  pub typed-part : x .kind ≡ 30 → eqb sort (x .first) ≡ matchesBy t s sort (partOf x)
+  unfolding matchesBy partOf
+  typed-part e = rw e
+
+  module _ (n : x .kind ≡ 29 → ⊥) (m : x .kind ≡ 30 → ⊥) where
+    pinned-is : partOf x ≡ pinned (spanOf x)
+    unfolding partOf
+    pinned-is = rw (ne-eqb _ _ n, ne-eqb _ _ m)
+
+    pub pinned-part : same s (quotedAt t (spanOf x)) ≡ matchesBy t s sort (partOf x)
+    unfolding matchesBy
+    pinned-part = rw pinned-is
+
+pinned-placed : {t : List ℕ} {p : Part} {s : Span} → p ≡ pinned s → ResourcePlaced t p → StringPlaced t s
+pinned-placed e any-resource = absurd (let z : _≡_ {A = ℕ} 0 1 = cc in omega arith)
+pinned-placed e (resource-type l h) = absurd (let z : _≡_ {A = ℕ} 0 1 = cc in omega arith)
+pinned-placed {t} {p} {s} e (one-resource {s = z} h) = let k : z ≡ s = cc in subst (StringPlaced t) k h
+
+pub pinned-quoted : (t : List ℕ) (x : Entry) → (x .kind ≡ 29 → ⊥) → (x .kind ≡ 30 → ⊥) → ResourcePlaced t (partOf x) → (x .first + 2 ≤ x .second) × (x .second ≤ length t)
+pinned-quoted t x n m p = quoted (pinned-placed (pinned-is t [] 0 x n m) p)
+
+-- a principal part lies as a resource part does
+pub as-resource : {t : List ℕ} {p : Part} → PrincipalPlaced p → ResourcePlaced t p
+as-resource any-principal = any-resource
+as-resource (principal-type l h) = resource-type l (omega arith)
+
+-- a part matches by its type's number
+pub by-number : (types : List (List ℕ)) (t s : List ℕ) (p : Part) → matchesBy t s (typeIn types s) p ≡ partMatches types t s p
+unfolding matchesBy partMatches
+by-number types t s any = refl
+by-number types t s (typed k) = refl
+by-number types t s (pinned p) = refl
+
+-- ---- the action part
+
+literal-cases : (s z : Span) (a b c : Bool) → cond a (text s) (cond b (number s) (truth c)) ≡ text z → z ≡ s
+literal-cases s z true b c e = cc
+literal-cases s z false true c e = absurd (let z : _≡_ {A = ℕ} 0 1 = cc in omega arith)
+literal-cases s z false false c e = absurd (let z : _≡_ {A = ℕ} 0 1 = cc in omega arith)
+
+-- an entry of the list is a string
+record StringAt (t : List ℕ) (x : Entry) : Type 0 where
+  is : literalOf x ≡ text (spanOf x)
+  lies : StringPlaced t (spanOf x)
+
+string-at : {t : List ℕ} {l : Literal} {x : Entry} → literalOf x ≡ l → ActionPlaced t l → StringAt t x
+unfolding literalOf
+string-at {t} {l} {x} e (an-action {s = z} p) =
+    let k : z ≡ spanOf x = literal-cases (spanOf x) z (eqb (x .kind) 9) (eqb (x .kind) 10) (eqb (x .kind) 11) e in record { is = e ∙ ap text k; lies = subst (StringPlaced t) k p }
+
+module _ (t action table : List ℕ) where
+  -- the strings left, from entry number e on
+  abbrev pub amongAt : ℕ → ℕ → Bool
+  amongAt left e = some (isString t action) (literalsAt left table e)
+
+  literals-on : (left e : ℕ) → 0 < left → literalsAt left table e ≡ literalOf (entryAt table e) ∷ literalsAt (left - 1) table (e + 1)
+  unfolding literalsAt
+  literals-on zero e l = absurd (omega arith)
+  literals-on (suc n) e l = let m : suc n - 1 ≡ n = omega arith in rw m
+
+  both-of : {l : Literal} {ls : List Literal} → Each (ActionPlaced t) (l ∷ ls) → ActionPlaced t l × Each (ActionPlaced t) ls
+  both-of (and-each p k) = (p, k)
+
+  module _ (left e : ℕ) (l : 0 < left) (each : Each (ActionPlaced t) (literalsAt left table e)) where
+    parted : ActionPlaced t (literalOf (entryAt table e)) × Each (ActionPlaced t) (literalsAt (left - 1) table (e + 1))
+    parted = both-of (subst (Each (ActionPlaced t)) (literals-on left e l) each)
+
+    here : StringAt t (entryAt table e)
+    here = string-at refl (parted .0)
+
+    pub each-on : Each (ActionPlaced t) (literalsAt (left - 1) table (e + 1))
+    each-on = parted .1
+
+    unroll : amongAt left e ≡ same action (quotedAt t (spanOf (entryAt table e))) || amongAt (left - 1) (e + 1)
+    unfolding some isString
+    unroll = rw (literals-on left e l, here .is)
+
+    module _ (x : Entry) (is : x ≡ entryAt table e) where
+      pub string-lies : (x .first + 2 ≤ x .second) × (x .second ≤ length t)
+      string-lies = rw is (quoted (here .lies))
+
+      pub found-here : same action (quotedAt t (span (x .first) (x .second))) ≡ true → true ≡ amongAt left e
+      found-here = rw is (λ h. sym (unroll ∙ rw h))
+
+      pub not-here : same action (quotedAt t (span (x .first) (x .second))) ≡ false → amongAt (left - 1) (e + 1) ≡ amongAt left e
+      not-here = rw is (λ h. sym (unroll ∙ rw h))
+
+  pub none-found : (left e : ℕ) → left ≤ 0 → false ≡ amongAt left e
+  unfolding literalsAt some
+  none-found zero e l = refl
+  none-found (suc n) e l = absurd (omega arith)
+
+  module _ (end : ℕ) (x : Entry) where
+    pub every-action : x .kind ≡ 32 → true ≡ actionMatches t action (actionsOf table end x)
+    unfolding actionMatches actionsOf
+    every-action e = rw (eq-eqb _ _ e)
+
+    listed-is : (x .kind ≡ 32 → ⊥) → actionsOf table end x ≡ oneOf (listAt table end x)
+    unfolding actionsOf
+    listed-is n = rw (ne-eqb _ _ n)
+
+    pub one-action : (x .kind ≡ 32 → ⊥) → amongAt (x .first) (end - x .first - 1) ≡ actionMatches t action (actionsOf table end x)
+    unfolding actionMatches
+    one-action n = rw (listed-is n)
+
+    each-of : {a : Actions} → a ≡ oneOf (listAt table end x) → ActionsPlaced t a → Each (ActionPlaced t) (listAt table end x)
+    each-of e any-action = absurd (let z : _≡_ {A = ℕ} 0 1 = cc in omega arith)
+    each-of e (one-of {ls = ls} p) = let k : ls ≡ listAt table end x = cc in subst (Each (ActionPlaced t)) k (p .each)
+
+    pub each-listed : (x .kind ≡ 32 → ⊥) → ActionsPlaced t (actionsOf table end x) → Each (ActionPlaced t) (literalsAt (x .first) table (end - x .first - 1))
+    each-listed n p = each-of (listed-is n) p
+
+-- ---- the target
+
+and-false : (b : Bool) → b && false ≡ false
+and-false true = refl
+and-false false = refl
+
+and-true : (b : Bool) → b && true ≡ b
+and-true true = refl
+and-true false = refl
+
+module _ (t table : List ℕ) (end : ℕ) (x : Entry) (subject action resource : List ℕ) (m n : ℕ)
+    (sort : m ≡ typeIn principalTypes subject) (sort′ : n ≡ typeIn resourceTypes resource) where
+  abbrev whole : Bool
+  whole = targetMatches t (request subject action resource) (policyOf table end x)
+
+  module _ (y : Entry) (is : y ≡ entryAt table (x .first)) where
+    subject-is : matchesBy t subject m (partOf y) ≡ partMatches principalTypes t subject (partOf (entryAt table (x .first)))
+    subject-is = rw (is, sort) (by-number principalTypes t subject (partOf (entryAt table (x .first))))
+
+    pub other-subject : {r : Bool} → r ≡ matchesBy t subject m (partOf y) → r ≡ false → false ≡ whole
+    unfolding targetMatches policyOf
+    other-subject d e = rw (sym subject-is ∙ sym d ∙ e)
+
+    module _ (z : Entry) (is′ : z ≡ entryAt table (x .second - 1)) where
+      resource-is : matchesBy t resource n (partOf z) ≡ partMatches resourceTypes t resource (partOf (entryAt table (x .second - 1)))
+      resource-is = rw (is′, sort′) (by-number resourceTypes t resource (partOf (entryAt table (x .second - 1))))
+
+      pub other-resource : {r : Bool} → r ≡ matchesBy t resource n (partOf z) → r ≡ false → false ≡ whole
+      unfolding targetMatches policyOf
+      other-resource d e = rw (sym resource-is ∙ sym d ∙ e) (sym (and-false (partMatches principalTypes t subject (partOf (entryAt table (x .first))) && actionMatches t action (actionsOf table (x .second - 1) (entryAt table (x .second - 2))))))
+
+      pub by-action : {r r′ b : Bool} → r ≡ matchesBy t subject m (partOf y) → r ≡ true → r′ ≡ matchesBy t resource n (partOf z) → r′ ≡ true
+          → (w : Entry) → w ≡ entryAt table (x .second - 2) → b ≡ actionMatches t action (actionsOf table (x .second - 1) w) → b ≡ whole
+      unfolding targetMatches policyOf
+      by-action d e f h w k a = a ∙ rw (k, sym subject-is ∙ sym d ∙ e, sym resource-is ∙ sym f ∙ h) (sym (and-true _))

@@ -1,0 +1,93 @@
+// Whether a policy's target matches a request, from the entries of a table.
+ghost use mathlib.Core.Path.{_≡_};
+ghost use Prim.Native.Nat.{_+_, _-_, _<_, _≤_};
+ghost use lib.ListN.{length};
+ghost use Rattle.slices.specs.Same.{same};
+ghost use Rattle.grammar.specs.Policies.{span};
+ghost use Rattle.grammar.specs.Rules.{principalTypes, resourceTypes};
+ghost use Rattle.placing.specs.Placed.{quotedAt, ActionsPlaced, ResourcePlaced};
+ghost use Rattle.stored.specs.ReadBack.{partOf, actionsOf, policyOf};
+ghost use Rattle.stored.specs.Ready.{Last};
+ghost use Rattle.meaning.specs.Targets.{typeIn, actionMatches};
+ghost use Rattle.meaning.specs.Decisions.{targetMatches};
+ghost use Rattle.targets.specs.Matching.{matchesBy, request, Listing};
+use slices::same as equal;
+use table::Entry;
+use table::entry_at;
+
+// Whether s is what stands between the quotes of the string of the text from `start` up to `end`.
+fn is_quoted(text: &[u8], start: usize, end: usize, s: &[u8]) -> bool
+    requires { ⌜ (start + 2 ≤ end) × (end ≤ length (now text)) ⌝ }
+    ensures { λ r. ⌜ r ≡ same (now (s .entry)) (quotedAt (now (text .entry)) (span start end)) ⌝ }
+{
+    let from = start + 1;
+    let to = end - 1;
+    if s.len() != to - from {
+        return false;
+    }
+    equal(s, &text[from..to])
+}
+
+// Whether the principal part or the resource part that x says matches s, of which `sort` is the type's number.
+fn part_matches(text: &[u8], x: Entry, s: &[u8], sort: usize) -> bool
+    requires { ⌜ ResourcePlaced (now text) (partOf x) ⌝ }
+    ensures { λ r. ⌜ r ≡ matchesBy (now (text .entry)) (now (s .entry)) sort (partOf x) ⌝ }
+{
+    if x.kind == 29 {
+        return true;
+    }
+    if x.kind == 30 {
+        return sort == x.first;
+    }
+    is_quoted(text, x.first, x.second, s)
+}
+
+// Whether the action part matches the action, where x is the part's last entry, number end - 1.
+fn action_matches(text: &[u8], table: &[u8], end: usize, x: Entry, action: &[u8]) -> bool
+    requires { ⌜ Listing (now text) (now table) end x ⌝ }
+    ensures { λ r. ⌜ r ≡ actionMatches (now (text .entry)) (now (action .entry)) (actionsOf (now (table .entry)) end x) ⌝ }
+{
+    if x.kind == 32 {
+        return true;
+    }
+    let mut left = x.first;
+    let mut e = end - x.first - 1;
+    while 0 < left {
+        let literal = entry_at(table, e);
+        if is_quoted(text, literal.first, literal.second, action) {
+            return true;
+        }
+        e += 1;
+        left -= 1;
+    }
+    false
+}
+
+// Whether the target matches of the policy of which x is the last entry, number end - 1.
+pub fn target_matches(
+    text: &[u8],
+    table: &[u8],
+    end: usize,
+    x: Entry,
+    subject: &[u8],
+    subject_type: usize,
+    action: &[u8],
+    resource: &[u8],
+    resource_type: usize,
+) -> bool
+    requires { ⌜ Last (now text) (now table) end x ⌝ }
+    requires { ⌜ «subject_type» ≡ typeIn principalTypes (now subject) ⌝ }
+    requires { ⌜ «resource_type» ≡ typeIn resourceTypes (now resource) ⌝ }
+    ensures { λ r. ⌜ r ≡ targetMatches (now (text .entry)) (request (now (subject .entry)) (now (action .entry)) (now (resource .entry))) (policyOf (now (table .entry)) end x) ⌝ }
+{
+    let principal = entry_at(table, x.first);
+    if !part_matches(text, principal, subject, subject_type) {
+        return false;
+    }
+    let part = entry_at(table, x.second - 1);
+    if !part_matches(text, part, resource, resource_type) {
+        return false;
+    }
+    let actions = entry_at(table, x.second - 2);
+    action_matches(text, table, x.second - 1, actions, action)
+}
