@@ -1,0 +1,20 @@
+use Rattle.sheets.proofs.writing.row_decision.Statement.{statement}
+use Rattle.sheets.proofs.writing.row_decision.Tie as tie
+use Rattle.sheets.proofs.writing.row_decision.Reads as reads
+use Rattle.sheets.proofs.writing.row_decision.Lts as lts
+use Rattle.sheets.proofs.stand_in.decision.Reads as decision-reads
+
+-- src/writing.rt:52:9
+returns : tie.Need-returns
+returns c = ?
+
+-- src/writing.rt:54:5
+decision-requires : tie.Need-decision-requires
+decision-requires c κs = ?
+
+-- src/writing.rt:29:1
+returns-2 : tie.Need-returns-2
+returns-2 c = ?
+
+pub row-decision-spec : {M : Type 1} → statement M
+row-decision-spec = tie.close (tie.spec returns decision-requires returns-2)
