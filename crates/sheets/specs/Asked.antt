@@ -17,6 +17,7 @@ use Rattle.sheets.specs.Sheets.{columnsIn, firstIn, rowsIn}
 pub record Asked (s : List ℕ) (p : Sections) (all start : ℕ) : Type 0 where
   pub question : Question s p
   pub all-rows : all ≡ rowsIn s p
+  pub few : all ≤ 262144
   pub within : start ≤ all
 
 -- for any subject but the system: a table of at most 64 policies that can be evaluated, and the types of subject and resource

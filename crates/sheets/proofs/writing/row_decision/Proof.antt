@@ -6,15 +6,17 @@ use Rattle.sheets.proofs.stand_in.decision.Reads as decision-reads
 
 -- src/writing.rt:52:9
 returns : tie.Need-returns
-returns c = ?
+returns c = simp (c .if1 .taken)
 
 -- src/writing.rt:54:5
 decision-requires : tie.Need-decision-requires
-decision-requires c κs = ?
+decision-requires c κs =
+    let r = c .before .before .before .before .before .before .before .pre .1 .others (c .if1 .left) in
+    (r .ready, (r .many, (c .before .before .before .before .before .before .before .pre .0, (r .subject-sort-is, r .resource-sort-is))))
 
 -- src/writing.rt:29:1
 returns-2 : tie.Need-returns-2
-returns-2 c = ?
+returns-2 c = simp (c .before .if1 .left) (c .decision .ensures)
 
 pub row-decision-spec : {M : Type 1} → statement M
 row-decision-spec = tie.close (tie.spec returns decision-requires returns-2)
