@@ -3,15 +3,16 @@ ghost use mathlib.Core.Path.{_≡_};
 ghost use mathlib.Core.Bool.{cond};
 ghost use lib.ListN.{length};
 ghost use Rattle.grammar.specs.Rules.{principalTypes, resourceTypes};
-ghost use Rattle.stored.specs.ReadBack.{policyOf, policiesAt};
+ghost use Rattle.stored.specs.ReadBack.{policiesAt};
 ghost use Rattle.stored.specs.Ready.{ReadyPolicies, Last};
 ghost use Rattle.views.specs.Rows.{rowView, Stands};
 ghost use Rattle.meaning.specs.Conditions.{isYes};
 ghost use Rattle.meaning.specs.Targets.{typeIn};
-ghost use Rattle.meaning.specs.Decisions.{satisfied, byNumbers, policiesDecide};
+ghost use Rattle.meaning.specs.Decisions.{byNumbers, policiesDecide};
 ghost use Rattle.targets.specs.Matching.{request};
+ghost use Rattle.deciding.specs.Row.{countsOf};
 use bags::sections::Sections;
-use crate::stand_in::evaluate;
+use evaluating::evaluate;
 use meaning::Decision;
 use meaning::Verdict;
 use table::Entry;
@@ -29,8 +30,10 @@ fn is_yes(v: Verdict) -> bool
     }
 }
 
-// Whether the policy of which x is the last entry, number end - 1, is satisfied: its target first, then its condition, if any.
-fn satisfied<'a>(
+// Whether the policy of which x is the last entry, number end - 1, is satisfied and may decide: a permit does not where a forbid is known.
+// Its target is met first, then its condition, if any.
+fn counts<'a>(
+    known: bool,
     text: &'a [u8],
     table: &[u8],
     end: usize,
@@ -50,11 +53,24 @@ fn satisfied<'a>(
     requires { ⌜ Stands (now s) p n (now heads) (now values) ⌝ }
     requires { ⌜ «subject_type» ≡ typeIn principalTypes (now subject) ⌝ }
     requires { ⌜ «resource_type» ≡ typeIn resourceTypes (now resource) ⌝ }
-    ensures { λ r. ⌜ r ≡ satisfied (now (text .entry)) (rowView (now (s .entry)) p n (now (heads .entry)) (now (values .entry)))
-        (request (now (subject .entry)) (now (action .entry)) (now (resource .entry))) (policyOf (now (table .entry)) end x) ⌝ }
+    ensures { λ r. ⌜ r ≡ countsOf known (now (text .entry)) (rowView (now (s .entry)) p n (now (heads .entry)) (now (values .entry)))
+        (request (now (subject .entry)) (now (action .entry)) (now (resource .entry))) (now (table .entry)) end x ⌝ }
 {
-    if !target_matches(text, table, end, x, subject, subject_type, action, resource, resource_type)
-    {
+    if known & (x.kind == 34) {
+        return false;
+    }
+    let target = target_matches(
+        text,
+        table,
+        end,
+        x,
+        subject,
+        subject_type,
+        action,
+        resource,
+        resource_type,
+    );
+    if !target {
         return false;
     }
     if x.second == end - 1 {
@@ -125,27 +141,24 @@ pub fn decision<'a>(
     let mut permit = 0;
     while 0 < end {
         let x = entry_at(table, end - 1);
+        let hit = counts(
+            0 < forbid,
+            text,
+            table,
+            end,
+            x,
+            s,
+            p,
+            n,
+            heads,
+            values,
+            subject,
+            subject_type,
+            action,
+            resource,
+            resource_type,
+        );
         let permits = x.kind == 34;
-        let hit = if permits & (0 < forbid) {
-            false
-        } else {
-            satisfied(
-                text,
-                table,
-                end,
-                x,
-                s,
-                p,
-                n,
-                heads,
-                values,
-                subject,
-                subject_type,
-                action,
-                resource,
-                resource_type,
-            )
-        };
         forbid = number_if(hit & !permits, number, forbid);
         permit = number_if(hit & permits, number, permit);
         end = x.first;

@@ -13,7 +13,7 @@ use Rattle.meaning.specs.Decisions.{satisfied, firstOf, byNumbers, forbi
 use Rattle.meaning.specs.declared.Decision.{Decision}
 use Rattle.meaning.specs.declared.Decision.the-variants.{Allowed, Forbidden, Nothing, System}
 
-never : {b : Bool} → b ≡ false → b ≡ true → ⊥
+pub never : {b : Bool} → b ≡ false → b ≡ true → ⊥
 never e f = let z : _≡_ {A = ℕ} 0 1 = cc in omega arith
 
 -- ---- the first policy that passes a test

@@ -1,0 +1,5 @@
+pub mod Lowest
+pub mod Counting
+pub mod HeldLaws
+pub mod Answering
+pub mod Promised

@@ -1,0 +1,105 @@
+// The verdict of a compiled condition. It is met from its last entry on, in a loop; only what nests calls again.
+ghost use mathlib.Core.Path.{_≡_};
+ghost use mathlib.Core.Bool.{cond};
+ghost use Prim.Native.Nat.{_-_, _<_};
+ghost use lib.Dec.{eqb};
+ghost use Rattle.views.specs.Rows.{rowView, Stands};
+ghost use Rattle.stored.specs.ReadBack.{treeAt};
+ghost use Rattle.stored.specs.Ready.{Ready};
+ghost use Rattle.meaning.specs.Values.{withAction};
+ghost use Rattle.meaning.specs.Conditions.{negated, isYes, verdict};
+use bags::sections::Sections;
+use meaning::Verdict;
+use operators::flat;
+use table::Entry;
+use table::entry_at;
+
+fn is_yes(v: Verdict) -> bool
+    ensures { λ r. ⌜ r ≡ isYes v ⌝ }
+{
+    match v {
+        Verdict::Yes => true,
+        Verdict::No => false,
+        Verdict::Missing => false,
+    }
+}
+
+// The verdict under an odd number of `!`, or an even one.
+fn turned(odd: bool, v: Verdict) -> Verdict
+    ensures { λ r. ⌜ r ≡ cond odd (negated v) v ⌝ }
+{
+    if odd {
+        match v {
+            Verdict::Yes => Verdict::No,
+            Verdict::No => Verdict::Yes,
+            Verdict::Missing => Verdict::Missing,
+        }
+    } else {
+        v
+    }
+}
+
+// Where the part ends that is met first: what `if` asks, and the right part of `&&` and `||`.
+fn first_met(at: usize, x: Entry) -> usize
+    requires { ⌜ 0 < at ⌝ }
+    ensures { λ r. ⌜ r ≡ cond (eqb (x .kind) 28) (x .first) (at - 1) ⌝ }
+{
+    if x.kind == 28 { x.first } else { at - 1 }
+}
+
+// Where the part ends that is met next: the one that `if` chooses, and the left part of `&&` and `||`.
+fn next_met(at: usize, x: Entry, yes: bool) -> usize
+    requires { ⌜ 0 < at ⌝ }
+    ensures { λ r. ⌜ r ≡ cond (eqb (x .kind) 28) (cond yes (x .second) (at - 1)) (x .first) ⌝ }
+{
+    if x.kind == 28 {
+        if yes { x.second } else { at - 1 }
+    } else {
+        x.first
+    }
+}
+
+// The verdict of the condition whose entries end before number `end`.
+// What is left to be met ends before `at`, and its verdict, turned where `odd`, is that of the whole. No part's verdict is ever Missing (`never-missing`).
+// So a chain may be met from its right end: a No there makes `&&` No, and a Yes makes `||` Yes, whatever stands before; else the chain is what stands before.
+pub fn evaluate<'a>(
+    text: &'a [u8],
+    table: &[u8],
+    end: usize,
+    s: &'a [u8],
+    p: Sections,
+    n: usize,
+    heads: &[usize; 6],
+    values: &[usize; 6],
+    action: &'a [u8],
+) -> Verdict
+    requires { ⌜ Ready (now text) (now table) end ⌝ }
+    requires { ⌜ Stands (now s) p n (now heads) (now values) ⌝ }
+    ensures { λ r. ⌜ r ≡ verdict (now (text .entry)) (withAction (now (action .entry)) (rowView (now (s .entry)) p n (now (heads .entry)) (now (values .entry)))) (treeAt (now (table .entry)) end) ⌝ }
+{
+    let mut at = end;
+    let mut odd = false;
+    loop {
+        let x = entry_at(table, at - 1);
+        if x.kind <= 23 {
+            let v = flat(text, table, at, x, s, p, n, heads, values, action);
+            return turned(odd, v);
+        }
+        if x.kind == 24 {
+            odd = !odd;
+            at -= 1;
+            continue;
+        }
+        if x.kind == 25 {
+            at -= 1;
+            continue;
+        }
+        let part = first_met(at, x);
+        let v = evaluate(text, table, part, s, p, n, heads, values, action);
+        let yes = is_yes(v);
+        if ((x.kind == 26) & !yes) | ((x.kind == 27) & yes) {
+            return turned(odd, v);
+        }
+        at = next_met(at, x, yes);
+    }
+}

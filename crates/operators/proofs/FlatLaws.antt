@@ -1,0 +1,137 @@
+-- A condition without parts, by the kind of its last entry: where its operands lie, and what its verdict is. Assumes nothing.
+use Prim.Native.Nat.{ℕ, _+_, _-_, _≤_, _<_}
+use mathlib.Core.List.{List}
+use mathlib.Core.Bool.{Bool, true, false, cond}
+use mathlib.Core.Path.{_≡_, refl, sym, _∙_, ap, subst}
+use borrow.Author.Tests.{eqb-true, eqb-false, le-leb, lt-leb}
+use native.Mathlib.Omega.{arith}
+use lib.Dec.{eqb, leb}
+use Rattle.patterns.specs.Likes.{likes}
+use Rattle.views.specs.Meaning.{View, present}
+use Rattle.grammar.specs.Policies.{Span, Root, Comparator, Comparator.Equal, Literal, Operand, Which, Which.All, Which.Any, Tree, constant, compare, like, among, within, contains, has}
+use Rattle.placing.specs.Placed.{quotedAt, StringPlaced, PathPlaced, Each, Listed, LiteralPlaced, OperandPlaced, TreePlaced, a-comparison, a-likeness, in-list, in-attribute, a-call, a-presence}
+use Rattle.table.specs.declared.Entry.{Entry}
+use Rattle.table.specs.Layout.{entryAt}
+use Rattle.stored.specs.ReadBack.{spanOf, rootOf, comparatorOf, operandOf, literalsAt, listAt, ownerAt, treeOf, treeAt}
+use Rattle.stored.specs.Ready.{Node}
+use Rattle.stored.proofs.Nodes.{as-has, as-compare, as-like, as-among, as-within, as-contains-all, as-contains-any}
+use Rattle.meaning.specs.Values.{literalValue, attributeValue, operandValue, ifText, ifTexts, compares}
+use Rattle.meaning.specs.Conditions.{told, some, asked, listed, verdict}
+use Rattle.meaning.specs.declared.Verdict.{Verdict}
+use Rattle.operators.specs.Operands.{whichOf}
+use Rattle.operators.proofs.VerdictLaws.{constant-told, compare-told, like-told, among-told, within-told, contains-told, has-told}
+
+-- ---- which condition it is
+
+module _ (table : List ℕ) (end : ℕ) (x : Entry) where
+  as-constant : 8 < x .kind → x .kind ≤ 12 → treeOf (treeAt table) table end x ≡ constant (eqb (x .kind) 11)
+  unfolding treeOf
+  as-constant l h = rw (lt-leb (x .kind) 8 l, le-leb (x .kind) 12 h)
+
+  as-contains : 22 ≤ x .kind → x .kind ≤ 23
+      → treeOf (treeAt table) table end x ≡ contains (whichOf (eqb (x .kind) 23)) (rootOf (ownerAt table end x .kind)) (spanOf (ownerAt table end x)) (listAt table end x)
+  as-contains l h = go (eqb (x .kind) 23) refl
+    where
+      go : (any : Bool) → eqb (x .kind) 23 ≡ any
+          → treeOf (treeAt table) table end x ≡ contains (whichOf any) (rootOf (ownerAt table end x .kind)) (spanOf (ownerAt table end x)) (listAt table end x)
+      go true e = as-contains-any (treeAt table) table end x (eqb-true (x .kind) 23 e)
+      go false e = let n = eqb-false (x .kind) 23 e in as-contains-all (treeAt table) table end x (omega arith)
+
+-- ---- where it lies
+
+module _ {t : List ℕ} where
+  compared : {c : Comparator} {a b : Operand} → TreePlaced t (compare c a b) → OperandPlaced t a × OperandPlaced t b
+  compared (a-comparison p q) = (p, q)
+
+  likened : {a : Operand} {s : Span} → TreePlaced t (like a s) → OperandPlaced t a × StringPlaced t s
+  likened (a-likeness p q r) = (p, q)
+
+  sought : {a : Operand} {ls : List Literal} → TreePlaced t (among a ls) → OperandPlaced t a × Each (LiteralPlaced t) ls
+  sought (in-list p q) = (p, q .each)
+
+  sought-within : {a : Operand} {root : Root} {s : Span} → TreePlaced t (within a root s) → OperandPlaced t a × PathPlaced t root s
+  sought-within (in-attribute p q) = (p, q)
+
+  called : {w : Which} {root : Root} {s : Span} {ls : List Literal} → TreePlaced t (contains w root s ls) → PathPlaced t root s × Each (LiteralPlaced t) ls
+  called (a-call p q) = (p, q .each)
+
+  asked-for : {root : Root} {s : Span} → TreePlaced t (has root s) → PathPlaced t root s
+  asked-for (a-presence p) = p
+
+module _ {t table : List ℕ} {end : ℕ} {x : Entry} (node : Node t table end x) where
+  pub has-placed : x .kind ≤ 8 → PathPlaced t (rootOf (x .kind - 4)) (spanOf x)
+  has-placed h = asked-for (subst (TreePlaced t) (as-has (treeAt table) table end x h) (node .placed))
+
+  pub compare-placed : (a b : Entry) → 12 < x .kind → x .kind ≤ 18 → a ≡ entryAt table (end - 3) → b ≡ entryAt table (end - 2)
+      → OperandPlaced t (operandOf a) × OperandPlaced t (operandOf b)
+  compare-placed a b l h p q = rw (p, q) (compared (subst (TreePlaced t) (as-compare (treeAt table) table end x (omega arith) h) (node .placed)))
+
+  pub like-placed : (a : Entry) → x .kind ≡ 19 → a ≡ entryAt table (end - 2) → OperandPlaced t (operandOf a) × StringPlaced t (spanOf x)
+  like-placed a k p = rw p (likened (subst (TreePlaced t) (as-like (treeAt table) table end x k) (node .placed)))
+
+  pub among-placed : (a : Entry) → x .kind ≡ 20 → a ≡ ownerAt table end x
+      → OperandPlaced t (operandOf a) × Each (LiteralPlaced t) (literalsAt (x .first) table (end - x .first - 1))
+  among-placed a k p = rw p (sought (subst (TreePlaced t) (as-among (treeAt table) table end x k) (node .placed)))
+
+  pub within-placed : (a b : Entry) → x .kind ≡ 21 → a ≡ entryAt table (end - 3) → b ≡ entryAt table (end - 2)
+      → OperandPlaced t (operandOf a) × PathPlaced t (rootOf (b .kind)) (spanOf b)
+  within-placed a b k p q = rw (p, q) (sought-within (subst (TreePlaced t) (as-within (treeAt table) table end x k) (node .placed)))
+
+  pub contains-placed : (b : Entry) → 22 ≤ x .kind → x .kind ≤ 23 → b ≡ ownerAt table end x
+      → PathPlaced t (rootOf (b .kind)) (spanOf b) × Each (LiteralPlaced t) (literalsAt (x .first) table (end - x .first - 1))
+  contains-placed b l h p = rw p (called (subst (TreePlaced t) (as-contains table end x l h) (node .placed)))
+
+  -- before a list's last entry stand its literals, and their owner
+  pub list-room : 18 < x .kind → (x .kind ≡ 19 → ⊥) → (x .kind ≡ 21 → ⊥) → x .kind ≤ 23 → x .first + 2 ≤ end
+  list-room l a b h = go (eqb (x .kind) 20) refl
+    where
+      go : (c : Bool) → eqb (x .kind) 20 ≡ c → x .first + 2 ≤ end
+      go true e = node .room .among (eqb-true (x .kind) 20 e)
+      go false e = let n = eqb-false (x .kind) 20 e in node .room .contains (omega arith) h
+
+-- what is left is containsAll or containsAny
+pub a-call-left : (k : ℕ) → 18 < k → (k ≡ 19 → ⊥) → (k ≡ 21 → ⊥) → (k ≡ 20 → ⊥) → 22 ≤ k
+a-call-left k l a b c = omega arith
+
+-- ---- its verdict
+
+module _ (t : List ℕ) (view : View) (r : Verdict) (h : Bool) (e : r ≡ told h) where
+  verdict-is : (tree c : Tree) (b : Bool) → tree ≡ c → verdict t view c ≡ told b → h ≡ b → r ≡ verdict t view tree
+  verdict-is tree c b is v q = e ∙ ap told q ∙ sym v ∙ ap (verdict t view) (sym is)
+
+  module _ (table : List ℕ) (end : ℕ) (x : Entry) where
+    pub flat-has : x .kind ≤ 8 → h ≡ present (attributeValue t view (rootOf (x .kind - 4)) (spanOf x)) → r ≡ verdict t view (treeOf (treeAt table) table end x)
+    flat-has k q = verdict-is _ _ _ (as-has (treeAt table) table end x k) (has-told t view _ _) q
+
+    pub flat-constant : 8 < x .kind → x .kind ≤ 12 → h ≡ eqb (x .kind) 11 → r ≡ verdict t view (treeOf (treeAt table) table end x)
+    flat-constant l k q = verdict-is _ _ _ (as-constant table end x l k) (constant-told t view _) q
+
+    pub flat-compare : (a b : Entry) → 12 < x .kind → x .kind ≤ 18 → a ≡ entryAt table (end - 3) → b ≡ entryAt table (end - 2)
+        → h ≡ compares (comparatorOf (x .kind)) (operandValue t view (operandOf a)) (operandValue t view (operandOf b))
+        → r ≡ verdict t view (treeOf (treeAt table) table end x)
+    flat-compare a b l k i j q =
+        verdict-is _ _ _ (as-compare (treeAt table) table end x (omega arith) k) (compare-told t view (comparatorOf (x .kind)) (operandOf (entryAt table (end - 3))) (operandOf (entryAt table (end - 2))))
+        (q ∙ rw (i, j))
+
+    pub flat-like : (a : Entry) → x .kind ≡ 19 → a ≡ entryAt table (end - 2) → h ≡ ifText (operandValue t view (operandOf a)) (likes (quotedAt t (spanOf x)))
+        → r ≡ verdict t view (treeOf (treeAt table) table end x)
+    flat-like a k i q = verdict-is _ _ _ (as-like (treeAt table) table end x k) (like-told t view (operandOf (entryAt table (end - 2))) (spanOf x)) (q ∙ rw i)
+
+    pub flat-among : (a : Entry) → x .kind ≡ 20 → a ≡ ownerAt table end x
+        → h ≡ some (λ l. compares Equal (operandValue t view (operandOf a)) (literalValue t l)) (literalsAt (x .first) table (end - x .first - 1))
+        → r ≡ verdict t view (treeOf (treeAt table) table end x)
+    flat-among a k i q = verdict-is _ _ _ (as-among (treeAt table) table end x k) (among-told t view (operandOf (ownerAt table end x)) (listAt table end x)) (q ∙ rw i)
+
+    pub flat-within : (a b : Entry) → x .kind ≡ 21 → a ≡ entryAt table (end - 3) → b ≡ entryAt table (end - 2)
+        → h ≡ ifText (operandValue t view (operandOf a)) (λ x. ifTexts (attributeValue t view (rootOf (b .kind)) (spanOf b)) (λ l. listed l x))
+        → r ≡ verdict t view (treeOf (treeAt table) table end x)
+    flat-within a b k i j q =
+        verdict-is _ _ _ (as-within (treeAt table) table end x k)
+        (within-told t view (operandOf (entryAt table (end - 3))) (rootOf (entryAt table (end - 2) .kind)) (spanOf (entryAt table (end - 2)))) (q ∙ rw (i, j))
+
+    pub flat-contains : (b : Entry) → 22 ≤ x .kind → x .kind ≤ 23 → b ≡ ownerAt table end x
+        → h ≡ ifTexts (attributeValue t view (rootOf (b .kind)) (spanOf b)) (λ l. asked (whichOf (eqb (x .kind) 23)) (λ o. ifText (literalValue t o) (listed l)) (literalsAt (x .first) table (end - x .first - 1)))
+        → r ≡ verdict t view (treeOf (treeAt table) table end x)
+    flat-contains b l k i q =
+        verdict-is _ _ _ (as-contains table end x l k)
+        (contains-told t view (whichOf (eqb (x .kind) 23)) (rootOf (ownerAt table end x .kind)) (spanOf (ownerAt table end x)) (listAt table end x)) (q ∙ rw i)

@@ -1,0 +1,70 @@
+-- What each operator says of the values that were read is what it says of the values that are meant. Assumes nothing.
+use Prim.Native.Nat.{ℕ}
+use mathlib.Core.List.{List}
+use mathlib.Core.Bool.{Bool, true, false}
+use mathlib.Core.Path.{_≡_, refl, sym, _∙_, ap}
+use Rattle.bags.specs.declared.sections.Sections.{Sections}
+use Rattle.lookups.specs.declared.values.Value.{Value}
+use Rattle.views.specs.Meaning.{Datum, present}
+use Rattle.views.specs.Values.{listAt, datumOf}
+use Rattle.views.specs.Rows.{rowView, Stands}
+use Rattle.grammar.specs.Policies.{Comparator, Comparator.Equal, Literal}
+use Rattle.placing.specs.Placed.{quotedAt, PathPlaced, OperandPlaced}
+use Rattle.table.specs.declared.Entry.{Entry}
+use Rattle.stored.specs.ReadBack.{spanOf, rootOf, literalOf, operandOf, comparatorOf}
+use Rattle.meaning.specs.Values.{withAction, literalValue, attributeValue, ifText, ifTexts, compares}
+use Rattle.meaning.specs.Conditions.{some}
+use Rattle.operators.specs.Operands.{attributeRead, literalRead, operandRead, stringOf, meant}
+use Rattle.operators.proofs.ValueLaws.{equal-13, datum-text, datum-texts, not-text, not-texts}
+use Rattle.operators.proofs.OperandLaws.{stringUnder, attribute-is, literal-is, operand-is}
+
+-- a literal's value beside another
+pub literal-compares : (t : List ℕ) (o : Entry) (v w : Value) (x y : List ℕ) (r : Bool) → w ≡ literalRead t o → (o .kind ≡ 9 → y ≡ quotedAt t (spanOf o))
+    → ((l m : List (List ℕ)) → r ≡ compares (comparatorOf 13) (datumOf v x l) (datumOf w y m)) → (l : List (List ℕ))
+    → r ≡ compares Equal (datumOf v x l) (literalValue t (literalOf o))
+literal-compares t o v w x y r e q f l = f l l ∙ rw (← equal-13 13 refl, literal-is t o w y l e q)
+
+module _ (t s : List ℕ) (p : Sections) (n : ℕ) (heads values : List ℕ) (stands : Stands s p n heads values) (action : List ℕ) where
+  pub compare-is : (k : ℕ) (a b : Entry) (v w : Value) (x y : List ℕ) (r : Bool) → OperandPlaced t (operandOf a) → OperandPlaced t (operandOf b)
+      → v ≡ operandRead t s p n heads values a → w ≡ operandRead t s p n heads values b → x ≡ stringOf t s action a v → y ≡ stringOf t s action b w
+      → ((l m : List (List ℕ)) → r ≡ compares (comparatorOf k) (datumOf v x l) (datumOf w y m))
+      → r ≡ compares (comparatorOf k) (meant t s p n heads values action a) (meant t s p n heads values action b)
+  compare-is k a b v w x y r i j e f g h held =
+      held (listAt s (v .place)) (listAt s (w .place))
+      ∙ ap (λ (d : Datum). compares (comparatorOf k) d (datumOf w y (listAt s (w .place)))) (operand-is t s p n heads values stands action a v x i e g)
+      ∙ ap (compares (comparatorOf k) (meant t s p n heads values action a)) (operand-is t s p n heads values stands action b w y j f h)
+
+  module _ (a : Entry) (v : Value) (placed : OperandPlaced t (operandOf a)) (e : v ≡ operandRead t s p n heads values a) where
+    pub among-is : (x : List ℕ) (ls : List Literal) (r : Bool) → x ≡ stringOf t s action a v
+        → ((l : List (List ℕ)) → r ≡ some (λ o. compares Equal (datumOf v x l) (literalValue t o)) ls)
+        → r ≡ some (λ o. compares Equal (meant t s p n heads values action a) (literalValue t o)) ls
+    among-is x ls r g held =
+        held (listAt s (v .place)) ∙ ap (λ (d : Datum). some (λ o. compares Equal d (literalValue t o)) ls) (operand-is t s p n heads values stands action a v x placed e g)
+
+    -- a string, and any other value
+    pub of-string : (f : List ℕ → Bool) (x : List ℕ) (r : Bool) → v .kind ≡ 1 → x ≡ stringOf t s action a v → r ≡ f x → r ≡ ifText (meant t s p n heads values action a) f
+    of-string f x r k g held =
+        held ∙ ap (λ (d : Datum). ifText d f) (sym (datum-text v x (listAt s (v .place)) k) ∙ operand-is t s p n heads values stands action a v x placed e g)
+
+    pub of-no-string : (f : List ℕ → Bool) → (v .kind ≡ 1 → ⊥) → false ≡ ifText (meant t s p n heads values action a) f
+    of-no-string f k =
+        sym (not-text v (stringOf t s action a v) (listAt s (v .place)) f k)
+        ∙ ap (λ (d : Datum). ifText d f) (operand-is t s p n heads values stands action a v (stringOf t s action a v) placed e refl)
+
+  module _ (b : Entry) (w : Value) (placed : PathPlaced t (rootOf (b .kind)) (spanOf b)) (e : w ≡ attributeRead t s p n heads values b) where
+    -- a list, and any other value
+    pub of-list : (f : List (List ℕ) → Bool) (r : Bool) → w .kind ≡ 4 → r ≡ f (listAt s (w .place))
+        → r ≡ ifTexts (attributeValue t (withAction action (rowView s p n heads values)) (rootOf (b .kind)) (spanOf b)) f
+    of-list f r k held =
+        held
+        ∙ ap (λ (d : Datum). ifTexts d f) (sym (datum-texts w (stringUnder s action b w) (listAt s (w .place)) k) ∙ attribute-is t s p n heads values stands action b w placed e)
+
+    pub of-no-list : (f : List (List ℕ) → Bool) → (w .kind ≡ 4 → ⊥)
+        → false ≡ ifTexts (attributeValue t (withAction action (rowView s p n heads values)) (rootOf (b .kind)) (spanOf b)) f
+    of-no-list f k =
+        sym (not-texts w (stringUnder s action b w) (listAt s (w .place)) f k)
+        ∙ ap (λ (d : Datum). ifTexts d f) (attribute-is t s p n heads values stands action b w placed e)
+
+    pub has-is : (r : Bool) → ((x : List ℕ) (l : List (List ℕ)) → r ≡ present (datumOf w x l))
+        → r ≡ present (attributeValue t (withAction action (rowView s p n heads values)) (rootOf (b .kind)) (spanOf b))
+    has-is r held = held (stringUnder s action b w) (listAt s (w .place)) ∙ ap present (attribute-is t s p n heads values stands action b w placed e)

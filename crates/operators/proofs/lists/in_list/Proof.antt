@@ -1,0 +1,32 @@
+use borrow.Author.Needs.{needs}
+use Rattle.operators.proofs.ListLaws.{list-counted, listed-at}
+use native.Mathlib.Omega.{arith}
+use Rattle.operators.proofs.lists.in_list.Statement.{statement}
+use Rattle.operators.proofs.lists.in_list.Tie as tie
+use Rattle.operators.proofs.lists.in_list.Reads as reads
+use Rattle.operators.proofs.lists.in_list.Lts as lts
+use Rattle.operators.proofs.lists.in_strings.Reads as in-strings-reads
+
+-- src/lists.rt:81:13
+shared-slice-read-n : tie.Need-shared-slice-read-n
+shared-slice-read-n c = omega (arith, list-counted _ _ _ (c .before .before .before .pre .1) .counted)
+
+-- src/lists.rt:81:13
+cast-n : tie.Need-cast-n
+cast-n c = omega (arith, c .shared-slice-known3 .given (c .before .before .before .args .place))
+
+-- src/lists.rt:82:22
+add-in-strings : tie.Need-add-in-strings
+add-in-strings c = omega (arith, list-counted _ _ _ (c .before .before .before .pre .1) .counted)
+
+-- src/lists.rt:82:5
+in-strings-requires : tie.Need-in-strings-requires
+in-strings-requires c κs = (c .before .before .before .pre .0, list-counted _ _ _ (c .before .before .before .pre .1) .are)
+
+-- src/lists.rt:77:1
+returns : tie.Need-returns
+returns c = listed-at _ _ _ _ (c .in-strings .ensures)
+
+pub in-list-spec : {M : Type 1} → statement M
+in-list-spec =
+    tie.close (tie.spec shared-slice-read-n cast-n add-in-strings in-strings-requires returns)

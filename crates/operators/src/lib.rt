@@ -1,0 +1,248 @@
+// Conditions without parts, found true or false entry by entry, over a row's view of attributes. An absent attribute makes such a condition false.
+ghost use mathlib.Core.Path.{_≡_};
+ghost use mathlib.Core.List.{List};
+ghost use Prim.Native.Nat.{ℕ, _+_, _<_, _≤_};
+ghost use Rattle.views.specs.Meaning.{present};
+ghost use Rattle.views.specs.Rows.{rowView, Stands};
+ghost use Rattle.patterns.specs.Likes.{likes};
+ghost use Rattle.grammar.specs.Policies.{Comparator.Equal};
+ghost use Rattle.placing.specs.Placed.{quotedAt, Each, Lies, StringPlaced, PathPlaced, LiteralPlaced, OperandPlaced};
+ghost use Rattle.stored.specs.ReadBack.{spanOf, rootOf, comparatorOf, operandOf, literalsAt, treeOf, treeAt};
+ghost use Rattle.stored.specs.Ready.{Node};
+ghost use Rattle.meaning.specs.Values.{withAction, literalValue, attributeValue, ifText, ifTexts, compares};
+ghost use Rattle.meaning.specs.Conditions.{told, some, asked, listed, verdict};
+ghost use Rattle.operators.specs.Operands.{meant, whichOf};
+use crate::lists::among_literals;
+use crate::lists::in_list;
+use crate::lists::literals_listed;
+use crate::operands::attribute_value;
+use crate::operands::operand_string;
+use crate::operands::operand_value;
+use crate::operands::quoted;
+use crate::values::is_present;
+use crate::values::values_hold;
+use bags::sections::Sections;
+use meaning::Verdict;
+use table::Entry;
+use table::entry_at;
+
+pub mod lists;
+pub mod operands;
+pub mod values;
+
+fn told_of(b: bool) -> Verdict
+    ensures { λ r. ⌜ r ≡ told b ⌝ }
+{
+    if b {
+        return Verdict::Yes;
+    }
+    Verdict::No
+}
+
+// Whether a root has the path of the entry o.
+fn has_attribute(
+    text: &[u8],
+    o: Entry,
+    s: &[u8],
+    p: Sections,
+    n: usize,
+    heads: &[usize; 6],
+    values: &[usize; 6],
+) -> bool
+    requires { ⌜ PathPlaced (now text) (rootOf (o .kind)) (spanOf o) ⌝ }
+    requires { ⌜ Stands (now s) p n (now heads) (now values) ⌝ }
+    ensures { λ r. ⌜ ((action : List ℕ) → r ≡ present (attributeValue (now (text .entry)) (withAction action (rowView (now (s .entry)) p n (now (heads .entry)) (now (values .entry)))) (rootOf (o .kind)) (spanOf o))) ⌝ }
+{
+    let v = attribute_value(text, s, p, n, heads, values, o);
+    is_present(v)
+}
+
+// Two operands, with the comparator of an entry's kind.
+fn compare_operands<'a>(
+    text: &'a [u8],
+    kind: u8,
+    a: Entry,
+    b: Entry,
+    s: &'a [u8],
+    p: Sections,
+    n: usize,
+    heads: &[usize; 6],
+    values: &[usize; 6],
+    action: &'a [u8],
+) -> bool
+    requires { ⌜ OperandPlaced (now text) (operandOf a) ⌝ }
+    requires { ⌜ OperandPlaced (now text) (operandOf b) ⌝ }
+    requires { ⌜ Stands (now s) p n (now heads) (now values) ⌝ }
+    ensures { λ r. ⌜ r ≡ compares (comparatorOf kind) (meant (now (text .entry)) (now (s .entry)) p n (now (heads .entry)) (now (values .entry)) (now (action .entry)) a) (meant (now (text .entry)) (now (s .entry)) p n (now (heads .entry)) (now (values .entry)) (now (action .entry)) b) ⌝ }
+{
+    let v = operand_value(text, s, p, n, heads, values, a);
+    let w = operand_value(text, s, p, n, heads, values, b);
+    let x = operand_string(text, s, action, a, v);
+    let y = operand_string(text, s, action, b, w);
+    values_hold(kind, v, x, w, y)
+}
+
+// An operand `like` the pattern of the entry o.
+fn like_operand<'a>(
+    text: &'a [u8],
+    o: Entry,
+    a: Entry,
+    s: &'a [u8],
+    p: Sections,
+    n: usize,
+    heads: &[usize; 6],
+    values: &[usize; 6],
+    action: &'a [u8],
+) -> bool
+    requires { ⌜ OperandPlaced (now text) (operandOf a) ⌝ }
+    requires { ⌜ StringPlaced (now text) (spanOf o) ⌝ }
+    requires { ⌜ Stands (now s) p n (now heads) (now values) ⌝ }
+    ensures { λ r. ⌜ r ≡ ifText (meant (now (text .entry)) (now (s .entry)) p n (now (heads .entry)) (now (values .entry)) (now (action .entry)) a) (likes (quotedAt (now (text .entry)) (spanOf o))) ⌝ }
+{
+    let v = operand_value(text, s, p, n, heads, values, a);
+    let kind = v.kind;
+    if kind != 1 {
+        return false;
+    }
+    let x = operand_string(text, s, action, a, v);
+    patterns::like(quoted(text, o), x)
+}
+
+// An operand `in` the list of the `count` literals from entry `at` on.
+fn operand_in_list<'a>(
+    text: &'a [u8],
+    table: &[u8],
+    count: usize,
+    at: usize,
+    a: Entry,
+    s: &'a [u8],
+    p: Sections,
+    n: usize,
+    heads: &[usize; 6],
+    values: &[usize; 6],
+    action: &'a [u8],
+) -> bool
+    requires { ⌜ OperandPlaced (now text) (operandOf a) ⌝ }
+    requires { ⌜ Each (LiteralPlaced (now text)) (literalsAt count (now table) at) ⌝ }
+    requires { ⌜ at + count < 65536 ⌝ }
+    requires { ⌜ Stands (now s) p n (now heads) (now values) ⌝ }
+    ensures { λ r. ⌜ r ≡ some (λ l. compares Equal (meant (now (text .entry)) (now (s .entry)) p n (now (heads .entry)) (now (values .entry)) (now (action .entry)) a) (literalValue (now (text .entry)) l)) (literalsAt count (now (table .entry)) at) ⌝ }
+{
+    let v = operand_value(text, s, p, n, heads, values, a);
+    let x = operand_string(text, s, action, a, v);
+    among_literals(text, table, count, at, v, x)
+}
+
+// An operand `in` the attribute of the entry b.
+fn operand_in_attribute<'a>(
+    text: &'a [u8],
+    a: Entry,
+    b: Entry,
+    s: &'a [u8],
+    p: Sections,
+    n: usize,
+    heads: &[usize; 6],
+    values: &[usize; 6],
+    action: &'a [u8],
+) -> bool
+    requires { ⌜ OperandPlaced (now text) (operandOf a) ⌝ }
+    requires { ⌜ PathPlaced (now text) (rootOf (b .kind)) (spanOf b) ⌝ }
+    requires { ⌜ Stands (now s) p n (now heads) (now values) ⌝ }
+    ensures { λ r. ⌜ r ≡ ifText (meant (now (text .entry)) (now (s .entry)) p n (now (heads .entry)) (now (values .entry)) (now (action .entry)) a) (λ x. ifTexts (attributeValue (now (text .entry)) (withAction (now (action .entry)) (rowView (now (s .entry)) p n (now (heads .entry)) (now (values .entry)))) (rootOf (b .kind)) (spanOf b)) (λ l. listed l x)) ⌝ }
+{
+    let v = operand_value(text, s, p, n, heads, values, a);
+    let kind = v.kind;
+    if kind != 1 {
+        return false;
+    }
+    let w = attribute_value(text, s, p, n, heads, values, b);
+    let list_kind = w.kind;
+    if list_kind != 4 {
+        return false;
+    }
+    let x = operand_string(text, s, action, a, v);
+    in_list(s, w.place, x)
+}
+
+// The attribute of the entry b contains any, or all, of the `count` literals from entry `at` on.
+fn contains_literals(
+    text: &[u8],
+    table: &[u8],
+    any: bool,
+    count: usize,
+    at: usize,
+    b: Entry,
+    s: &[u8],
+    p: Sections,
+    n: usize,
+    heads: &[usize; 6],
+    values: &[usize; 6],
+) -> bool
+    requires { ⌜ PathPlaced (now text) (rootOf (b .kind)) (spanOf b) ⌝ }
+    requires { ⌜ Each (LiteralPlaced (now text)) (literalsAt count (now table) at) ⌝ }
+    requires { ⌜ at + count < 65536 ⌝ }
+    requires { ⌜ Stands (now s) p n (now heads) (now values) ⌝ }
+    ensures { λ r. ⌜ ((action : List ℕ) → r ≡ ifTexts (attributeValue (now (text .entry)) (withAction action (rowView (now (s .entry)) p n (now (heads .entry)) (now (values .entry)))) (rootOf (b .kind)) (spanOf b)) (λ l. asked (whichOf any) (λ x. ifText (literalValue (now (text .entry)) x) (listed l)) (literalsAt count (now (table .entry)) at))) ⌝ }
+{
+    let w = attribute_value(text, s, p, n, heads, values, b);
+    let kind = w.kind;
+    if kind != 4 {
+        return false;
+    }
+    literals_listed(text, table, any, count, at, s, w.place)
+}
+
+// The verdict of the condition without parts whose last entry is x, number end - 1.
+pub fn flat<'a>(
+    text: &'a [u8],
+    table: &[u8],
+    end: usize,
+    x: Entry,
+    s: &'a [u8],
+    p: Sections,
+    n: usize,
+    heads: &[usize; 6],
+    values: &[usize; 6],
+    action: &'a [u8],
+) -> Verdict
+    requires { ⌜ Node (now text) (now table) end x ⌝ }
+    requires { ⌜ x .kind ≤ 23 ⌝ }
+    requires { ⌜ Stands (now s) p n (now heads) (now values) ⌝ }
+    ensures { λ r. ⌜ r ≡ verdict (now (text .entry)) (withAction (now (action .entry)) (rowView (now (s .entry)) p n (now (heads .entry)) (now (values .entry)))) (treeOf (treeAt (now (table .entry))) (now (table .entry)) end x) ⌝ }
+{
+    let kind = x.kind;
+    if kind <= 8 {
+        let root = kind - 4;
+        let o = Entry {
+            kind: root,
+            first: x.first,
+            second: x.second,
+        };
+        return told_of(has_attribute(text, o, s, p, n, heads, values));
+    }
+    if kind <= 12 {
+        return told_of(kind == 11);
+    }
+    if kind <= 18 {
+        let a = entry_at(table, end - 3);
+        let b = entry_at(table, end - 2);
+        return told_of(compare_operands(text, kind, a, b, s, p, n, heads, values, action));
+    }
+    if kind == 19 {
+        let a = entry_at(table, end - 2);
+        return told_of(like_operand(text, x, a, s, p, n, heads, values, action));
+    }
+    if kind == 21 {
+        let a = entry_at(table, end - 3);
+        let b = entry_at(table, end - 2);
+        return told_of(operand_in_attribute(text, a, b, s, p, n, heads, values, action));
+    }
+    let count = x.first;
+    let at = end - count - 1;
+    let a = entry_at(table, end - count - 2);
+    if kind == 20 {
+        return told_of(operand_in_list(text, table, count, at, a, s, p, n, heads, values, action));
+    }
+    let any = kind == 23;
+    told_of(contains_literals(text, table, any, count, at, a, s, p, n, heads, values))
+}

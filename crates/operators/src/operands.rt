@@ -1,0 +1,136 @@
+// What an operand's entry stands for: a read value, and its string as a part of the rule text, of the bag or question, or the action itself.
+ghost use mathlib.Core.Path.{_≡_};
+ghost use mathlib.Core.Bool.{true, _&&_};
+ghost use lib.Dec.{eqb, leb};
+ghost use Rattle.lookups.specs.Values.{Whole};
+ghost use Rattle.views.specs.Rows.{Stands};
+ghost use Rattle.placing.specs.Placed.{quotedAt, Lies, StringPlaced, LiteralPlaced, OperandPlaced};
+ghost use Rattle.stored.specs.ReadBack.{spanOf, rootOf, literalOf, operandOf};
+ghost use Rattle.operators.specs.Operands.{ofBag, attributeRead, literalRead, operandRead, stringOf};
+use bags::sections::Sections;
+use lookups::values::Value;
+use numbers::literals::number;
+use table::Entry;
+use views::attribute;
+
+// An attribute's value. The action has no attribute but its name.
+pub fn attribute_value(
+    text: &[u8],
+    s: &[u8],
+    p: Sections,
+    n: usize,
+    heads: &[usize; 6],
+    values: &[usize; 6],
+    o: Entry,
+) -> Value
+    requires { ⌜ Lies (now text) (spanOf o) ⌝ }
+    requires { ⌜ Stands (now s) p n (now heads) (now values) ⌝ }
+    ensures { λ r. ⌜ r ≡ attributeRead (now (text .entry)) (now (s .entry)) p n (now (heads .entry)) (now (values .entry)) o ⌝ }
+{
+    let root = o.kind;
+    if (1 <= root) & (root <= 3) {
+        let start = o.first;
+        let end = o.second;
+        return attribute(s, p, n, heads, values, root, &text[start..end]);
+    }
+    Value {
+        kind: 1,
+        number: 0.0,
+        place: 0,
+    }
+}
+
+// A literal's value.
+pub fn literal_value(text: &[u8], o: Entry) -> Value
+    requires { ⌜ LiteralPlaced (now text) (literalOf o) ⌝ }
+    ensures { λ r. ⌜ r ≡ literalRead (now (text .entry)) o ⌝ }
+{
+    let kind = o.kind;
+    if kind == 9 {
+        return Value {
+            kind: 1,
+            number: 0.0,
+            place: 0,
+        };
+    }
+    if kind == 10 {
+        let start = o.first;
+        let end = o.second;
+        let x = number(&text[start..end]);
+        return Value {
+            kind: 2,
+            number: x,
+            place: 0,
+        };
+    }
+    if kind == 11 {
+        return Value {
+            kind: 3,
+            number: 1.0,
+            place: 0,
+        };
+    }
+    Value {
+        kind: 3,
+        number: 0.0,
+        place: 0,
+    }
+}
+
+// An operand's value.
+pub fn operand_value(
+    text: &[u8],
+    s: &[u8],
+    p: Sections,
+    n: usize,
+    heads: &[usize; 6],
+    values: &[usize; 6],
+    o: Entry,
+) -> Value
+    requires { ⌜ OperandPlaced (now text) (operandOf o) ⌝ }
+    requires { ⌜ Stands (now s) p n (now heads) (now values) ⌝ }
+    ensures { λ r. ⌜ r ≡ operandRead (now (text .entry)) (now (s .entry)) p n (now (heads .entry)) (now (values .entry)) o ⌝ }
+{
+    let kind = o.kind;
+    if kind <= 4 {
+        return attribute_value(text, s, p, n, heads, values, o);
+    }
+    literal_value(text, o)
+}
+
+// The bytes of a literal's string, between its quotes.
+pub fn quoted<'a>(text: &'a [u8], o: Entry) -> &'a [u8]
+    requires { ⌜ StringPlaced (now text) (spanOf o) ⌝ }
+    ensures { λ r. ⌜ now r ≡ quotedAt (now (text .entry)) (spanOf o) ⌝ }
+{
+    let start = o.first + 1;
+    let end = o.second - 1;
+    &text[start..end]
+}
+
+// The bytes of an operand's string, where they lie.
+pub fn operand_string<'a>(
+    text: &'a [u8],
+    s: &'a [u8],
+    action: &'a [u8],
+    o: Entry,
+    v: Value,
+) -> &'a [u8]
+    requires { ⌜ OperandPlaced (now text) (operandOf o) ⌝ }
+    requires { ⌜ (ofBag (o .kind) ≡ true → Whole (now s) v) ⌝ }
+    ensures { λ r. ⌜ now r ≡ stringOf (now (text .entry)) (now (s .entry)) (now (action .entry)) o v ⌝ }
+{
+    let kind = v.kind;
+    let root = o.kind;
+    let inside = (1 <= root) & (root <= 3);
+    if (kind == 1) & inside {
+        let place = v.place;
+        let start = place + 1;
+        let end = start + s[place] as usize;
+        return &s[start..end];
+    }
+    if root == 9 {
+        return quoted(text, o);
+    }
+    action
+}
