@@ -20,12 +20,13 @@ use Rattle.stored.specs.ReadBack.{policiesAt}
 use Rattle.meaning.specs.Targets.{Request, isSystem, isSubject, isAction, isResource}
 use Rattle.meaning.specs.Decisions.{decisionOf}
 use Rattle.meaning.specs.declared.Decision.{Decision}
+use Rattle.deciding.specs.Answers.{policiesOf}
+use Rattle.deciding.proofs.HeldLaws.{held-says}
 use Rattle.pages.specs.Listing.{rowSize, PageWritten}
 use Rattle.pages.specs.declared.Page.{Page}
-use Rattle.sheets.specs.Sheets.{rowsIn, decisionBy, decisionAt, policiesOf, dividedAs, sectionsIn, requestRefusal, refusalOf, unless, PartListed, answerOf, sheetAfter, SheetListed}
+use Rattle.sheets.specs.Sheets.{rowsIn, decisionBy, decisionAt, dividedAs, sectionsIn, requestRefusal, refusalOf, unless, PartListed, answerOf, sheetAfter, SheetListed}
 use Rattle.sheets.specs.declared.Answer.{Answer}
 use Rattle.sheets.specs.declared.Answer.the-variants.{Listed, Refused}
-use Rattle.sheets.proofs.HeldLaws.{held-says}
 
 -- ---- a page for a question
 

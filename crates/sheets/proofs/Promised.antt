@@ -20,6 +20,7 @@ use Rattle.questions.specs.Questions.{isQuestion, product, rowsOf}
 use Rattle.meaning.specs.Targets.{Request, isSystem, isSubject, isAction, isResource}
 use Rattle.meaning.specs.Decisions.{isAllowed}
 use Rattle.meaning.specs.declared.Decision.{Decision}
+use Rattle.deciding.specs.Answers.{policiesOf}
 use Rattle.pages.specs.Rows.{countsOf, Combination, rowOf, choicesAt}
 use Rattle.pages.specs.Listing.{listed, pageRows, nextRow, rowSize, bytesOf, over, roomIn, PageWritten}
 use Rattle.pages.specs.Pages.{Written, nothing, page}
@@ -27,7 +28,7 @@ use Rattle.pages.specs.declared.Page.{Page}
 use Rattle.pages.proofs.Combinations.{row-below, choices-of-row, choices-combine, row-of-choices, first-slowest}
 use Rattle.pages.proofs.Progress.{bytes-length}
 use Rattle.pages.proofs.Listed.{next-within, next-past, lists-yes, list-ascends, lists-combinations, all-written}
-use Rattle.sheets.specs.Sheets.{rowsIn, sectionsIn, decisionBy, policiesOf, decisions, rowsAsked, requestRefusal, refusalOf, unless, listedOn, writtenOver, answerOf, sheetAfter, SheetListed}
+use Rattle.sheets.specs.Sheets.{rowsIn, sectionsIn, decisionBy, decisions, rowsAsked, requestRefusal, refusalOf, unless, listedOn, writtenOver, answerOf, sheetAfter, SheetListed}
 use Rattle.sheets.specs.Promise.{countsAsked, yesTo, listedFrom, ListsExactly, ListedRow, ListedRightly, OneRow, Ascends, FirstSlowest, Called, no-call, call, PagesJoined, GoesOn, OthersStay, OneResult, NothingChanged, numberOf, Wellasked, Wellformed, Refusal, no-room, no-question, above, never-the-system, bad-subject, bad-action, bad-resource, not-compiled, none-wrong, RefusedRightly, OneRefusal}
 use Rattle.sheets.specs.declared.Answer.{Answer}
 use Rattle.sheets.specs.declared.Answer.the-variants.{Listed, Refused}

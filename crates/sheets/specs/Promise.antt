@@ -9,9 +9,10 @@ use Rattle.compiling.specs.Promise.{Begun}
 use Rattle.questions.specs.Questions.{isQuestion}
 use Rattle.meaning.specs.Targets.{Request, isSystem, isSubject, isAction, isResource}
 use Rattle.meaning.specs.Decisions.{isAllowed}
+use Rattle.deciding.specs.Answers.{policiesOf}
 use Rattle.pages.specs.Rows.{Combination, rowOf, choicesAt}
 use Rattle.pages.specs.Listing.{listed, rowSize, bytesOf}
-use Rattle.sheets.specs.Sheets.{countsIn, sectionsIn, decisionBy, policiesOf, decisions, rowsAsked, answerOf, sheetAfter, SheetListed}
+use Rattle.sheets.specs.Sheets.{countsIn, sectionsIn, decisionBy, decisions, rowsAsked, answerOf, sheetAfter, SheetListed}
 use Rattle.sheets.specs.declared.Answer.{Answer}
 use Rattle.sheets.specs.declared.Answer.the-variants.{Listed, Refused}
 

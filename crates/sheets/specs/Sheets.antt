@@ -1,14 +1,12 @@
 -- What the sheet's call answers and leaves in the sheet, as functions of all that it is given (document 01, 'The sheet' and 'Refusal numbers'). Definitions only.
 use mathlib.Core.Path.{_≡_}
 use mathlib.Core.Bool.{Bool, cond}
-use mathlib.Core.List.{List, [], _++_}
+use mathlib.Core.List.{List, _++_}
 use Prim.Native.Nat.{ℕ, zero, suc, _+_}
 use lib.Dec.{leb}
 use lib.ListN.{length, take, drop}
-use Rattle.reading.specs.Reader as reader
-use Rattle.reading.specs.Reader.{took, refuse}
 use Rattle.grammar.specs.Policies.{Policy}
-use Rattle.compiling.specs.Outcome.{said, beginsOf}
+use Rattle.compiling.specs.Outcome.{beginsOf}
 use Rattle.bags.specs.Reading.{byte}
 use Rattle.bags.specs.Sections.{sectionsOf}
 use Rattle.bags.specs.declared.sections.Sections.{Sections}
@@ -20,6 +18,7 @@ use Rattle.views.specs.Rows.{bagOfRow}
 use Rattle.meaning.specs.Targets.{Request, isSystem, isSubject, isAction, isResource}
 use Rattle.meaning.specs.Decisions.{decisionOf}
 use Rattle.meaning.specs.declared.Decision.{Decision}
+use Rattle.deciding.specs.Answers.{policiesOf}
 use Rattle.pages.specs.Rows.{countsOf, choicesAt}
 use Rattle.pages.specs.Listing.{pageRows, nextRow, rowSize, bytesOf, over, roomIn}
 use Rattle.sheets.specs.declared.Answer.{Answer}
@@ -47,14 +46,6 @@ decisionBy text s p q ps choices = decisionOf text (look (bagOfRow s p (columnsI
 -- the decision of each row
 abbrev pub decisionAt : List ℕ → List ℕ → Sections → Request → List Policy → ℕ → Decision
 decisionAt text s p q ps row = decisionBy text s p q ps (choicesAt (countsIn s p) row)
-
--- the policies of a text, none where it is refused
-unfoldable pub policiesIn : reader.Answer (List Policy) → List Policy
-policiesIn (took ps r) = ps
-policiesIn (refuse n r) = []
-
-abbrev pub policiesOf : List ℕ → List Policy
-policiesOf text = policiesIn (said text)
 
 -- the sections of a question
 unfoldable pub dividedAs : Divided → Sections

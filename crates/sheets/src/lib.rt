@@ -1,5 +1,4 @@
 // The sheet: the rows of a question that are answered with yes, a page at a time.
-mod stand_in;
 mod writing;
 
 ghost use mathlib.Core.Path.{_≡_};

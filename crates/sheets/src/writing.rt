@@ -10,7 +10,7 @@ ghost use Rattle.pages.specs.Listing.{PageWritten};
 ghost use Rattle.sheets.specs.Sheets.{decisionAt};
 ghost use Rattle.sheets.specs.Asked.{Asked, Decidable, Laid, RowsAsked};
 use bags::sections::Sections;
-use crate::stand_in::decision;
+use deciding::row::decision;
 use meaning::Decision;
 use pages::Page;
 use pages::listing::is_allowed;

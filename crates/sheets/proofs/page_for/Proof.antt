@@ -1,5 +1,6 @@
-use Rattle.sheets.proofs.HeldLaws.{held-ready, held-many, held-few}
-use Rattle.sheets.proofs.Forms.{untyped, typed-form, typed-number}
+use Rattle.deciding.proofs.HeldLaws.{held-ready, held-many}
+use Rattle.sheets.proofs.HeldLaws.{held-few}
+use Rattle.deciding.proofs.Answering.{untyped, typed-form, typed-number}
 use Rattle.sheets.proofs.Cases.{system-listed, refused-21, refused-22, refused-23, refused-20, held-listed}
 use mathlib.Core.Path.{_≡_, refl, sym, _∙_}
 use Prim.Native.Nat.{ℕ}
