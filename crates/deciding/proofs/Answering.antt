@@ -1,24 +1,21 @@
 -- The answer, test by test in document 01's order. Assumes nothing.
-use mathlib.Core.Path.{_≡_, refl, sym, _∙_, ap}
-use mathlib.Core.Bool.{Bool, true, false, cond, not, _&&_}
+use mathlib.Core.Path.{_≡_, refl, sym, _∙_}
+use mathlib.Core.Bool.{Bool, true, false, cond}
 use mathlib.Core.List.{List}
 use Prim.Native.Nat.{ℕ}
-use native.Mathlib.Omega.{arith}
-use lib.Dec.{eqb, leb}
+use lib.Dec.{leb}
 use lib.ListN.{length}
-use Rattle.grammar.specs.Rules.{principalTypes, resourceTypes}
 use Rattle.compiling.specs.Outcome.{beginsOf}
 use Rattle.bags.specs.Sections.{sectionsOf, isBag}
 use Rattle.bags.specs.declared.sections.Sections.{Sections}
 use Rattle.bags.specs.declared.sections.Divided.the-variants.{In}
-use Rattle.views.specs.Meaning.{View, look}
+use Rattle.views.specs.Meaning.{look}
 use Rattle.views.specs.Values.{baseBag}
 use Rattle.meaning.specs.Targets.{Request, typeIn, isTyped, isSystem, isSubject, isAction, isResource}
 use Rattle.meaning.specs.Decisions.{policiesDecide, decisionOf}
 use Rattle.meaning.specs.declared.Decision.the-variants.{System}
 use Rattle.deciding.proofs.Lowest.{and-false}
 use Rattle.deciding.specs.Answers.{policiesOf, viewIn, viewOf, heldDecide, answerOf}
-use Rattle.deciding.specs.declared.Answer.{Answer}
 use Rattle.deciding.specs.declared.Answer.the-variants.{Decided, Refused}
 
 -- ---- the type's number of a subject or a resource

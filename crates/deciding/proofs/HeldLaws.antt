@@ -1,6 +1,5 @@
 -- A table that holds its text: its policies are those that the text says, and can be evaluated there. Assumes nothing.
 use mathlib.Core.Path.{_≡_, refl, sym, _∙_, ap}
-use mathlib.Core.Bool.{Bool, true, false, cond}
 use mathlib.Core.List.{List, []}
 use Prim.Native.Nat.{ℕ}
 use lib.ListN.{length}
@@ -13,7 +12,7 @@ use Rattle.stored.specs.Stored.{Says}
 use Rattle.stored.specs.ReadBack.{policiesAt}
 use Rattle.stored.specs.Ready.{ReadyPolicies}
 use Rattle.stored.proofs.Theorems.{compiled-says, compiled-ready}
-use Rattle.compiling.specs.Outcome.{said, heldOf, beginsOf}
+use Rattle.compiling.specs.Outcome.{said, heldOf}
 use Rattle.compiling.specs.Promise.{HeldRightly, Holds}
 use Rattle.compiling.specs.declared.Held.the-variants.{Right, Wrong}
 use Rattle.compiling.proofs.Outcomes.{right-begins, wrong-begins}

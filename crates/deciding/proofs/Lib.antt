@@ -3,3 +3,4 @@ pub mod Counting
 pub mod HeldLaws
 pub mod Answering
 pub mod Promised
+pub mod Examples

@@ -1,10 +1,9 @@
 -- What is promised of deciding. Assumes nothing.
 use mathlib.Core.Path.{_≡_, refl, sym, _∙_, ap, subst}
-use mathlib.Core.Logic.{_⊎_, inl, inr, ⊎-elim, _↔_}
-use mathlib.Core.Bool.{Bool, true, false, cond}
+use mathlib.Core.Logic.{_⊎_, inl, inr, ⊎-elim}
+use mathlib.Core.Bool.{Bool, true, false}
 use mathlib.Core.List.{List, []}
 use Prim.Native.Nat.{ℕ}
-use native.Mathlib.Omega.{arith}
 use Rattle.reading.specs.Lexemes.{tokensOf}
 use Rattle.reading.specs.Reader.{took}
 use Rattle.grammar.specs.Policies.{Policy}
@@ -17,11 +16,11 @@ use Rattle.compiling.proofs.Promised.{begins-exactly}
 use Rattle.bags.specs.Sections.{isBag}
 use Rattle.meaning.specs.Targets.{Request, isSystem, isSubject, isAction, isResource}
 use Rattle.meaning.specs.Decisions as meaning
-use Rattle.meaning.specs.Decisions.{policiesDecide, decisionOf, outcomeOf, policyOf, isAllowed, Names}
+use Rattle.meaning.specs.Decisions.{policiesDecide, decisionOf, outcomeOf, policyOf, isAllowed}
 use Rattle.meaning.specs.declared.Decision.{Decision}
 use Rattle.meaning.specs.declared.Decision.the-variants.{Allowed, Forbidden, Nothing, System}
 use Rattle.meaning.proofs.Deciding as meaning-proofs
-use Rattle.deciding.specs.Answers.{policiesOf, viewOf, answerOf, saidOf, saysYes}
+use Rattle.deciding.specs.Answers.{viewOf, answerOf, saidOf, saysYes}
 use Rattle.deciding.specs.Promise.{Refusal, never-the-system, bad-subject, bad-action, bad-resource, no-bag, no-table, none-where-all-is-right, RefusedExactly, ZerosElsewhere, Heard, Granted, YesExactly, NamedRightly, SystemNamesNone, OneResult}
 use Rattle.deciding.specs.declared.Answer.{Answer}
 use Rattle.deciding.specs.declared.Answer.the-variants.{Decided, Refused}
@@ -80,7 +79,7 @@ module _ (text table bag : List ℕ) (q : Request) where
       go false true true true true true s t u v w x =
           let b = begun text table x in
           let h : Heard text table bag q (b .value) =
-              record { other = s; subject = t; action = u; resource = v; bag-form = w; short = b .short; belongs = b .belongs; begins = b .begins } in
+          record { other = s; subject = t; action = u; resource = v; bag-form = w; short = b .short; belongs = b .belongs; begins = b .begins } in
           told-decided (b .value) h (heard-decided (b .value) h)
 
   -- ---- refusals

@@ -10,12 +10,12 @@ ghost use Rattle.views.specs.Values.{baseBag};
 ghost use Rattle.meaning.specs.Targets.{typeIn};
 ghost use Rattle.targets.specs.Matching.{request};
 ghost use Rattle.deciding.specs.Answers.{answerOf, heldDecide};
+use crate::row::decision;
 use bags::sections::Divided;
 use bags::sections::Sections;
 use bags::sections::bag_sections;
 use compiling::Held;
 use compiling::held_policies;
-use crate::row::decision;
 use meaning::Decision;
 use targets::forms::is_action;
 use targets::forms::is_system;
@@ -104,7 +104,16 @@ pub fn decide<'a>(
     match bag_sections(&classes, bag) {
         Divided::Broken => Answer::Refused(24),
         Divided::In(p) => held(
-            &classes, text, table, bag, p, subject, sort, action, resource, kind,
+            &classes,
+            text,
+            table,
+            bag,
+            p,
+            subject,
+            sort,
+            action,
+            resource,
+            kind,
         ),
     }
 }

@@ -76,17 +76,7 @@ fn counts<'a>(
     if x.second == end - 1 {
         return true;
     }
-    is_yes(evaluate(
-        text,
-        table,
-        end - 1,
-        s,
-        p,
-        n,
-        heads,
-        values,
-        action,
-    ))
+    is_yes(evaluate(text, table, end - 1, s, p, n, heads, values, action))
 }
 
 // One number or another.
