@@ -2,7 +2,6 @@ use Rattle.sheets.proofs.writing.row_decision.Statement.{statement}
 use Rattle.sheets.proofs.writing.row_decision.Tie as tie
 use Rattle.sheets.proofs.writing.row_decision.Reads as reads
 use Rattle.sheets.proofs.writing.row_decision.Lts as lts
-use Rattle.sheets.proofs.stand_in.decision.Reads as decision-reads
 
 -- src/writing.rt:52:9
 returns : tie.Need-returns
