@@ -1,20 +1,19 @@
 -- The cases of a call for a page, test by test in document 01's order. Assumes nothing.
-use mathlib.Core.Path.{_≡_, refl, sym, ap, _∙_}
-use mathlib.Core.Bool.{Bool, true, false, cond}
+use mathlib.Core.Path.{_≡_, sym, _∙_}
+use mathlib.Core.Bool.{true, false}
 use mathlib.Core.List.{List, _++_}
 use Prim.Native.Nat.{ℕ, zero, suc, _+_, _-_, _≤_, _<_}
 use borrow.Author.Tests.{le-leb, lt-leb}
 use borrow.Rule.Slice.PartMut.{putMid}
-use lib.Dec.{leb}
 use lib.ListN.{length, take, drop, take-append-drop}
 use Rattle.slices.proofs.Parts.{tail-lent, tail-back}
 use Rattle.grammar.specs.Policies.{Policy}
-use Rattle.compiling.specs.Outcome.{heldOf, beginsOf}
+use Rattle.compiling.specs.Outcome.{heldOf}
 use Rattle.compiling.specs.declared.Held.the-variants.{Right, Wrong}
 use Rattle.compiling.proofs.Outcomes.{right-begins, wrong-begins}
 use Rattle.bags.specs.Sections.{sectionsOf}
 use Rattle.bags.specs.declared.sections.Sections.{Sections}
-use Rattle.bags.specs.declared.sections.Divided.the-variants.{In, Broken}
+use Rattle.bags.specs.declared.sections.Divided.the-variants.{In}
 use Rattle.questions.specs.Questions.{isQuestion}
 use Rattle.stored.specs.ReadBack.{policiesAt}
 use Rattle.meaning.specs.Targets.{Request, isSystem, isSubject, isAction, isResource}

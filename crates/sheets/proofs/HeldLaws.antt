@@ -8,7 +8,7 @@ use Rattle.reading.specs.Lexemes.{Lexeme}
 use Rattle.grammar.specs.Policies.{Policy}
 use Rattle.grammar.specs.Grammar.{Policies, end, policy, sizes}
 use Rattle.compiling.specs.Outcome.{heldOf}
-use Rattle.compiling.specs.Promise.{HeldRightly, Holds}
+use Rattle.compiling.specs.Promise.{HeldRightly}
 use Rattle.compiling.specs.declared.Held.the-variants.{Right}
 use Rattle.compiling.proofs.Promised.{held-rightly}
 

@@ -1,35 +1,28 @@
 -- What is promised of the sheet holds. Assumes nothing.
 use mathlib.Core.Path.{_≡_, refl, sym, ap, _∙_}
-use mathlib.Core.Logic.{_↔_}
 use mathlib.Core.Bool.{Bool, true, false, cond}
-use mathlib.Core.List.{List, [], _∷_, _++_, append-nil}
-use Prim.Native.Nat.{ℕ, zero, suc, _+_, _-_, _*_, _/_, _≤_, _<_}
+use mathlib.Core.List.{List, _++_}
+use Prim.Native.Nat.{ℕ, zero, suc, _+_, _*_, _≤_, _<_}
 use native.Mathlib.Omega.{arith}
 use borrow.Author.Tests.{leb-true, leb-false, le-leb, lt-leb}
 use lib.Dec.{leb}
-use lib.ListN.{length, getD, take, drop, length-drop, length-take}
+use lib.ListN.{length, take, drop, length-drop}
 use lib.Seq.{take-at, drop-at, drop-drop, length-take-le}
 use Rattle.compiling.specs.Outcome.{beginsOf}
 use Rattle.compiling.specs.Promise.{Begun, BeginsExactly}
 use Rattle.compiling.proofs.Promised.{begins-exactly}
-use Rattle.bags.specs.Sections.{sectionsOf}
-use Rattle.bags.specs.declared.sections.Sections.{Sections}
-use Rattle.bags.specs.declared.sections.Divided.{Divided}
-use Rattle.bags.specs.declared.sections.Divided.the-variants.{In, Broken}
 use Rattle.questions.specs.Questions.{isQuestion, product, rowsOf}
 use Rattle.meaning.specs.Targets.{Request, isSystem, isSubject, isAction, isResource}
-use Rattle.meaning.specs.Decisions.{isAllowed}
 use Rattle.meaning.specs.declared.Decision.{Decision}
 use Rattle.deciding.specs.Answers.{policiesOf}
-use Rattle.pages.specs.Rows.{countsOf, Combination, rowOf, choicesAt}
-use Rattle.pages.specs.Listing.{listed, pageRows, nextRow, rowSize, bytesOf, over, roomIn, PageWritten}
+use Rattle.pages.specs.Rows.{countsOf, choicesAt}
+use Rattle.pages.specs.Listing.{pageRows, nextRow, rowSize, bytesOf, roomIn, PageWritten}
 use Rattle.pages.specs.Pages.{Written, nothing, page}
-use Rattle.pages.specs.declared.Page.{Page}
 use Rattle.pages.proofs.Combinations.{row-below, choices-of-row, choices-combine, row-of-choices, first-slowest}
 use Rattle.pages.proofs.Progress.{bytes-length}
 use Rattle.pages.proofs.Listed.{next-within, next-past, lists-yes, list-ascends, lists-combinations, all-written}
-use Rattle.sheets.specs.Sheets.{rowsIn, sectionsIn, decisionBy, decisions, rowsAsked, requestRefusal, refusalOf, unless, listedOn, writtenOver, answerOf, sheetAfter, SheetListed}
-use Rattle.sheets.specs.Promise.{countsAsked, yesTo, listedFrom, ListsExactly, ListedRow, ListedRightly, OneRow, Ascends, FirstSlowest, Called, no-call, call, PagesJoined, GoesOn, OthersStay, OneResult, NothingChanged, numberOf, Wellasked, Wellformed, Refusal, no-room, no-question, above, never-the-system, bad-subject, bad-action, bad-resource, not-compiled, none-wrong, RefusedRightly, OneRefusal}
+use Rattle.sheets.specs.Sheets.{sectionsIn, decisionBy, decisions, rowsAsked, requestRefusal, refusalOf, unless, listedOn, writtenOver, answerOf, sheetAfter}
+use Rattle.sheets.specs.Promise.{countsAsked, ListsExactly, ListedRightly, OneRow, Ascends, FirstSlowest, Called, no-call, call, PagesJoined, GoesOn, OthersStay, OneResult, NothingChanged, numberOf, Wellasked, Wellformed, Refusal, no-room, no-question, above, never-the-system, bad-subject, bad-action, bad-resource, not-compiled, none-wrong, RefusedRightly, OneRefusal}
 use Rattle.sheets.specs.declared.Answer.{Answer}
 use Rattle.sheets.specs.declared.Answer.the-variants.{Listed, Refused}
 

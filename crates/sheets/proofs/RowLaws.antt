@@ -1,11 +1,11 @@
 -- The row at which a page stands: its choices and their places, its decision, and the next row. Assumes nothing.
 use mathlib.Core.Path.{_≡_, refl, sym, ap, _∙_}
 use mathlib.Core.Bool.{Bool, true, false, cond}
-use mathlib.Core.List.{List, [], _∷_}
-use Prim.Native.Nat.{ℕ, zero, suc, _+_, _-_, _%_, _≤_, _<_}
+use mathlib.Core.List.{List, []}
+use Prim.Native.Nat.{ℕ, _+_, _%_, _≤_, _<_}
 use native.Mathlib.Nat.{mod-lt, mod-eq-of-lt}
 use native.Mathlib.Omega.{arith}
-use borrow.Author.Tests.{lt-ltb, le-ltb, ltb-true, ltb-false}
+use borrow.Author.Tests.{lt-ltb, ltb-true}
 use lib.Dec.{ltb}
 use lib.ListN.{length, getD}
 use Rattle.grammar.specs.Policies.{Policy}
@@ -13,7 +13,7 @@ use Rattle.bags.specs.Reading.{many}
 use Rattle.bags.specs.declared.After.the-variants.{At}
 use Rattle.bags.specs.declared.sections.Sections.{Sections}
 use Rattle.questions.specs.Columns.{columnEnd}
-use Rattle.questions.specs.Questions.{Question, cell, product, rowsOf}
+use Rattle.questions.specs.Questions.{cell, product, rowsOf}
 use Rattle.questions.proofs.PlaceLaws.{firstOf}
 use Rattle.stored.specs.ReadBack.{policiesAt}
 use Rattle.views.specs.Meaning.{View, look}
@@ -21,15 +21,14 @@ use Rattle.views.specs.Rows.{rowView, Stands, bagOfRow, Chooses}
 use Rattle.views.proofs.RowLaws.{row-stands, row-shows}
 use Rattle.meaning.specs.Targets.{Request, isSystem}
 use Rattle.meaning.specs.Decisions.{decisionOf, policiesDecide, policyOf, Numbered, first, later, Names, the-system, a-forbid, a-permit, none-named, NamedRightly}
-use Rattle.meaning.specs.declared.Decision.{Decision}
 use Rattle.meaning.specs.declared.Decision.the-variants.{System}
 use Rattle.meaning.proofs.Deciding.{named-rightly}
 use Rattle.pages.specs.Rows.{countsOf, Combination, rowOf, choicesAt, countsBy, Few, Picked, Placed, Moved}
 use Rattle.pages.proofs.Combinations.{choices-combine, row-of-choices, choice-below}
 use Rattle.pages.proofs.Digits.{counts-length, count-is, rows-some}
 use Rattle.pages.proofs.SixColumns.{rows-are, row-chooses, lasts-few, six-rows, six-choices}
-use Rattle.sheets.specs.Sheets.{columnsIn, firstIn, rowsIn, decisionBy, decisionAt}
-use Rattle.sheets.specs.Asked.{Asked, Readable, Decidable, Laid}
+use Rattle.sheets.specs.Sheets.{columnsIn, firstIn, decisionBy, decisionAt}
+use Rattle.sheets.specs.Asked.{Asked, Decidable, Laid}
 
 -- ---- the row at which the choices stand
 

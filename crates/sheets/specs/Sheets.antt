@@ -1,6 +1,6 @@
 -- What the sheet's call answers and leaves in the sheet, as functions of all that it is given (document 01, 'The sheet' and 'Refusal numbers'). Definitions only.
 use mathlib.Core.Path.{_≡_}
-use mathlib.Core.Bool.{Bool, cond}
+use mathlib.Core.Bool.{cond}
 use mathlib.Core.List.{List, _++_}
 use Prim.Native.Nat.{ℕ, zero, suc, _+_}
 use lib.Dec.{leb}

@@ -1,19 +1,14 @@
 use Rattle.sheets.proofs.writing.row_decision.Statement.{statement}
 use Rattle.sheets.proofs.writing.row_decision.Tie as tie
-use Rattle.sheets.proofs.writing.row_decision.Reads as reads
-use Rattle.sheets.proofs.writing.row_decision.Lts as lts
 
--- src/writing.rt:52:9
 returns : tie.Need-returns
 returns c = simp (c .if1 .taken)
 
--- src/writing.rt:54:5
 decision-requires : tie.Need-decision-requires
 decision-requires c κs =
     let r = c .before .before .before .before .before .before .before .pre .1 .others (c .if1 .left) in
     (r .ready, (r .many, (c .before .before .before .before .before .before .before .pre .0, (r .subject-sort-is, r .resource-sort-is))))
 
--- src/writing.rt:29:1
 returns-2 : tie.Need-returns-2
 returns-2 c = simp (c .before .if1 .left) (c .decision .ensures)
 

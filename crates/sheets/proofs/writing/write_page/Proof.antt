@@ -1,41 +1,28 @@
 use Rattle.pages.proofs.SixColumns.{heads-counted}
-use mathlib.Core.Path.{_≡_, refl}
+use mathlib.Core.Path.{refl}
 use native.Mathlib.Omega.{arith}
 use borrow.Author.Needs.{needs}
 use Rattle.sheets.proofs.writing.write_page.Statement.{statement}
 use Rattle.sheets.proofs.writing.write_page.Tie as tie
-use Rattle.sheets.proofs.writing.write_page.Reads as reads
-use Rattle.sheets.proofs.writing.write_page.Lts as lts
-use Rattle.pages.proofs.rows.lasts.Reads as lasts-reads
-use Rattle.questions.proofs.places.heads.Reads as heads-reads
-use Rattle.questions.proofs.places.places.Reads as places-reads
-use Rattle.sheets.proofs.writing.write_rows.Reads as write-rows-reads
 
--- src/writing.rt:166:13
 shared-slice-read-n : tie.Need-shared-slice-read-n
 shared-slice-read-n c = c .before .before .before .before .before .before .before .before .pre .0 .question .counted
 
--- src/writing.rt:166:13
 cast-n : tie.Need-cast-n
 cast-n c = omega (arith, c .before .before .before .before .before .before .before .before .pre .0 .question .few)
 
--- src/writing.rt:167:17
 add-first : tie.Need-add-first
 add-first c = omega (arith, c .before .before .before .before .before .before .before .before .pre .0 .question .counted)
 
--- src/writing.rt:168:18
 heads-requires : tie.Need-heads-requires
 heads-requires c κs = (c .before .before .before .before .before .before .before .before .pre .0 .question .few, (c .before .before .before .before .before .before .before .before .pre .0 .question .last, c .before .before .before .before .before .before .before .before .pre .0 .question .columns))
 
--- src/writing.rt:169:9
 places-requires : tie.Need-places-requires
 places-requires c κs = (c .before .before .before .before .before .before .before .before .before .pre .0 .question .few, (c .before .before .before .before .before .before .before .before .before .pre .0 .question .last, c .before .before .before .before .before .before .before .before .before .pre .0 .question .columns))
 
--- src/writing.rt:170:16
 lasts-requires : tie.Need-lasts-requires
 lasts-requires c κs = heads-counted _ _ _ _ (c .before .before .before .before .before .before .before .before .before .before .before .pre .0 .question .few) (c .before .before .before .before .before .before .before .before .before .before .before .pre .0 .question .columns) _ (c .before .before .heads .ensures)
 
--- src/writing.rt:171:5
 write-rows-requires : tie.Need-write-rows-requires
 write-rows-requires c κs = record {
   asked = c .before .before .before .before .before .before .before .before .before .before .before .before .before .before .before .pre .0;
@@ -43,11 +30,6 @@ write-rows-requires c κs = record {
   decidable = c .before .before .before .before .before .before .before .before .before .before .before .before .before .before .before .pre .1;
 }
 
--- src/writing.rt:143:1
-same-length : tie.Need-same-length
-same-length c = search needs
-
--- src/writing.rt:143:1
 returns : tie.Need-returns
 returns c = c .before .before .write-rows .ensures
 
@@ -62,5 +44,5 @@ write-page-spec =
     places-requires
     lasts-requires
     write-rows-requires
-    same-length
+    (λ c. search needs)
     returns)

@@ -10,18 +10,10 @@ use Rattle.stored.specs.ReadBack.{policiesAt}
 use lib.ListN.{length, length-drop, length-take}
 use denote.Ref.{now}
 use native.Mathlib.Omega.{arith}
-use Prim.Native.Nat.{ℕ, _≤_, _<_, _*_, _+_, _-_}
+use Prim.Native.Nat.{ℕ, _≤_, _*_, _+_, _-_}
 use mathlib.Core.Path.{_≡_, refl, sym, ap, _∙_}
 use Rattle.sheets.proofs.writing.write_rows.Statement.{statement}
 use Rattle.sheets.proofs.writing.write_rows.Tie as tie
-use Rattle.sheets.proofs.writing.write_rows.Reads as reads
-use Rattle.sheets.proofs.writing.write_rows.Lts as lts
-use Rattle.pages.proofs.listing.is_allowed.Reads as is-allowed-reads
-use Rattle.pages.proofs.listing.put_row.Reads as put-row-reads
-use Rattle.pages.proofs.rows.choices_of.Reads as choices-of-reads
-use Rattle.pages.proofs.rows.step.Reads as step-reads
-use Rattle.sheets.proofs.writing.row_decision.Reads as row-decision-reads
-use Rattle.views.proofs.chosen.Reads as chosen-reads
 
 abbrev Inv-loop : tie.InvT-loop
 Inv-loop system text table policies entries s p n starts ends subject subject-sort action resource resource-sort all start part₀ grid choices₀ values₀ written₀ at₀ row₀ part choices values written at row =
@@ -34,7 +26,6 @@ abbrev μ-loop : tie.MeasureT-loop
 μ-loop system text table policies entries s p n starts ends subject subject-sort action resource resource-sort all start part₀ grid choices₀ values₀ written₀ at₀ row₀ part choices values written at row =
     all - row
 
--- src/writing.rt:98:23
 abbrev D : tie.At-loop Inv-loop μ-loop → ℕ → Decision
 D c = decisionAt (c .before .before .before .before .before .before .before .before .before .before .before .args .text .now) (c .before .before .before .before .before .before .before .before .before .before .before .args .s .now) (c .before .before .before .before .before .before .before .before .before .before .before .args .p) (request (c .before .before .before .before .before .before .before .before .before .before .before .args .subject .now) (c .before .before .before .before .before .before .before .before .before .before .before .args .action .now) (c .before .before .before .before .before .before .before .before .before .before .before .args .resource .now)) (policiesAt (c .before .before .before .before .before .before .before .before .before .before .before .args .table .now) (c .before .before .before .before .before .before .before .before .before .before .before .args .entries))
 
@@ -49,71 +40,24 @@ answer c = c .is-allowed .ensures ∙ ap isAllowed (decided (c .before .before .
 choices-of-requires : tie.Need-choices-of-requires Inv-loop μ-loop
 choices-of-requires c κs = ends-few (c .before .before .before .before .before .before .before .pre .asked) (c .before .before .before .before .before .before .before .pre .laid)
 
--- src/writing.rt:99:22
 chosen-requires : tie.Need-chosen-requires Inv-loop μ-loop
 chosen-requires c κs = (omega arith, λ i h. choices-small _ _ _ (c .before .choices-of .ensures) (ends-few (c .before .before .before .before .before .before .before .before .before .pre .asked) (c .before .before .before .before .before .before .before .before .before .pre .laid)) i h)
 
--- src/writing.rt:103:5
 loop-holds : tie.Need-loop-holds Inv-loop μ-loop
 loop-holds c = (c .before .before .before .before .before .before .before .before .before .before .pre .asked .few, c .before .before .before .before .before .before .before .before .before .before .pre .asked .within, omega arith, refl, refl, stands-first (c .before .before .choices-of .ensures) (omega arith) (c .chosen .ensures), begun _ _ _)
 
--- src/writing.rt:105:13
 row-decision-requires : tie.Need-row-decision-requires Inv-loop μ-loop
 row-decision-requires c κs = (stands-there (c .before .before .before .before .before .before .before .before .before .before .before .before .before .pre .asked) (c .before .before .before .before .before .before .before .before .before .before .before .before .before .pre .laid) (c .before .loop-test .taken) (c .before .before .loop .inv .5), c .before .before .before .before .before .before .before .before .before .before .before .before .before .pre .decidable)
 
--- src/writing.rt:122:9
 step-requires : tie.Need-step-requires Inv-loop μ-loop
 step-requires c κs = placed-there (ends-few (c .before .before .before .before .before .before .before .before .before .before .before .before .before .before .before .before .before .pre .asked) (c .before .before .before .before .before .before .before .before .before .before .before .before .before .before .before .before .before .pre .laid)) (c .before .before .before .before .before .before .loop .inv .5)
 
--- src/writing.rt:123:9
-add-row : tie.Need-add-row Inv-loop μ-loop
-add-row c = omega arith
-
--- src/writing.rt:124:12
-is-allowed-requires : tie.Need-is-allowed-requires Inv-loop μ-loop
-is-allowed-requires c κs = search needs
-
--- src/writing.rt:125:16
-sub-if2 : tie.Need-sub-if2 Inv-loop μ-loop
-sub-if2 c = omega arith
-
--- src/writing.rt:126:17
-same-length : tie.Need-same-length Inv-loop μ-loop
-same-length c = search needs
-
--- src/writing.rt:126:17
 returns : tie.Need-returns Inv-loop μ-loop
 returns c = turn-full _ _ _ _ _ _ _ (c .before .before .before .before .before .before .before .before .before .loop-test .taken) (c .before .before .before .before .before .before .before .before .before .before .loop .inv .6) (sym (answer (c .before .before)) ∙ c .before .if1 .taken) (omega arith)
 
--- src/writing.rt:131:21
-sub-put-row : tie.Need-sub-put-row Inv-loop μ-loop
-sub-put-row c = omega arith
-
--- src/writing.rt:131:21
-part-put-row-start : tie.Need-part-put-row-start Inv-loop μ-loop
-part-put-row-start c = omega arith
-
--- src/writing.rt:131:21
-part-put-row-end : tie.Need-part-put-row-end Inv-loop μ-loop
-part-put-row-end c = omega arith
-
--- src/writing.rt:131:13
 put-row-requires : tie.Need-put-row-requires Inv-loop μ-loop
 put-row-requires c κs = (simp (length-take, length-drop) (omega arith), rw (decided (c .before .before .before .before .before .before .before .before)) (policy-fits (c .before .before .before .before .before .before .before .before .before .before .before .before .before .before .before .before .before .before .before .before .before .before .pre .decidable) _ _ _ _))
 
--- src/writing.rt:132:13
-add-at : tie.Need-add-at Inv-loop μ-loop
-add-at c = omega arith
-
--- src/writing.rt:133:13
-add-written : tie.Need-add-written Inv-loop μ-loop
-add-written c = omega arith
-
--- src/writing.rt:103:5
-loop-less : tie.Need-loop-less Inv-loop μ-loop
-loop-less c = omega arith
-
--- src/writing.rt:103:5
 next-row : (c : tie.After-step Inv-loop μ-loop) → Standing (c .before .before .before .before .before .before .before .before .before .before .before .before .before .before .before .before .before .before .args .t10) (c .before .before .before .before .before .before .before .before .before .before .before .before .before .before .before .before .before .before .args .ends .now) (c .step .last .1 .1 .0) (c .step .last .1 .1 .1 .0) (c .before .before .before .before .before .before .before .loop .row + 1)
 next-row c = stands-next (rw (as-many-rows (c .before .before .before .before .before .before .before .before .before .before .before .before .before .before .before .before .before .before .pre .asked) (c .before .before .before .before .before .before .before .before .before .before .before .before .before .before .before .before .before .before .pre .laid)) (c .before .before .before .before .before .before .loop-test .taken)) (c .before .before .before .before .before .before .before .loop .inv .5) (c .step .ensures)
 
@@ -130,11 +74,6 @@ loop-again c =
       turn-yes _ _ _ _ _ _ _ (c .before .before .before .before .before .before .before .before .before .before .before .before .before .loop-test .taken) (inv .6) (sym (answer (c .before .before .before .before .before .before)) ∙ c .before .before .before .before .before .if1 .taken) (l .loop .at) (inv .3) (omega arith) (c .before .before .put-row .last .0) (rw (← decided (c .before .before .before .before .before .before .before .before .before .before .before)) (c .before .before .put-row .ensures)),
     )
 
--- src/writing.rt:103:5
-loop-less-2 : tie.Need-loop-less-2 Inv-loop μ-loop
-loop-less-2 c = omega arith
-
--- src/writing.rt:103:5
 loop-again-2 : tie.Need-loop-again-2 Inv-loop μ-loop
 loop-again-2 c =
     let l = c .before .before .before .before .before .before .before .before .before in
@@ -148,11 +87,6 @@ loop-again-2 c =
       turn-no _ _ _ _ _ _ _ (c .before .before .before .before .before .before .before .before .loop-test .taken) (inv .6) (sym (answer (c .before)) ∙ c .if1 .left),
     )
 
--- src/writing.rt:73:1
-same-length-2 : tie.Need-same-length-2 Inv-loop μ-loop
-same-length-2 c = search needs
-
--- src/writing.rt:73:1
 returns-2 : tie.Need-returns-2 Inv-loop μ-loop
 returns-2 c = turn-none _ _ _ _ _ _ _ (omega arith) (c .before .loop .inv .6)
 
@@ -167,20 +101,20 @@ write-rows-spec =
     loop-holds
     row-decision-requires
     step-requires
-    add-row
-    is-allowed-requires
-    sub-if2
-    same-length
+    (λ c. omega arith)
+    (λ c κs. search needs)
+    (λ c. omega arith)
+    (λ c. search needs)
     returns
-    sub-put-row
-    part-put-row-start
-    part-put-row-end
+    (λ c. omega arith)
+    (λ c. omega arith)
+    (λ c. omega arith)
     put-row-requires
-    add-at
-    add-written
-    loop-less
+    (λ c. omega arith)
+    (λ c. omega arith)
+    (λ c. omega arith)
     loop-again
-    loop-less-2
+    (λ c. omega arith)
     loop-again-2
-    same-length-2
+    (λ c. search needs)
     returns-2)
