@@ -21,8 +21,8 @@ use Rattle.pages.specs.Pages.{Written, nothing, page}
 use Rattle.pages.proofs.Combinations.{row-below, choices-of-row, choices-combine, row-of-choices, first-slowest}
 use Rattle.pages.proofs.Progress.{bytes-length}
 use Rattle.pages.proofs.Listed.{next-within, next-past, lists-yes, list-ascends, lists-combinations, all-written}
-use Rattle.sheets.specs.Sheets.{sectionsIn, decisionBy, decisions, rowsAsked, requestRefusal, refusalOf, unless, listedOn, writtenOver, answerOf, sheetAfter}
-use Rattle.sheets.specs.Promise.{countsAsked, ListsExactly, ListedRightly, OneRow, Ascends, FirstSlowest, Called, no-call, call, PagesJoined, GoesOn, OthersStay, OneResult, NothingChanged, numberOf, Wellasked, Wellformed, Refusal, no-room, no-question, above, never-the-system, bad-subject, bad-action, bad-resource, not-compiled, none-wrong, RefusedRightly, OneRefusal}
+use Rattle.sheets.specs.Sheets.{sectionsIn, decisionBy, decisions, rowsAsked, requestRefusal, refusalOf, unless, writtenOver, answerOf, sheetAfter, Said, saidOf, saidTo}
+use Rattle.sheets.specs.Promise.{countsAsked, ListsExactly, ListedRightly, OneRow, Ascends, FirstSlowest, Called, no-call, call, PagesJoined, GoesOn, OthersStay, OneResult, NothingChanged, Wellasked, Wellformed, Refusal, no-room, no-question, above, never-the-system, bad-subject, bad-action, bad-resource, not-compiled, none-wrong, RefusedRightly, OneRefusal}
 use Rattle.sheets.specs.declared.Answer.{Answer}
 use Rattle.sheets.specs.declared.Answer.the-variants.{Listed, Refused}
 
@@ -63,15 +63,10 @@ slowest-first n c c′ ns cs cs′ ok h = first-slowest n c c′ cs′ ok h
 
 -- ---- a call that lists
 
-listed-when : (n : ℕ) (answer : Answer) (written next : ℕ) → unless n answer Refused ≡ Listed written next → (n ≡ 0) × (answer ≡ Listed written next)
-unfolding unless
-listed-when zero answer written next e = (refl, e)
-listed-when (suc n) answer written next e = absurd (let z : _≡_ {A = ℕ} 0 1 = cc in omega arith)
-
-refused-when : (n : ℕ) (w o : ℕ) (number : ℕ) → unless n (Listed w o) Refused ≡ Refused number → (k : ℕ) × (n ≡ suc k)
-unfolding unless
-refused-when zero w o number e = absurd (let z : _≡_ {A = ℕ} 0 1 = cc in omega arith)
-refused-when (suc n) w o number e = (n, refl)
+none-refused : (n w o : ℕ) → saidOf (unless n (Listed w o) Refused) .refusal ≡ 0 → n ≡ 0
+unfolding unless saidOf
+none-refused zero w o e = refl
+none-refused (suc n) w o e = e
 
 tests-pass : (a b c : Bool) (n : ℕ) → cond a (cond b (cond c n 26) 24) 25 ≡ 0 → (a ≡ true) × (b ≡ true) × (c ≡ true)
 tests-pass true true true n e = (refl, refl, refl)
@@ -79,32 +74,37 @@ tests-pass true true false n e = absurd (let z : _≡_ {A = ℕ} 26 0 = e in ome
 tests-pass true false c n e = absurd (let z : _≡_ {A = ℕ} 24 0 = e in omega arith)
 tests-pass false b c n e = absurd (let z : _≡_ {A = ℕ} 25 0 = e in omega arith)
 
-module _ (text table s : List ℕ) (q : Request) (start : ℕ) (sheet : List ℕ) (at written next : ℕ) (e : answerOf text table s q start sheet at ≡ Listed written next) where
+module _ (text table s : List ℕ) (q : Request) (start : ℕ) (sheet : List ℕ) (at : ℕ) (e : saidTo text table s q start sheet at .refusal ≡ 0) where
   abbrev d : ℕ → Decision
   d = decisions text s q
 
   abbrev room : ℕ
   room = roomIn (drop at sheet)
 
-  accepted : (refusalOf text table s q start sheet at ≡ 0) × (listedOn d (rowsAsked s) start (drop at sheet) ≡ Listed written next)
+  abbrev said : Said
+  said = saidTo text table s q start sheet at
+
+  accepted : refusalOf text table s q start sheet at ≡ 0
   unfolding answerOf
-  accepted = listed-when (refusalOf text table s q start sheet at) (listedOn d (rowsAsked s) start (drop at sheet)) written next e
+  accepted = none-refused (refusalOf text table s q start sheet at) (length (pageRows d (rowsAsked s) start room)) (nextRow d (rowsAsked s) start room) e
 
   passed : (at + rowSize ≤ length sheet) × (start ≤ rowsAsked s)
   unfolding refusalOf
   passed =
-      let t = tests-pass (leb (at + rowSize) (length sheet)) (isQuestion s) (leb start (rowsAsked s)) (requestRefusal text table q) (accepted .0) in
+      let t = tests-pass (leb (at + rowSize) (length sheet)) (isQuestion s) (leb start (rowsAsked s)) (requestRefusal text table q) accepted in
       (leb-true (at + rowSize) (length sheet) (t .0), leb-true start (rowsAsked s) (t .2))
 
-  written-is : length (pageRows d (rowsAsked s) start room) ≡ written
-  written-is = let h = accepted .1 in cc
+  written-is : length (pageRows d (rowsAsked s) start room) ≡ said .written
+  unfolding answerOf unless saidOf
+  written-is = rw accepted
 
-  next-is : nextRow d (rowsAsked s) start room ≡ next
-  next-is = let h = accepted .1 in cc
+  next-is : nextRow d (rowsAsked s) start room ≡ said .next
+  unfolding answerOf unless saidOf
+  next-is = rw accepted
 
   after-is : sheetAfter text table s q start sheet at ≡ take at sheet ++ writtenOver d (rowsAsked s) start (drop at sheet)
   unfolding sheetAfter unless
-  after-is = rw (accepted .0)
+  after-is = rw accepted
 
   front : length (take at sheet) ≡ at
   front = length-take-le at sheet (omega (arith, passed .0))
@@ -113,42 +113,42 @@ module _ (text table s : List ℕ) (q : Request) (start : ℕ) (sheet : List ℕ
   part-is = rw after-is (drop-at (take at sheet) (writtenOver d (rowsAsked s) start (drop at sheet)) at front)
 
   -- the page on the part
-  page-written : PageWritten d (rowsAsked s) start (drop at sheet) (record { written = written; next = next }) (drop at (sheetAfter text table s q start sheet at))
+  page-written : PageWritten d (rowsAsked s) start (drop at sheet) (record { written = said .written; next = said .next }) (drop at (sheetAfter text table s q start sheet at))
   page-written = record { written = sym written-is; next = sym next-is; bytes = part-is }
 
-  gets-on : (start < rowsAsked s → start < next) × (next ≤ rowsAsked s)
+  gets-on : (start < rowsAsked s → start < said .next) × (said .next ≤ rowsAsked s)
   gets-on =
       let some : 1 ≤ room = omega (arith, passed .0, length-drop at sheet) in
       rw (← next-is) (λ h. next-past d (rowsAsked s) start room h some, next-within d (rowsAsked s) start room (passed .1))
 
-  bytes-long : length (bytesOf d (pageRows d (rowsAsked s) start room)) ≡ rowSize * written
+  bytes-long : length (bytesOf d (pageRows d (rowsAsked s) start room)) ≡ rowSize * said .written
   bytes-long = bytes-length d (pageRows d (rowsAsked s) start room) ∙ ap (λ (n : ℕ). rowSize * n) written-is
 
   others-there : (take at (sheetAfter text table s q start sheet at) ≡ take at sheet)
-      × (drop (at + rowSize * written) (sheetAfter text table s q start sheet at) ≡ drop (at + rowSize * written) sheet)
+      × (drop (at + rowSize * said .written) (sheetAfter text table s q start sheet at) ≡ drop (at + rowSize * said .written) sheet)
   others-there =
       let bytes = bytesOf d (pageRows d (rowsAsked s) start room) in (
         rw after-is (take-at (take at sheet) (writtenOver d (rowsAsked s) start (drop at sheet)) at front),
-        sym (drop-drop (rowSize * written) at (sheetAfter text table s q start sheet at)) ∙ ap (drop (rowSize * written)) part-is
-        ∙ drop-at bytes (drop (length bytes) (drop at sheet)) (rowSize * written) bytes-long ∙ ap (λ (n : ℕ). drop n (drop at sheet)) bytes-long ∙ drop-drop (rowSize * written) at sheet,
+        sym (drop-drop (rowSize * said .written) at (sheetAfter text table s q start sheet at)) ∙ ap (drop (rowSize * said .written)) part-is
+        ∙ drop-at bytes (drop (length bytes) (drop at sheet)) (rowSize * said .written) bytes-long ∙ ap (λ (n : ℕ). drop n (drop at sheet)) bytes-long ∙ drop-drop (rowSize * said .written) at sheet,
       )
 
 -- ---- demand 3: the pages
 
 pub goes-on : GoesOn
 unfolding GoesOn
-goes-on text table s q start at written next sheet e = gets-on text table s q start sheet at written next e
+goes-on text table s q start at sheet e = gets-on text table s q start sheet at e
 
 pub others-stay : OthersStay
 unfolding OthersStay
-others-stay text table s q start at written next sheet e = others-there text table s q start sheet at written next e
+others-stay text table s q start at sheet e = others-there text table s q start sheet at e
 
 as-written : {text table s : List ℕ} {q : Request} {start last : ℕ} {bytes : List ℕ} → Called text table s q start bytes last → Written (decisions text s q) (rowsAsked s) start bytes last
 as-written no-call = nothing
-as-written {text} {table} {s} {q} (call {start = start} {at = at} {written = written} {next = next} {before = before} {after = after} l more) =
-    let e = sym (l .answered) in
-    let w = page-written text table s q start before at written next e in
-    page (passed text table s q start before at written next e .1) (rw (← l .sheet) at w) (as-written more)
+as-written {text} {table} {s} {q} (call {start = start} {at = at} {before = before} {answer = answer} l e more) =
+    let e′ : saidTo text table s q start before at .refusal ≡ 0 = rw (l .answered) at e in
+    let w = page-written text table s q start before at e′ in
+    page {p = record { written = saidOf answer .written; next = saidOf answer .next }} (passed text table s q start before at e′ .1) (rw (← l .sheet, ← l .answered) at w) (as-written more)
 
 pub pages-joined : PagesJoined
 unfolding PagesJoined
@@ -160,16 +160,19 @@ pub one-result : OneResult
 unfolding OneResult
 one-result text table s q start before at answer answer′ after after′ a b = (a .answered ∙ sym (b .answered), a .sheet ∙ sym (b .sheet))
 
-pub nothing-changed : NothingChanged
-unfolding NothingChanged answerOf sheetAfter unless
-nothing-changed text table s q start sheet at number e =
-    let d = decisions text s q in
-    let part = drop at sheet in
-    let r = refused-when (refusalOf text table s q start sheet at) (length (pageRows d (rowsAsked s) start (roomIn part))) (nextRow d (rowsAsked s) start (roomIn part)) number e in
-    rw (r .1)
+-- with a refusal
+refused-as-told : {A : Type 0} (n w o : ℕ) (a b : A) → (saidOf (unless n (Listed w o) Refused) .refusal ≡ 0 → ⊥)
+    → (unless n a (λ _. b) ≡ b) × (saidOf (unless n (Listed w o) Refused) .written ≡ 0) × (saidOf (unless n (Listed w o) Refused) .next ≡ 0)
+unfolding unless saidOf
+refused-as-told zero w o a b h = absurd (h refl)
+refused-as-told (suc n) w o a b h = (refl, refl, refl)
 
-number-is : (n w o : ℕ) → numberOf (unless n (Listed w o) Refused) ≡ n
-unfolding numberOf unless
+pub nothing-changed : NothingChanged
+unfolding NothingChanged answerOf sheetAfter
+nothing-changed text table s q start sheet at h = refused-as-told (refusalOf text table s q start sheet at) _ _ _ sheet h
+
+number-is : (n w o : ℕ) → saidOf (unless n (Listed w o) Refused) .refusal ≡ n
+unfolding saidOf unless
 number-is zero w o = refl
 number-is (suc n) w o = refl
 

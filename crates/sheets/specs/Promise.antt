@@ -12,9 +12,8 @@ use Rattle.meaning.specs.Decisions.{isAllowed}
 use Rattle.deciding.specs.Answers.{policiesOf}
 use Rattle.pages.specs.Rows.{Combination, rowOf, choicesAt}
 use Rattle.pages.specs.Listing.{listed, rowSize, bytesOf}
-use Rattle.sheets.specs.Sheets.{countsIn, sectionsIn, decisionBy, decisions, rowsAsked, answerOf, sheetAfter, SheetListed}
+use Rattle.sheets.specs.Sheets.{countsIn, sectionsIn, decisionBy, decisions, rowsAsked, sheetAfter, SheetListed, saidOf, saidTo}
 use Rattle.sheets.specs.declared.Answer.{Answer}
-use Rattle.sheets.specs.declared.Answer.the-variants.{Listed, Refused}
 
 -- the counts of a question's columns, and what is decided where its columns have these choices
 abbrev pub countsAsked : List ℕ → List ℕ
@@ -64,8 +63,8 @@ FirstSlowest = (n c c′ : ℕ) (ns cs cs′ : List ℕ) → Combination ns cs �
 -- Each call may lend another sheet and name another byte of it.
 pub data Called (text table s : List ℕ) (q : Request) : ℕ → List ℕ → ℕ → Type 0 where
   no-call : {start : ℕ} → Called text table s q start [] start
-  call : {start at written next last : ℕ} {before after bytes : List ℕ} → SheetListed text table s q start before at (Listed written next) after
-      → Called text table s q next bytes last → Called text table s q start (take (rowSize * written) (drop at after) ++ bytes) last
+  call : {start at last : ℕ} {before after bytes : List ℕ} {answer : Answer} → SheetListed text table s q start before at answer after → saidOf answer .refusal ≡ 0
+      → Called text table s q (saidOf answer .next) bytes last → Called text table s q start (take (rowSize * saidOf answer .written) (drop at after) ++ bytes) last
 
 -- Joined from any start row to the last row, pages of whatever sizes are the list from that row on: row, outcome and policy of each.
 unfoldable pub PagesJoined : Type 0
@@ -74,14 +73,14 @@ PagesJoined = (text table s : List ℕ) (q : Request) (start : ℕ) (bytes : Lis
 
 -- Whoever follows the pages gets on.
 unfoldable pub GoesOn : Type 0
-GoesOn = (text table s : List ℕ) (q : Request) (start at written next : ℕ) (sheet : List ℕ) → answerOf text table s q start sheet at ≡ Listed written next
-    → (start < rowsAsked s → start < next) × (next ≤ rowsAsked s)
+GoesOn = (text table s : List ℕ) (q : Request) (start at : ℕ) (sheet : List ℕ) → saidTo text table s q start sheet at .refusal ≡ 0
+    → (start < rowsAsked s → start < saidTo text table s q start sheet at .next) × (saidTo text table s q start sheet at .next ≤ rowsAsked s)
 
 -- All bytes but the rows written stay.
 unfoldable pub OthersStay : Type 0
-OthersStay = (text table s : List ℕ) (q : Request) (start at written next : ℕ) (sheet : List ℕ) → answerOf text table s q start sheet at ≡ Listed written next
+OthersStay = (text table s : List ℕ) (q : Request) (start at : ℕ) (sheet : List ℕ) → saidTo text table s q start sheet at .refusal ≡ 0
     → (take at (sheetAfter text table s q start sheet at) ≡ take at sheet)
-    × (drop (at + rowSize * written) (sheetAfter text table s q start sheet at) ≡ drop (at + rowSize * written) sheet)
+    × (drop (at + rowSize * saidTo text table s q start sheet at .written) (sheetAfter text table s q start sheet at) ≡ drop (at + rowSize * saidTo text table s q start sheet at .written) sheet)
 
 -- ---- one result, and the refusals
 
@@ -90,15 +89,10 @@ unfoldable pub OneResult : Type 0
 OneResult = (text table s : List ℕ) (q : Request) (start : ℕ) (before : List ℕ) (at : ℕ) (answer answer′ : Answer) (after after′ : List ℕ)
     → SheetListed text table s q start before at answer after → SheetListed text table s q start before at answer′ after′ → (answer ≡ answer′) × (after ≡ after′)
 
--- A refusal changes nothing.
+-- A refusal changes nothing, and has zeros beside its number.
 unfoldable pub NothingChanged : Type 0
-NothingChanged = (text table s : List ℕ) (q : Request) (start : ℕ) (sheet : List ℕ) (at number : ℕ) → answerOf text table s q start sheet at ≡ Refused number
-    → sheetAfter text table s q start sheet at ≡ sheet
-
--- the refusal number of an answer, and 0 where it has none
-unfoldable pub numberOf : Answer → ℕ
-numberOf (Listed written next) = 0
-numberOf (Refused number) = number
+NothingChanged = (text table s : List ℕ) (q : Request) (start : ℕ) (sheet : List ℕ) (at : ℕ) → (saidTo text table s q start sheet at .refusal ≡ 0 → ⊥)
+    → (sheetAfter text table s q start sheet at ≡ sheet) × (saidTo text table s q start sheet at .written ≡ 0) × (saidTo text table s q start sheet at .next ≡ 0)
 
 -- nothing is wrong with the sheet, the question and the start row
 pub record Wellasked (s : List ℕ) (start : ℕ) (sheet : List ℕ) (at : ℕ) : Type 0 where
@@ -128,7 +122,7 @@ pub data Refusal (text table s : List ℕ) (q : Request) (start : ℕ) (sheet : 
   none-wrong : Wellasked s start sheet at → Wellformed q → Begun text table → Refusal text table s q start sheet at 0
 
 unfoldable pub RefusedRightly : Type 0
-RefusedRightly = (text table s : List ℕ) (q : Request) (start : ℕ) (sheet : List ℕ) (at : ℕ) → Refusal text table s q start sheet at (numberOf (answerOf text table s q start sheet at))
+RefusedRightly = (text table s : List ℕ) (q : Request) (start : ℕ) (sheet : List ℕ) (at : ℕ) → Refusal text table s q start sheet at (saidTo text table s q start sheet at .refusal)
 
 -- So each refusal is given exactly there.
 unfoldable pub OneRefusal : Type 0

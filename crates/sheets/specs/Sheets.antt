@@ -110,3 +110,16 @@ sheetAfter text table s q start sheet at =
 pub record SheetListed (text table s : List ℕ) (q : Request) (start : ℕ) (before : List ℕ) (at : ℕ) (answer : Answer) (after : List ℕ) : Type 0 where
   pub answered : answer ≡ answerOf text table s q start before at
   pub sheet : after ≡ sheetAfter text table s q start before at
+
+-- what document 01 calls an answer: the refusal's number, the rows written and the row to go on with, with 0 for what there is none of
+pub record Said : Type 0 where
+  pub refusal : ℕ
+  pub written : ℕ
+  pub next : ℕ
+
+unfoldable pub saidOf : Answer → Said
+saidOf (Listed written next) = record { refusal = 0; written = written; next = next }
+saidOf (Refused number) = record { refusal = number; written = 0; next = 0 }
+
+abbrev pub saidTo : List ℕ → List ℕ → List ℕ → Request → ℕ → List ℕ → ℕ → Said
+saidTo text table s q start sheet at = saidOf (answerOf text table s q start sheet at)
