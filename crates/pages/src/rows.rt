@@ -42,12 +42,7 @@ pub fn choices_of(lasts: &[u8; 6], row: usize) -> [u8; 6]
 }
 
 // On to the next row: the last column that has a choice left takes it, and the columns after it begin anew. `values` are the places of what is chosen.
-pub fn step(
-    grid: &[[usize; 8]; 6],
-    lasts: &[u8; 6],
-    choices: &mut [u8; 6],
-    values: &mut [usize; 6],
-)
+pub fn step(grid: &[[usize; 8]; 6], lasts: &[u8; 6], choices: &mut [u8; 6], values: &mut [usize; 6])
     requires { ⌜ Placed (now grid) (now lasts) (now choices) (now values) ⌝ }
     ensures { λ _. ⌜ Moved (now (grid .entry)) (now (lasts .entry)) (now (choices .entry)) (now (choices .exit)) (now (values .exit)) ⌝ }
 {

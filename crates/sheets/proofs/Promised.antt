@@ -43,9 +43,9 @@ unfolding ListedRightly
 listed-rightly text s q start row form =
     let both = lists-yes (decisions text s q) (rowsAsked s) start row in (
       λ m.
-        let h = both .0 m in
-        let below : row < product (countsAsked s) = rw (rows-counted s) at (h .1) in
-        record { after-start = h .0; combination = choices-combine (countsAsked s) row below; its-row = row-of-choices (countsAsked s) row below; yes-there = h .2 },
+          let h = both .0 m in
+          let below : row < product (countsAsked s) = rw (rows-counted s) at (h .1) in
+          record { after-start = h .0; combination = choices-combine (countsAsked s) row below; its-row = row-of-choices (countsAsked s) row below; yes-there = h .2 },
       λ l. both .1 (l .after-start, rw (rows-counted s, ← l .its-row) (row-below (l .combination)), l .yes-there),
     )
 
@@ -130,7 +130,7 @@ module _ (text table s : List ℕ) (q : Request) (start : ℕ) (sheet : List ℕ
       let bytes = bytesOf d (pageRows d (rowsAsked s) start room) in (
         rw after-is (take-at (take at sheet) (writtenOver d (rowsAsked s) start (drop at sheet)) at front),
         sym (drop-drop (rowSize * said .written) at (sheetAfter text table s q start sheet at)) ∙ ap (drop (rowSize * said .written)) part-is
-        ∙ drop-at bytes (drop (length bytes) (drop at sheet)) (rowSize * said .written) bytes-long ∙ ap (λ (n : ℕ). drop n (drop at sheet)) bytes-long ∙ drop-drop (rowSize * said .written) at sheet,
+            ∙ drop-at bytes (drop (length bytes) (drop at sheet)) (rowSize * said .written) bytes-long ∙ ap (λ (n : ℕ). drop n (drop at sheet)) bytes-long ∙ drop-drop (rowSize * said .written) at sheet,
       )
 
 -- ---- demand 3: the pages

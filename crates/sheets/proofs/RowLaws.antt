@@ -119,7 +119,7 @@ module _ {s : List ℕ} {p : Sections} {all start n : ℕ} {starts ends : List �
     shows : rowView s p n starts values ≡ look (bagOfRow s p (columnsIn s p) (firstIn p) (choicesAt (countsOf (columnsIn s p) s (firstIn p)) row))
     shows =
         (λ i root path.
-          row-shows s p n (firstIn p) (asked .question .last) most columns chosen-row chooses starts values grid (laid .starts-are) (laid .grid-is) values-chosen root path i)
+        row-shows s p n (firstIn p) (asked .question .last) most columns chosen-row chooses starts values grid (laid .starts-are) (laid .grid-is) values-chosen root path i)
         ∙ ap (λ (n : ℕ). look (bagOfRow s p n (firstIn p) (choicesAt (countsOf n s (firstIn p)) row))) (laid .many)
 
     -- the row's decision

@@ -7,11 +7,11 @@ ghost use Rattle.targets.specs.Matching.{request};
 ghost use Rattle.sheets.specs.Sheets.{PartListed, SheetListed};
 ghost use Rattle.sheets.specs.Asked.{Asked};
 ghost use Rattle.sheets.specs.declared.Answer.the-variants.{Listed};
+use crate::writing::write_page;
 use bags::sections::Divided;
 use bags::sections::Sections;
 use compiling::Held;
 use compiling::held_policies;
-use crate::writing::write_page;
 use pages::Page;
 use questions::places::rows;
 use questions::question_sections;
@@ -54,7 +54,21 @@ fn page_for<'a>(
 {
     if is_system(subject) {
         return listed(write_page(
-            true, text, table, 0, 0, s, p, subject, 0, action, resource, 0, all, start, part,
+            true,
+            text,
+            table,
+            0,
+            0,
+            s,
+            p,
+            subject,
+            0,
+            action,
+            resource,
+            0,
+            all,
+            start,
+            part,
         ));
     }
     let subject_sort = subject_type(subject);
