@@ -23,7 +23,6 @@ use Rattle.pages.proofs.Progress.{bytes-length}
 use Rattle.pages.proofs.Listed.{next-within, next-past, lists-yes, list-ascends, lists-combinations, all-written}
 use Rattle.sheets.specs.Sheets.{sectionsIn, decisionBy, decisions, rowsAsked, requestRefusal, refusalOf, unless, writtenOver, answerOf, sheetAfter, Said, saidOf, saidTo}
 use Rattle.sheets.specs.Promise.{countsAsked, ListsExactly, ListedRightly, OneRow, Ascends, FirstSlowest, Called, no-call, call, PagesJoined, GoesOn, OthersStay, OneResult, NothingChanged, Wellasked, Wellformed, Refusal, no-room, no-question, above, never-the-system, bad-subject, bad-action, bad-resource, not-compiled, none-wrong, RefusedRightly, OneRefusal}
-use Rattle.sheets.specs.declared.Answer.{Answer}
 use Rattle.sheets.specs.declared.Answer.the-variants.{Listed, Refused}
 
 -- ---- demand 3: the list

@@ -2,7 +2,9 @@
 mod writing;
 
 ghost use mathlib.Core.Path.{_≡_};
+ghost use mathlib.Core.Bool.{false};
 ghost use Rattle.tokens.specs.Table.{classTable};
+ghost use Rattle.meaning.specs.Targets.{isSystem};
 ghost use Rattle.targets.specs.Matching.{request};
 ghost use Rattle.sheets.specs.Sheets.{PartListed, SheetListed};
 ghost use Rattle.sheets.specs.Asked.{Asked};
@@ -31,6 +33,59 @@ fn listed(page: Page) -> Answer
     ensures { λ r. ⌜ r ≡ Listed (page .written) (page .next) ⌝ }
 {
     Answer::Listed(page.written, page.next)
+}
+
+// A page for a subject that is not the system: first what may be wrong with the request, the text and its table.
+fn page_for_other<'a>(
+    classes: &[u8; 256],
+    text: &'a [u8],
+    table: &[u8],
+    s: &'a [u8],
+    p: Sections,
+    subject: &[u8],
+    action: &'a [u8],
+    resource: &[u8],
+    all: usize,
+    start: usize,
+    part: &mut [u8],
+) -> Answer
+    requires { ⌜ now classes ≡ classTable ⌝ }
+    requires { ⌜ Asked (now s) p all start ⌝ }
+    requires { ⌜ isSystem (now subject) ≡ false ⌝ }
+    ensures { λ r. ⌜ PartListed (now (text .entry)) (now (table .entry)) (now (s .entry)) p (request (now (subject .entry)) (now (action .entry)) (now (resource .entry)))
+        start (now (part .entry)) r (now (part .exit)) ⌝ }
+{
+    let subject_sort = subject_type(subject);
+    if subject_sort == 0 {
+        return Answer::Refused(21);
+    }
+    if !is_action(action) {
+        return Answer::Refused(22);
+    }
+    let resource_sort = resource_type(resource);
+    if resource_sort == 0 {
+        return Answer::Refused(23);
+    }
+    match held_policies(classes, text, table) {
+        Held::Wrong => Answer::Refused(20),
+        Held::Right(policies, entries) => listed(write_page(
+            false,
+            text,
+            table,
+            policies,
+            entries,
+            s,
+            p,
+            subject,
+            subject_sort,
+            action,
+            resource,
+            resource_sort,
+            all,
+            start,
+            part,
+        )),
+    }
 }
 
 // A page of a question with so many rows, for a start row that it has or that is their number, written over the start of the part.
@@ -71,37 +126,19 @@ fn page_for<'a>(
             part,
         ));
     }
-    let subject_sort = subject_type(subject);
-    if subject_sort == 0 {
-        return Answer::Refused(21);
-    }
-    if !is_action(action) {
-        return Answer::Refused(22);
-    }
-    let resource_sort = resource_type(resource);
-    if resource_sort == 0 {
-        return Answer::Refused(23);
-    }
-    match held_policies(classes, text, table) {
-        Held::Wrong => Answer::Refused(20),
-        Held::Right(policies, entries) => listed(write_page(
-            false,
-            text,
-            table,
-            policies,
-            entries,
-            s,
-            p,
-            subject,
-            subject_sort,
-            action,
-            resource,
-            resource_sort,
-            all,
-            start,
-            part,
-        )),
-    }
+    page_for_other(
+        classes,
+        text,
+        table,
+        s,
+        p,
+        subject,
+        action,
+        resource,
+        all,
+        start,
+        part,
+    )
 }
 
 // A page of the sheet, written into the part of the lent sheet from byte `at` on. All other bytes stay, and a refusal changes nothing.

@@ -1,3 +1,4 @@
+-- `sheets::sheet` meets its contract: a case for each refusal, and what is said of the part that is lent on. Assumes nothing.
 use Rattle.sheets.proofs.Cases.{refused-25, refused-24, refused-26, listed-there}
 use Rattle.questions.proofs.ColumnLaws.{question-divided, no-question, question-is}
 use mathlib.Core.Path.{sym, _∙_}

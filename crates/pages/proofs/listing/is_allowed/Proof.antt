@@ -1,3 +1,4 @@
+-- `pages::listing::is_allowed` meets its contract: by the decision. Assumes nothing.
 use Rattle.meaning.specs.Decisions.{isAllowed}
 use borrow.Author.Needs.{needs}
 use Rattle.pages.proofs.listing.is_allowed.Statement.{statement}

@@ -1,3 +1,4 @@
+-- `pages::listing::outcome` meets its contract: by the decision. Assumes nothing.
 use Rattle.meaning.specs.Decisions.{outcomeOf}
 use borrow.Author.Needs.{needs}
 use Rattle.pages.proofs.listing.outcome.Statement.{statement}

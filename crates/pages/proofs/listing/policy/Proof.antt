@@ -1,3 +1,4 @@
+-- `pages::listing::policy` meets its contract: by the decision. Assumes nothing.
 use native.Mathlib.Omega.{arith}
 use Rattle.meaning.specs.Decisions.{policyOf}
 use borrow.Author.Needs.{needs}

@@ -1,3 +1,4 @@
+-- `pages::listing::put_row` meets its contract: six stores, one after the other. Assumes nothing.
 use Rattle.pages.specs.Listing.{rowBytes}
 use denote.Ref.{now}
 use lib.Seq.{sets-eq}

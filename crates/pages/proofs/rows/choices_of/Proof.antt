@@ -1,3 +1,4 @@
+-- `pages::rows::choices_of` meets its contract: from k on `choices` has the digits of the row, and `rest` is what the columns before are to hold. Assumes nothing.
 use Rattle.pages.proofs.Digits.{counts-length, no-digits, Digits, more-digits}
 use Rattle.pages.specs.Rows.{countsBy}
 use lib.ListN.{length, getD, length-set, drop-of-length-le}

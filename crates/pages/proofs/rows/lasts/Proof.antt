@@ -1,3 +1,4 @@
+-- `pages::rows::lasts` meets its contract: the first `i` cells have their last choices, and the others 0. Assumes nothing.
 use Rattle.questions.specs.Columns.{countAt}
 use Rattle.questions.proofs.PlaceLaws.{firstOf, first-none, fill-more}
 use Rattle.questions.specs.Questions.{countOf}

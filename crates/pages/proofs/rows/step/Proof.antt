@@ -1,3 +1,4 @@
+-- `pages::rows::step` meets its contract: the choices and a unit for the column before k count one row more. Assumes nothing.
 use Rattle.pages.proofs.Digits.{counts-length}
 use Rattle.pages.proofs.Combinations.{as-many}
 use Rattle.pages.proofs.Stepping.{Carried, carry-one, hand-on, take-next, pick-set, moved-on, moved-round}

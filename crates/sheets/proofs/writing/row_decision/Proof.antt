@@ -1,3 +1,4 @@
+-- `sheets::writing::row_decision` meets its contract. Assumes nothing.
 use Rattle.sheets.proofs.writing.row_decision.Statement.{statement}
 use Rattle.sheets.proofs.writing.row_decision.Tie as tie
 

@@ -1,3 +1,4 @@
+-- `sheets::writing::write_page` meets its contract: what is found of the columns is what the rows are asked with. Assumes nothing.
 use Rattle.pages.proofs.SixColumns.{heads-counted}
 use mathlib.Core.Path.{refl}
 use native.Mathlib.Omega.{arith}

@@ -1,3 +1,4 @@
+-- `sheets::writing::write_rows` meets its contract: the choices stand at the row, and the listed rows before it are written. Assumes nothing.
 use borrow.Author.Needs.{needs}
 use Rattle.sheets.proofs.RowLaws.{Standing, choices-small, placed-there, stands-first, stands-next, ends-few, as-many-rows, stands-there, decides-there, policy-fits}
 use Rattle.sheets.specs.Sheets.{decisionAt}
