@@ -26,8 +26,8 @@ use Rattle.table.specs.Entries.{policiesEntries}
 use Rattle.table.specs.Layout.{entrySize, bytesOf, held, startsWith}
 use Rattle.table.proofs.Holding.{length-bytesOf, starts-itself, starts-decides, held-starts}
 use Rattle.parts.specs.Answers.{refusalAt}
-use Rattle.compiling.specs.Outcome.{mostBytes, roomFor, said, compiledBytes, foundBy, foundOf, toldOf, compiledOf, tableBy, tableAfter, beginsBy, beginsOf, heldBy, heldOf}
-use Rattle.compiling.specs.Promise.{AcceptedExactly, UnfitExactly, startOf, RefusedThere, RefusedRightly, bytesSaid, bytesFor, TextAlone, NothingChanged, NoPoliciesNoBytes, OneResult, Begun, BeginsExactly, CompiledBegins, EnoughRoom, Holds, HeldRightly}
+use Rattle.compiling.specs.Outcome.{saidOf, mostBytes, roomFor, said, compiledBytes, foundBy, foundOf, toldOf, compiledOf, tableBy, tableAfter, beginsBy, beginsOf, heldBy, heldOf}
+use Rattle.compiling.specs.Promise.{ZerosElsewhere, AcceptedExactly, UnfitExactly, startOf, RefusedThere, RefusedRightly, bytesSaid, bytesFor, TextAlone, NothingChanged, NoPoliciesNoBytes, OneResult, Begun, BeginsExactly, CompiledBegins, EnoughRoom, Holds, HeldRightly}
 use Rattle.compiling.specs.declared.Found.{Found}
 use Rattle.compiling.specs.declared.Found.the-variants.{Accepted, Unfit, Turned}
 use Rattle.compiling.specs.declared.Compiled.the-variants.{Policies, Refused}
@@ -298,3 +298,8 @@ held-rightly text table policies entries e = go (ltb mostBytes (length text)) re
     go true x p q e = absurd (let z : _≡_ {A = ℕ} 0 1 = cc in omega arith)
     go false x (took ps r) q e = at-bytes ps r x q (startsWith (compiledBytes ps) table) refl e
     go false x (refuse n r) q e = absurd (let z : _≡_ {A = ℕ} 0 1 = cc in omega arith)
+
+pub zeros-elsewhere : ZerosElsewhere
+unfolding ZerosElsewhere saidOf
+zeros-elsewhere (Policies policies bytes) h = absurd (h refl)
+zeros-elsewhere (Refused number line column) h = (refl, refl)

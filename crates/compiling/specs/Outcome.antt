@@ -61,6 +61,18 @@ toldOf text (Turned f) = refusedIn (f .number) (placeOf text (f .start))
 unfoldable pub compiledOf : List ℕ → ℕ → Compiled
 compiledOf text room = toldOf text (foundOf text room)
 
+-- what each answer says: the refusal's number, or 0, with its line and column; the policies and the bytes used
+pub record Said : Type 0 where
+  pub refusal : ℕ
+  pub line : ℕ
+  pub column : ℕ
+  pub policies : ℕ
+  pub bytes : ℕ
+
+unfoldable pub saidOf : Compiled → Said
+saidOf (Policies policies bytes) = record { refusal = 0; line = 0; column = 0; policies = policies; bytes = bytes }
+saidOf (Refused number line column) = record { refusal = number; line = line; column = column; policies = 0; bytes = 0 }
+
 unfoldable pub tableBy : reader.Answer (List Policy) → List ℕ → List ℕ
 tableBy (took ps r) old = compiledBytes ps ++ drop (length (compiledBytes ps)) old
 tableBy (refuse n r) old = old

@@ -15,7 +15,7 @@ use Rattle.grammar.specs.Numbers.{numberAt}
 use Rattle.grammar.specs.Promise as grammar
 use Rattle.table.specs.Entries.{policiesEntries}
 use Rattle.table.specs.Layout.{held, Begins}
-use Rattle.compiling.specs.Outcome.{mostBytes, roomFor, said, compiledBytes, compiledOf, tableAfter, CompiledInto, heldOf, beginsOf}
+use Rattle.compiling.specs.Outcome.{mostBytes, roomFor, said, compiledBytes, compiledOf, saidOf, tableAfter, CompiledInto, heldOf, beginsOf}
 use Rattle.compiling.specs.declared.Compiled.{Compiled}
 use Rattle.compiling.specs.declared.Compiled.the-variants.{Policies, Refused}
 use Rattle.compiling.specs.declared.Held.the-variants.{Right}
@@ -57,6 +57,10 @@ pub record RefusedThere (text : List ℕ) (number line column : ℕ) : Type 0 wh
 unfoldable pub RefusedRightly : Type 0
 RefusedRightly = (text : List ℕ) (room number line column : ℕ) → length text ≤ mostBytes → roomFor text ≤ room
     → compiledOf text room ≡ Refused number line column → RefusedThere text number line column
+
+-- A refusal gives its number and place, and zeros elsewhere.
+unfoldable pub ZerosElsewhere : Type 0
+ZerosElsewhere = (r : Compiled) → (saidOf r .refusal ≡ 0 → ⊥) → (saidOf r .policies ≡ 0) × (saidOf r .bytes ≡ 0)
 
 -- ---- the table
 
