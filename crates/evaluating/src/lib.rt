@@ -12,7 +12,7 @@ use bags::sections::Sections;
 use meaning::Verdict;
 use operators::flat;
 use table::Entry;
-use table::entry_at;
+use table::entry_in;
 
 fn is_yes(v: Verdict) -> bool
     ensures { λ r. ⌜ r ≡ isYes v ⌝ }
@@ -80,7 +80,7 @@ pub fn evaluate<'a>(
     let mut at = end;
     let mut odd = false;
     loop {
-        let x = entry_at(table, at - 1);
+        let x = entry_in(table, at - 1);
         if x.kind <= 23 {
             let v = flat(text, table, at, x, s, p, n, heads, values, action);
             return turned(odd, v);

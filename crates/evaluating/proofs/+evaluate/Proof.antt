@@ -16,7 +16,7 @@ use Rattle.evaluating.proofs.is_yes.Reads as is-yes-reads
 use Rattle.evaluating.proofs.next_met.Reads as next-met-reads
 use Rattle.operators.proofs.flat.Reads as flat-reads
 use Rattle.evaluating.proofs.turned.Reads as turned-reads
-use Rattle.table.proofs.entry_at.Reads as entry-at-reads
+use Rattle.table.proofs.entry_in.Reads as entry-in-reads
 use Rattle.evaluating.proofs.+evaluate.{statement}
 use Rattle.evaluating.proofs.+evaluate.Tie.{close}
 
@@ -36,22 +36,22 @@ abbrev evaluate-μ-loop : evaluate-lts.MeasureT-loop
 evaluate-μ-loop text table end s p n heads values action at₀ odd₀ at odd = at
 
 abbrev evaluate-claims : ℕ → evaluate-lts.Claims
-evaluate-claims t = (entry-at-reads.Asked, entry-at-reads.Learnt, flat-reads.Asked, flat-reads.Learnt, turned-reads.Asked, turned-reads.Learnt, first-met-reads.Asked, first-met-reads.Learnt, evaluate-below t, evaluate.Post, is-yes-reads.Asked, is-yes-reads.Learnt, next-met-reads.Asked, next-met-reads.Learnt)
+evaluate-claims t = (entry-in-reads.Asked, entry-in-reads.Learnt, flat-reads.Asked, flat-reads.Learnt, turned-reads.Asked, turned-reads.Learnt, first-met-reads.Asked, first-met-reads.Learnt, evaluate-below t, evaluate.Post, is-yes-reads.Asked, is-yes-reads.Learnt, next-met-reads.Asked, next-met-reads.Learnt)
 
 evaluate-loop-holds : (t : ℕ) → evaluate-lts.Need-loop-holds (evaluate-claims t) (evaluate-at t) evaluate.Post evaluate-Inv-loop evaluate-μ-loop
 evaluate-loop-holds t c = set-out (c .before .before .before .before .pre .1 .0)
 
-evaluate-sub-entry-at : (t : ℕ) → evaluate-lts.Need-sub-entry-at (evaluate-claims t) (evaluate-at t) evaluate.Post evaluate-Inv-loop evaluate-μ-loop
-evaluate-sub-entry-at t c = let k = node-of (c .loop .inv .here) in omega (arith, k .some)
+evaluate-sub-entry-in : (t : ℕ) → evaluate-lts.Need-sub-entry-in (evaluate-claims t) (evaluate-at t) evaluate.Post evaluate-Inv-loop evaluate-μ-loop
+evaluate-sub-entry-in t c = let k = node-of (c .loop .inv .here) in omega (arith, k .some)
 
-evaluate-entry-at-requires : (t : ℕ) → evaluate-lts.Need-entry-at-requires (evaluate-claims t) (evaluate-at t) evaluate.Post evaluate-Inv-loop evaluate-μ-loop
-evaluate-entry-at-requires t c κs = let k = node-of (c .loop .inv .here) in omega (arith, k .few)
+evaluate-entry-in-requires : (t : ℕ) → evaluate-lts.Need-entry-in-requires (evaluate-claims t) (evaluate-at t) evaluate.Post evaluate-Inv-loop evaluate-μ-loop
+evaluate-entry-in-requires t c κs = let k = node-of (c .loop .inv .here) in omega (arith, k .here, k .some)
 
 evaluate-flat-requires : (t : ℕ) → evaluate-lts.Need-flat-requires (evaluate-claims t) (evaluate-at t) evaluate.Post evaluate-Inv-loop evaluate-μ-loop
-evaluate-flat-requires t c κs = (met (c .before .before .before .loop .inv) (c .before .before .entry-at .ensures), (c .if1 .taken, c .before .before .before .before .before .before .before .before .pre .1 .1))
+evaluate-flat-requires t c κs = (met (c .before .before .before .loop .inv) (c .before .before .entry-in .ensures), (c .if1 .taken, c .before .before .before .before .before .before .before .before .pre .1 .1))
 
 evaluate-returns : (t : ℕ) → evaluate-lts.Need-returns (evaluate-claims t) (evaluate-at t) evaluate.Post evaluate-Inv-loop evaluate-μ-loop
-evaluate-returns t c = flat-end (c .before .before .before .before .before .loop .inv) (met (c .before .before .before .before .before .loop .inv) (c .before .before .before .before .entry-at .ensures)) (c .before .flat .ensures) (c .turned .ensures)
+evaluate-returns t c = flat-end (c .before .before .before .before .before .loop .inv) (met (c .before .before .before .before .before .loop .inv) (c .before .before .before .before .entry-in .ensures)) (c .before .flat .ensures) (c .turned .ensures)
 
 evaluate-sub-at : (t : ℕ) → evaluate-lts.Need-sub-at (evaluate-claims t) (evaluate-at t) evaluate.Post evaluate-Inv-loop evaluate-μ-loop
 evaluate-sub-at t c = let k = node-of (c .before .before .before .before .before .loop .inv .here) in omega (arith, k .some)
@@ -60,7 +60,7 @@ evaluate-loop-less : (t : ℕ) → evaluate-lts.Need-loop-less (evaluate-claims 
 evaluate-loop-less t c = let k = node-of (c .before .before .before .before .before .loop .inv .here) in omega (arith, k .some)
 
 evaluate-loop-again : (t : ℕ) → evaluate-lts.Need-loop-again (evaluate-claims t) (evaluate-at t) evaluate.Post evaluate-Inv-loop evaluate-μ-loop
-evaluate-loop-again t c = under-not (c .before .before .before .before .before .loop .inv) (met (c .before .before .before .before .before .loop .inv) (c .before .before .before .before .entry-at .ensures)) (c .if2 .taken)
+evaluate-loop-again t c = under-not (c .before .before .before .before .before .loop .inv) (met (c .before .before .before .before .before .loop .inv) (c .before .before .before .before .entry-in .ensures)) (c .if2 .taken)
 
 evaluate-sub-at-2 : (t : ℕ) → evaluate-lts.Need-sub-at-2 (evaluate-claims t) (evaluate-at t) evaluate.Post evaluate-Inv-loop evaluate-μ-loop
 evaluate-sub-at-2 t c = let k = node-of (c .before .before .before .before .before .before .before .loop .inv .here) in omega (arith, k .some)
@@ -69,31 +69,31 @@ evaluate-loop-less-2 : (t : ℕ) → evaluate-lts.Need-loop-less-2 (evaluate-cla
 evaluate-loop-less-2 t c = let k = node-of (c .before .before .before .before .before .before .before .loop .inv .here) in omega (arith, k .some)
 
 evaluate-loop-again-2 : (t : ℕ) → evaluate-lts.Need-loop-again-2 (evaluate-claims t) (evaluate-at t) evaluate.Post evaluate-Inv-loop evaluate-μ-loop
-evaluate-loop-again-2 t c = in-brackets (c .before .before .before .before .before .before .before .loop .inv) (met (c .before .before .before .before .before .before .before .loop .inv) (c .before .before .before .before .before .before .entry-at .ensures)) (c .if3 .taken)
+evaluate-loop-again-2 t c = in-brackets (c .before .before .before .before .before .before .before .loop .inv) (met (c .before .before .before .before .before .before .before .loop .inv) (c .before .before .before .before .before .before .entry-in .ensures)) (c .if3 .taken)
 
 evaluate-first-met-requires : (t : ℕ) → evaluate-lts.Need-first-met-requires (evaluate-claims t) (evaluate-at t) evaluate.Post evaluate-Inv-loop evaluate-μ-loop
 evaluate-first-met-requires t c κs = let k = node-of (c .before .before .before .before .before .before .before .loop .inv .here) in omega (arith, k .some)
 
 evaluate-evaluate-requires : (t : ℕ) → evaluate-lts.Need-evaluate-requires (evaluate-claims t) (evaluate-at t) evaluate.Post evaluate-Inv-loop evaluate-μ-loop
 evaluate-evaluate-requires t c κs =
-    let part = first-ready (met (c .before .before .before .before .before .before .before .before .loop .inv) (c .before .before .before .before .before .before .before .entry-at .ensures)) (omega (arith, c .before .before .before .before .before .if1 .left, c .before .before .before .if2 .left, c .before .if3 .left)) (c .first-met .ensures) in
+    let part = first-ready (met (c .before .before .before .before .before .before .before .before .loop .inv) (c .before .before .before .before .before .before .before .entry-in .ensures)) (omega (arith, c .before .before .before .before .before .if1 .left, c .before .before .before .if2 .left, c .before .if3 .left)) (c .first-met .ensures) in
     (omega (arith, part .falls, c .before .before .before .before .before .before .before .before .loop .inv .low, c .before .before .before .before .before .before .before .before .before .before .before .before .before .pre .0), (part .ready, c .before .before .before .before .before .before .before .before .before .before .before .before .before .pre .1 .1))
 
 evaluate-returns-2 : (t : ℕ) → evaluate-lts.Need-returns-2 (evaluate-claims t) (evaluate-at t) evaluate.Post evaluate-Inv-loop evaluate-μ-loop
 evaluate-returns-2 t c =
-    stopped (c .before .before .before .before .before .before .before .before .before .before .before .before .before .before .loop .inv) (met (c .before .before .before .before .before .before .before .before .before .before .before .before .before .before .loop .inv) (c .before .before .before .before .before .before .before .before .before .before .before .before .before .entry-at .ensures)) (omega (arith, c .before .before .before .before .before .before .before .before .before .before .before .if1 .left, c .before .before .before .before .before .before .before .before .before .if2 .left, c .before .before .before .before .before .before .before .if3 .left)) (c .before .before .before .before .before .before .first-met .ensures) (c .before .before .before .before .before .evaluate .ensures) (c .before .before .before .before .is-yes .ensures) (c .before .if4 .taken) (c .turned2 .ensures)
+    stopped (c .before .before .before .before .before .before .before .before .before .before .before .before .before .before .loop .inv) (met (c .before .before .before .before .before .before .before .before .before .before .before .before .before .before .loop .inv) (c .before .before .before .before .before .before .before .before .before .before .before .before .before .entry-in .ensures)) (omega (arith, c .before .before .before .before .before .before .before .before .before .before .before .if1 .left, c .before .before .before .before .before .before .before .before .before .if2 .left, c .before .before .before .before .before .before .before .if3 .left)) (c .before .before .before .before .before .before .first-met .ensures) (c .before .before .before .before .before .evaluate .ensures) (c .before .before .before .before .is-yes .ensures) (c .before .if4 .taken) (c .turned2 .ensures)
 
 evaluate-next-met-requires : (t : ℕ) → evaluate-lts.Need-next-met-requires (evaluate-claims t) (evaluate-at t) evaluate.Post evaluate-Inv-loop evaluate-μ-loop
 evaluate-next-met-requires t c κs = let k = node-of (c .before .before .before .before .before .before .before .before .before .before .before .before .before .loop .inv .here) in omega (arith, k .some)
 
 evaluate-loop-less-3 : (t : ℕ) → evaluate-lts.Need-loop-less-3 (evaluate-claims t) (evaluate-at t) evaluate.Post evaluate-Inv-loop evaluate-μ-loop
 evaluate-loop-less-3 t c =
-    next-ready (met (c .before .before .before .before .before .before .before .before .before .before .before .before .before .before .loop .inv) (c .before .before .before .before .before .before .before .before .before .before .before .before .before .entry-at .ensures)) (c .before .before .before .before .is-yes .result) (omega (arith, c .before .before .before .before .before .before .before .before .before .before .before .if1 .left, c .before .before .before .before .before .before .before .before .before .if2 .left, c .before .before .before .before .before .before .before .if3 .left)) (c .next-met .ensures) .falls
+    next-ready (met (c .before .before .before .before .before .before .before .before .before .before .before .before .before .before .loop .inv) (c .before .before .before .before .before .before .before .before .before .before .before .before .before .entry-in .ensures)) (c .before .before .before .before .is-yes .result) (omega (arith, c .before .before .before .before .before .before .before .before .before .before .before .if1 .left, c .before .before .before .before .before .before .before .before .before .if2 .left, c .before .before .before .before .before .before .before .if3 .left)) (c .next-met .ensures) .falls
 
 evaluate-loop-again-3 : (t : ℕ) → evaluate-lts.Need-loop-again-3 (evaluate-claims t) (evaluate-at t) evaluate.Post evaluate-Inv-loop evaluate-μ-loop
 evaluate-loop-again-3 t c =
-    gone-on (c .before .before .before .before .before .before .before .before .before .before .before .before .before .before .loop .inv) (met (c .before .before .before .before .before .before .before .before .before .before .before .before .before .before .loop .inv) (c .before .before .before .before .before .before .before .before .before .before .before .before .before .entry-at .ensures)) (omega (arith, c .before .before .before .before .before .before .before .before .before .before .before .if1 .left, c .before .before .before .before .before .before .before .before .before .if2 .left, c .before .before .before .before .before .before .before .if3 .left)) (c .before .before .before .before .before .before .first-met .ensures) (c .before .before .before .before .before .evaluate .ensures) (c .before .before .before .before .is-yes .ensures) (c .before .if4 .left) (c .next-met .ensures)
+    gone-on (c .before .before .before .before .before .before .before .before .before .before .before .before .before .before .loop .inv) (met (c .before .before .before .before .before .before .before .before .before .before .before .before .before .before .loop .inv) (c .before .before .before .before .before .before .before .before .before .before .before .before .before .entry-in .ensures)) (omega (arith, c .before .before .before .before .before .before .before .before .before .before .before .if1 .left, c .before .before .before .before .before .before .before .before .before .if2 .left, c .before .before .before .before .before .before .before .if3 .left)) (c .before .before .before .before .before .before .first-met .ensures) (c .before .before .before .before .before .evaluate .ensures) (c .before .before .before .before .is-yes .ensures) (c .before .if4 .left) (c .next-met .ensures)
 
 pub +evaluate-spec : {M : Type 1} → statement M
 +evaluate-spec = close μ-evaluate
-    λ t. evaluate-lts.spec (evaluate-claims t) (evaluate-at t) evaluate.Post evaluate-Inv-loop evaluate-μ-loop (evaluate-loop-holds t) (evaluate-sub-entry-at t) (evaluate-entry-at-requires t) (evaluate-flat-requires t) (λ c κs. search needs) (evaluate-returns t) (evaluate-sub-at t) (evaluate-loop-less t) (evaluate-loop-again t) (evaluate-sub-at-2 t) (evaluate-loop-less-2 t) (evaluate-loop-again-2 t) (evaluate-first-met-requires t) (evaluate-evaluate-requires t) (λ c κs. search needs) (λ c κs. search needs) (evaluate-returns-2 t) (evaluate-next-met-requires t) (evaluate-loop-less-3 t) (evaluate-loop-again-3 t)
+    λ t. evaluate-lts.spec (evaluate-claims t) (evaluate-at t) evaluate.Post evaluate-Inv-loop evaluate-μ-loop (evaluate-loop-holds t) (evaluate-sub-entry-in t) (evaluate-entry-in-requires t) (evaluate-flat-requires t) (λ c κs. search needs) (evaluate-returns t) (evaluate-sub-at t) (evaluate-loop-less t) (evaluate-loop-again t) (evaluate-sub-at-2 t) (evaluate-loop-less-2 t) (evaluate-loop-again-2 t) (evaluate-first-met-requires t) (evaluate-evaluate-requires t) (λ c κs. search needs) (λ c κs. search needs) (evaluate-returns-2 t) (evaluate-next-met-requires t) (evaluate-loop-less-3 t) (evaluate-loop-again-3 t)
