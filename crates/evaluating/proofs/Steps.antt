@@ -2,10 +2,10 @@
 use mathlib.Core.Path.{_≡_, refl, sym, _∙_, ap, subst}
 use mathlib.Core.Bool.{Bool, true, false, cond, not, _&&_, _||_, false≢true}
 use mathlib.Core.List.{List}
-use Prim.Native.Nat.{ℕ, _-_, _≤_}
+use Prim.Native.Nat.{ℕ, _-_, _≤_, _<_}
 use native.Mathlib.Omega.{arith}
-use lib.Dec.{eqb}
-use borrow.Author.Tests.{eqb-true, eqb-false}
+use lib.Dec.{eqb, ltb}
+use borrow.Author.Tests.{eqb-true, eqb-false, ltb-true, ltb-false, lt-ltb, le-ltb}
 use Rattle.table.specs.declared.Entry.{Entry}
 use Rattle.table.specs.Layout.{entryAt}
 use Rattle.views.specs.Meaning.{View}
@@ -36,9 +36,34 @@ firstMet at x = cond (eqb (x .kind) 28) (x .first) (at - 1)
 abbrev pub nextMet : ℕ → Entry → Bool → ℕ
 nextMet at x b = cond (eqb (x .kind) 28) (cond b (x .second) (at - 1)) (x .first)
 
+-- the part that is met first, or all that is left
+abbrev pub partMet : ℕ → Entry → ℕ
+partMet at x = cond (ltb (x .kind) 26) at (firstMet at x)
+
+data Met (at : ℕ) (x : Entry) (part : ℕ) : Type 0 where
+  whole : x .kind < 26 → part ≡ at → Met at x part
+  first : 26 ≤ x .kind → part ≡ firstMet at x → Met at x part
+
+met-by : (at : ℕ) (x : Entry) (part : ℕ) → part ≡ partMet at x → Met at x part
+met-by at x part q = go (ltb (x .kind) 26) refl q
+  where
+    go : (b : Bool) → ltb (x .kind) 26 ≡ b → part ≡ cond b at (firstMet at x) → Met at x part
+    go true e q = whole (ltb-true (x .kind) 26 e) q
+    go false e q = first (ltb-false (x .kind) 26 e) q
+
 -- `&&` stops at false, `||` at true
 abbrev pub stopping : ℕ → Bool → Bool
 stopping k b = (eqb k 26 && not b) || (eqb k 27 && b)
+
+-- nothing is met after that part
+abbrev pub lastBy : ℕ → Bool → Bool
+lastBy k b = ltb k 26 || (eqb k 26 && not b) || (eqb k 27 && b)
+
+last-joined : (k : ℕ) (b c : Bool) → 26 ≤ k → lastBy k b ≡ c → stopping k b ≡ c
+last-joined k b c l h = rw (le-ltb k 26 l) at h
+
+last-whole : (k : ℕ) (b : Bool) → k < 26 → lastBy k b ≡ false → ⊥
+last-whole k b l h = let z : true ≡ false = rw (lt-ltb k 26 l) at h in false≢true (sym z)
 
 and-stops : (b : Bool) → stopping 26 b ≡ true → b ≡ false
 and-stops true h = sym h
@@ -163,10 +188,7 @@ module _ {text table : List ℕ} {view : View} {end at : ℕ} {odd : Bool} (g : 
   go-on r e = record { here = r .ready; low = let l = r .falls in let h = g .low in omega arith; is = ap (turnedBy odd) (sym e) ∙ g .is }
 
   module _ {x : Entry} (n : Node text table at x) where
-    pub flat-end : {v w : Verdict} → v ≡ verdict text view (treeOf (treeAt table) table at x) → w ≡ turnedBy odd v → w ≡ verdict text view (treeAt table end)
-    flat-end e q = arrived q (e ∙ ap (verdict text view) (sym (n .is)))
-
-    pub under-not : x .kind ≡ 24 → Going text table view end (at - 1) (not odd)
+    under-not : x .kind ≡ 24 → Going text table view end (at - 1) (not odd)
     unfolding verdict
     under-not e =
         let p = n .parts .last (omega arith) in let l = p .falls in let h = g .low in
@@ -176,13 +198,66 @@ module _ {text table : List ℕ} {view : View} {end at : ℕ} {odd : Bool} (g : 
           is = one-more odd _ ∙ ap (turnedBy odd) (sym (ap (verdict text view) (n .is ∙ as-not (treeAt table) table at x e))) ∙ g .is;
         }
 
-    pub in-brackets : x .kind ≡ 25 → Going text table view end (at - 1) odd
+    in-brackets : x .kind ≡ 25 → Going text table view end (at - 1) odd
     unfolding verdict
     in-brackets e = go-on (n .parts .last (omega arith)) (ap (verdict text view) (n .is ∙ as-brackets (treeAt table) table at x e))
 
+    -- inside `!` or brackets
+    pub inside : {o : Bool} → 23 < x .kind → x .kind < 26 → o ≡ cond (eqb (x .kind) 24) (not odd) odd → Going text table view end (at - 1) o
+    inside {o} l h q = go (eqb (x .kind) 24) refl q
+      where
+        go : (b : Bool) → eqb (x .kind) 24 ≡ b → o ≡ cond b (not odd) odd → Going text table view end (at - 1) o
+        go true e q = subst (Going text table view end (at - 1)) (sym q) (under-not (eqb-true (x .kind) 24 e))
+        go false e q = let d = eqb-false (x .kind) 24 e in subst (Going text table view end (at - 1)) (sym q) (in-brackets (omega arith))
+
     module _ {part : ℕ} {v : Verdict} {b : Bool} (l : 26 ≤ x .kind) (q : part ≡ firstMet at x) (r : v ≡ verdict text view (treeAt table part)) (y : b ≡ isYes v) where
-      pub stopped : {w : Verdict} → stopping (x .kind) b ≡ true → w ≡ turnedBy odd v → w ≡ verdict text view (treeAt table end)
+      stopped : {w : Verdict} → stopping (x .kind) b ≡ true → w ≡ turnedBy odd v → w ≡ verdict text view (treeAt table end)
       stopped s t = arrived t (stops n view l q r y s)
 
-      pub gone-on : {next : ℕ} → stopping (x .kind) b ≡ false → next ≡ nextMet at x b → Going text table view end next odd
+      gone-on : {next : ℕ} → stopping (x .kind) b ≡ false → next ≡ nextMet at x b → Going text table view end next odd
       gone-on s m = go-on (next-ready n b l m) (goes n view l q r y s m)
+
+    module _ {part : ℕ} (q : part ≡ partMet at x) where
+      pub part-ready : Ready text table part
+      part-ready = go (met-by at x part q)
+        where
+          go : Met at x part → Ready text table part
+          go (whole l e) = subst (Ready text table) (sym e) (g .here)
+          go (first l e) = first-ready n l e .ready
+
+      pub part-falls : 26 ≤ x .kind → part < at
+      part-falls l = go (met-by at x part q)
+        where
+          go : Met at x part → part < at
+          go (whole h e) = absurd (omega arith)
+          go (first h e) = first-ready n h e .falls
+
+      -- the entry that is read there
+      pub part-node : {z : Entry} → z ≡ entryAt table (part - 1) → Node text table part z
+      part-node e = subst (Node text table part) (sym e) (node-of part-ready)
+
+      pub same-kind : {z : Entry} → x ≡ entryAt table (at - 1) → z ≡ entryAt table (part - 1) → x .kind < 26 → 23 < z .kind → 23 < x .kind
+      same-kind {z} i j l h = go (met-by at x part q)
+        where
+          go : Met at x part → 23 < x .kind
+          go (first k e) = absurd (omega arith)
+          go (whole k e) = let s : z ≡ x = j ∙ ap (λ (m : ℕ). entryAt table (m - 1)) e ∙ sym i in subst (λ (u : Entry). 23 < u .kind) s h
+
+      module _ {v : Verdict} {b : Bool} (r : v ≡ verdict text view (treeAt table part)) (y : b ≡ isYes v) where
+        pub last-met : {w : Verdict} → lastBy (x .kind) b ≡ true → w ≡ turnedBy odd v → w ≡ verdict text view (treeAt table end)
+        last-met {w} s t = go (met-by at x part q)
+          where
+            go : Met at x part → w ≡ verdict text view (treeAt table end)
+            go (whole l e) = arrived t (r ∙ ap (λ (m : ℕ). verdict text view (treeAt table m)) e)
+            go (first l e) = stopped l e r y (last-joined (x .kind) b true l s) t
+
+        pub next-going : {next : ℕ} → lastBy (x .kind) b ≡ false → next ≡ nextMet at x b → Going text table view end next odd × (next < at)
+        next-going {next} s m = go (met-by at x part q)
+          where
+            go : Met at x part → Going text table view end next odd × (next < at)
+            go (whole l e) = absurd (last-whole (x .kind) b l s)
+            go (first l e) = (gone-on l e r y (last-joined (x .kind) b false l s) m, next-ready n b l m .falls)
+
+      -- the verdict of a part without parts
+      pub flat-part : {z : Entry} {v : Verdict} → z ≡ entryAt table (part - 1) → v ≡ verdict text view (treeOf (treeAt table) table part z) → v ≡ verdict text view (treeAt table part)
+      flat-part e d = d ∙ ap (verdict text view) (sym (part-node e .is))

@@ -1,8 +1,8 @@
 // The verdict of a compiled condition. It is met from its last entry on, in a loop; only what nests calls again.
 ghost use mathlib.Core.Path.{_≡_};
-ghost use mathlib.Core.Bool.{cond};
+ghost use mathlib.Core.Bool.{cond, not, _&&_, _||_};
 ghost use Prim.Native.Nat.{_-_, _<_};
-ghost use lib.Dec.{eqb};
+ghost use lib.Dec.{eqb, ltb};
 ghost use Rattle.views.specs.Rows.{rowView, Stands};
 ghost use Rattle.stored.specs.ReadBack.{treeAt};
 ghost use Rattle.stored.specs.Ready.{Ready};
@@ -12,7 +12,7 @@ use bags::sections::Sections;
 use meaning::Verdict;
 use operators::flat;
 use table::Entry;
-use table::entry_at;
+use table::entry_in;
 
 fn is_yes(v: Verdict) -> bool
     ensures { λ r. ⌜ r ≡ isYes v ⌝ }
@@ -47,6 +47,34 @@ fn first_met(at: usize, x: Entry) -> usize
     if x.kind == 28 { x.first } else { at - 1 }
 }
 
+// Where the part ends that is met first, or all that is left, where no `if`, `&&` or `||` joins parts.
+fn part_met(at: usize, x: Entry) -> usize
+    requires { ⌜ 0 < at ⌝ }
+    ensures { λ r. ⌜ r ≡ cond (ltb (x .kind) 26) at (cond (eqb (x .kind) 28) (x .first) (at - 1)) ⌝ }
+{
+    if x.kind < 26 {
+        return at;
+    }
+    first_met(at, x)
+}
+
+// Whether nothing is to be met after that part: it was all, or stops the chain.
+fn is_last(x: Entry, yes: bool) -> bool
+    ensures { λ r. ⌜ r ≡ (ltb (x .kind) 26 || (eqb (x .kind) 26 && not yes) || (eqb (x .kind) 27 && yes)) ⌝ }
+{
+    (x.kind < 26) | ((x.kind == 26) & !yes) | ((x.kind == 27) & yes)
+}
+
+// Whether the number of `!` is odd, after this entry.
+fn odd_after(odd: bool, x: Entry) -> bool
+    ensures { λ r. ⌜ r ≡ cond (eqb (x .kind) 24) (not odd) odd ⌝ }
+{
+    if x.kind == 24 {
+        return !odd;
+    }
+    odd
+}
+
 // Where the part ends that is met next: the one that `if` chooses, and the left part of `&&` and `||`.
 fn next_met(at: usize, x: Entry, yes: bool) -> usize
     requires { ⌜ 0 < at ⌝ }
@@ -62,6 +90,7 @@ fn next_met(at: usize, x: Entry, yes: bool) -> usize
 // The verdict of the condition whose entries end before number `end`.
 // What is left to be met ends before `at`, and its verdict, turned where `odd`, is that of the whole. No part's verdict is ever Missing (`never-missing`).
 // So a chain may be met from its right end: a No there makes `&&` No, and a Yes makes `||` Yes, whatever stands before; else the chain is what stands before.
+// A part without parts is found out here, without a call.
 pub fn evaluate<'a>(
     text: &'a [u8],
     table: &[u8],
@@ -80,26 +109,28 @@ pub fn evaluate<'a>(
     let mut at = end;
     let mut odd = false;
     loop {
-        let x = entry_at(table, at - 1);
-        if x.kind <= 23 {
-            let v = flat(text, table, at, x, s, p, n, heads, values, action);
-            return turned(odd, v);
-        }
-        if x.kind == 24 {
-            odd = !odd;
-            at -= 1;
+        let x = entry_in(table, at - 1);
+        let part = part_met(at, x);
+        let y = entry_in(table, part - 1);
+        if y.kind <= 23 {
+            let v = flat(text, table, part, y, s, p, n, heads, values, action);
+            let yes = is_yes(v);
+            if is_last(x, yes) {
+                return turned(odd, v);
+            }
+            at = next_met(at, x, yes);
             continue;
         }
-        if x.kind == 25 {
-            at -= 1;
+        if 26 <= x.kind {
+            let v = evaluate(text, table, part, s, p, n, heads, values, action);
+            let yes = is_yes(v);
+            if is_last(x, yes) {
+                return turned(odd, v);
+            }
+            at = next_met(at, x, yes);
             continue;
         }
-        let part = first_met(at, x);
-        let v = evaluate(text, table, part, s, p, n, heads, values, action);
-        let yes = is_yes(v);
-        if ((x.kind == 26) & !yes) | ((x.kind == 27) & yes) {
-            return turned(odd, v);
-        }
-        at = next_met(at, x, yes);
+        odd = odd_after(odd, x);
+        at -= 1;
     }
 }

@@ -1,15 +1,17 @@
 -- Laws of paths with blanks, and of the search for an entry. Assumes nothing.
 use Prim.Native.Nat.{ℕ, zero, suc, _+_, _-_, _<_, _≤_}
-use mathlib.Core.List.{List, []}
-use mathlib.Core.Bool.{true, false, _||_}
-use mathlib.Core.Path.{_≡_, refl, ap}
-use borrow.Author.Tests.{eq-eqb, ne-eqb}
+use mathlib.Core.List.{List, [], _∷_}
+use mathlib.Core.Bool.{Bool, true, false, _||_}
+use mathlib.Core.Path.{_≡_, refl, sym, _∙_, ap}
+use borrow.Author.Tests.{eq-eqb, ne-eqb, eqb-true, eqb-false}
 use native.Mathlib.Numerals.{add-one}
 use native.Mathlib.Omega.{arith}
 use lib.Dec.{eqb}
-use lib.ListN.{length, drop, drop-of-length-le}
+use lib.ListN.{length, take, drop, length-take, length-drop, drop-of-length-le}
 use lib.Seq.{drop-cons}
 use Rattle.slices.specs.Same.{same}
+use Rattle.slices.specs.Decides.{one-answer, no-to}
+use Rattle.slices.proofs.Equal.{same-decides, other-length}
 use Rattle.tokens.specs.Bytes.{classOf}
 use Rattle.tokens.specs.Runs.{is}
 use Rattle.tokens.proofs.Table.{agree}
@@ -61,6 +63,44 @@ module _ (s : List ℕ) (x left : ℕ) (p : List ℕ) (y : ℕ) where
         pub path-on : byte s x ≡ byte p y → same (part s (x + 1) (left - 1)) (unblanked (drop (y + 1) p)) ≡ same (part s x left) (unblanked (drop y p))
         unfolding unblanked same
         path-on e = rw (part-cons s x left some fits, drop-cons p y 0 h, add-one y) (simp (n, eq-eqb _ _ e))
+
+-- ---- the bytes of a path that has no blanks, and those of another but its blanks
+
+-- a part that lies in the bytes has its length
+pub part-sized : (s : List ℕ) (at n : ℕ) → at + n ≤ length s → length (part s at n) ≡ n
+unfolding part
+part-sized s at n h = simp (length-take, length-drop) (omega arith)
+
+-- bytes with a blank among them are fewer without it
+fewer : (l : List ℕ) → (length (unblanked l) ≤ length l) × (length (unblanked l) ≡ length l → unblanked l ≡ l)
+unfolding unblanked
+fewer [] = (omega arith, λ e. refl)
+fewer (b ∷ rest) = go (is Blanks b) refl (fewer rest)
+  where
+    go : (t : Bool) → is Blanks b ≡ t → (length (unblanked rest) ≤ length rest) × (length (unblanked rest) ≡ length rest → unblanked rest ≡ rest)
+        → (length (unblanked (b ∷ rest)) ≤ suc (length rest)) × (length (unblanked (b ∷ rest)) ≡ suc (length rest) → unblanked (b ∷ rest) ≡ b ∷ rest)
+    go true e (k, w) = simp e (omega arith, λ q. absurd (omega arith))
+    go false e (k, w) = simp e (omega arith, λ q. ap (λ (l : List ℕ). b ∷ l) (w (omega arith)))
+
+pub same-long : (p path : List ℕ) → unblanked p ≡ p → length p ≡ length path → same p path ≡ same p (unblanked path)
+same-long p path c h = go (eqb (length (unblanked path)) (length path)) refl
+  where
+    go : (t : Bool) → eqb (length (unblanked path)) (length path) ≡ t → same p path ≡ same p (unblanked path)
+    go true e = ap (same p) (sym (fewer path .1 (eqb-true _ _ e)))
+    go false e =
+        let n = eqb-false (length (unblanked path)) (length path) e in
+        other-answer (λ q. n (ap length (ap unblanked (sym q) ∙ c ∙ q))) ∙ sym (other-length p (unblanked path) (λ q. n (sym q ∙ h)))
+      where
+        other-answer : (p ≡ path → ⊥) → same p path ≡ false
+        other-answer f = one-answer (same p path) false (same-decides p path) (no-to f)
+
+-- paths with different first bytes differ, where that of the other is no blank
+pub other-lead : (s : List ℕ) (at n lead : ℕ) (path : List ℕ) → 0 < n → at + n ≤ length s → 0 < length path → lead ≡ byte path 0 → is Blanks lead ≡ false → (byte s at ≡ lead → ⊥)
+    → false ≡ same (part s at n) (unblanked path)
+unfolding unblanked same
+other-lead s at n lead [] some fits h e b d = absurd (omega arith)
+other-lead s at n lead (x ∷ path) some fits h e b d =
+    let c : is Blanks x ≡ false = rw e at b in let k : byte s at ≡ x → ⊥ = rw e at d in rw (part-cons s at n some fits) (simp (c, ne-eqb _ _ k))
 
 -- ---- the entry with a path
 

@@ -32,6 +32,15 @@ string-first s n at e h p =
 -- ---- values
 
 module _ (kind : ℕ) (s : List ℕ) (at e : ℕ) (h : valueEnd kind s at ≡ At e) where
+  pub some-kind : 0 < kind
+  some-kind = go (value-at kind s at e h)
+    where
+      go : Ended kind s at e → 0 < kind
+      go (string j w) = omega arith
+      go (number j w) = omega arith
+      go (flag j w) = omega arith
+      go (list j w) = omega arith
+
   pub as-string : kind ≡ 1 → String s at e
   as-string k = go (value-at kind s at e h)
     where

@@ -1,12 +1,14 @@
 // The entry with a path, among those of a section.
 ghost use mathlib.Core.Path.{_≡_};
-ghost use Prim.Native.Nat.{ℕ, _+_, _≤_};
+ghost use mathlib.Core.Bool.{true};
+ghost use Prim.Native.Nat.{ℕ, _+_, _<_, _≤_};
 ghost use lib.ListN.{length};
 ghost use Rattle.slices.specs.Same.{same};
 ghost use Rattle.tokens.specs.Runs.{is};
 ghost use Rattle.tokens.specs.declared.classes.Sort.the-variants.{Blanks};
 ghost use Rattle.slices.specs.Parts.{part};
-ghost use Rattle.bags.specs.Reading.{many, each};
+ghost use Rattle.bags.specs.Reading.{byte, many, each};
+ghost use Rattle.bags.specs.Paths.{isPath};
 ghost use Rattle.bags.specs.Sections.{entryEnd, sectionEnd, Sectioned};
 ghost use Rattle.bags.specs.declared.After.the-variants.{At};
 ghost use Rattle.tokens.specs.Blanks.{unblanked};
@@ -50,18 +52,40 @@ pub fn same_path(s: &[u8], at: usize, n: usize, path: &[u8]) -> bool
     left == 0
 }
 
+// Whether an entry's path, the `n` bytes of `s` from `at`, is `path` but its blanks. Most entries' paths differ in the first byte, `lead`; one without blanks is as long.
+fn is_named(s: &[u8], at: usize, n: usize, lead: u8, path: &[u8]) -> bool
+    requires { ⌜ at + n ≤ length (now s) ⌝ }
+    requires { ⌜ isPath (part (now s) at n) ≡ true ⌝ }
+    requires { ⌜ 0 < length (now path) ⌝ }
+    requires { ⌜ lead ≡ byte (now path) 0 ⌝ }
+    ensures { λ r. ⌜ r ≡ same (part (now (s .entry)) at n) (unblanked (now (path .entry))) ⌝ }
+{
+    if (s[at] != lead) & !is_blank(lead) {
+        return false;
+    }
+    if n == path.len() {
+        let end = at + n;
+        return slices::same(&s[at..end], path);
+    }
+    same_path(s, at, n, path)
+}
+
 // Among the `n` entries from `at`, the value of the one with this path.
 fn find_in(n: usize, path: &[u8], s: &[u8], at: usize) -> Value
     requires { ⌜ ((e : ℕ) × (many n (entryEnd (now s)) at ≡ At e)) ⌝ }
     ensures { λ r. ⌜ r ≡ lookIn absent (each n (entryEnd (now (s .entry))) (entryAt (now (s .entry))) at) (unblanked (now (path .entry))) ⌝ }
 {
+    if path.len() == 0 {
+        return absent_value();
+    }
+    let lead = path[0];
     let mut left = n;
     let mut next = at;
     while 0 < left {
         let size = s[next] as usize;
         let start = next + 1;
         let kind_at = start + size;
-        if same_path(s, start, size, path) {
+        if is_named(s, start, size, lead, path) {
             return value_from(s, kind_at);
         }
         next = value_next(s[kind_at], s, kind_at + 1);

@@ -24,13 +24,13 @@ pub fn value_next(kind: u8, s: &[u8], at: usize) -> usize
     requires { ⌜ ((e : ℕ) × (valueEnd kind (now s) at ≡ At e)) ⌝ }
     ensures { λ r. ⌜ valueEnd kind (now (s .entry)) at ≡ At r ⌝ }
 {
-    if kind == 1 {
+    if kind <= 1 {
         return at + 1 + s[at] as usize;
     }
-    if kind == 2 {
+    if kind <= 2 {
         return at + 8;
     }
-    if kind == 3 {
+    if kind <= 3 {
         return at + 1;
     }
     let n = s[at] as usize;

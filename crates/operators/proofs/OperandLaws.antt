@@ -301,7 +301,7 @@ attribute-meant : (t : List ℕ) (view : View) (o : Entry) → o .kind ≤ 4 →
 unfolding operandValue
 attribute-meant t view o h = rw (as-attribute o h)
 
-literal-meant : (t : List ℕ) (view : View) (o : Entry) → 4 < o .kind → operandValue t view (operandOf o) ≡ literalValue t (literalOf o)
+pub literal-meant : (t : List ℕ) (view : View) (o : Entry) → 4 < o .kind → operandValue t view (operandOf o) ≡ literalValue t (literalOf o)
 unfolding operandValue
 literal-meant t view o h = rw (as-literal o h)
 

@@ -1,5 +1,5 @@
 -- What each operator says of the values that were read is what it says of the values that are meant. Assumes nothing.
-use Prim.Native.Nat.{ℕ}
+use Prim.Native.Nat.{ℕ, _<_}
 use mathlib.Core.List.{List}
 use mathlib.Core.Bool.{Bool, true, false}
 use mathlib.Core.Path.{_≡_, refl, sym, _∙_, ap}
@@ -16,13 +16,17 @@ use Rattle.meaning.specs.Values.{withAction, literalValue, attributeValue, ifTe
 use Rattle.meaning.specs.Conditions.{some}
 use Rattle.operators.specs.Operands.{attributeRead, literalRead, operandRead, stringOf, meant}
 use Rattle.operators.proofs.ValueLaws.{equal-13, datum-text, datum-texts, not-text, not-texts}
-use Rattle.operators.proofs.OperandLaws.{stringUnder, attribute-is, literal-is, operand-is}
+use Rattle.operators.proofs.OperandLaws.{stringUnder, attribute-is, literal-is, literal-meant, operand-is}
 
 -- a literal's value beside another
-pub literal-compares : (t : List ℕ) (o : Entry) (v w : Value) (x y : List ℕ) (r : Bool) → w ≡ literalRead t o → (o .kind ≡ 9 → y ≡ quotedAt t (spanOf o))
-    → ((l m : List (List ℕ)) → r ≡ compares (comparatorOf 13) (datumOf v x l) (datumOf w y m)) → (l : List (List ℕ))
-    → r ≡ compares Equal (datumOf v x l) (literalValue t (literalOf o))
-literal-compares t o v w x y r e q f l = f l l ∙ rw (← equal-13 13 refl, literal-is t o w y l e q)
+pub literal-compares : (t : List ℕ) (k : ℕ) (o : Entry) (v w : Value) (x y : List ℕ) (r : Bool) → w ≡ literalRead t o → (o .kind ≡ 9 → y ≡ quotedAt t (spanOf o))
+    → ((l m : List (List ℕ)) → r ≡ compares (comparatorOf k) (datumOf v x l) (datumOf w y m)) → (l : List (List ℕ))
+    → r ≡ compares (comparatorOf k) (datumOf v x l) (literalValue t (literalOf o))
+literal-compares t k o v w x y r e q f l = f l l ∙ rw (literal-is t o w y l e q)
+
+-- 13 is the kind of `==`
+pub same-by-13 : {r : Bool} (d e : Datum) → r ≡ compares (comparatorOf 13) d e → r ≡ compares Equal d e
+same-by-13 d e h = h ∙ rw (← equal-13 13 refl)
 
 module _ (t s : List ℕ) (p : Sections) (n : ℕ) (heads values : List ℕ) (stands : Stands s p n heads values) (action : List ℕ) where
   pub compare-is : (k : ℕ) (a b : Entry) (v w : Value) (x y : List ℕ) (r : Bool) → OperandPlaced t (operandOf a) → OperandPlaced t (operandOf b)
@@ -33,6 +37,16 @@ module _ (t s : List ℕ) (p : Sections) (n : ℕ) (heads values : List ℕ) (st
       held (listAt s (v .place)) (listAt s (w .place))
       ∙ ap (λ (d : Datum). compares (comparatorOf k) d (datumOf w y (listAt s (w .place)))) (operand-is t s p n heads values stands action a v x i e g)
       ∙ ap (compares (comparatorOf k) (meant t s p n heads values action a)) (operand-is t s p n heads values stands action b w y j f h)
+
+  -- the right operand a literal
+  pub compare-literal : (k : ℕ) (a b : Entry) (v : Value) (x : List ℕ) (r : Bool) → OperandPlaced t (operandOf a) → 4 < b .kind
+      → v ≡ operandRead t s p n heads values a → x ≡ stringOf t s action a v
+      → ((l : List (List ℕ)) → r ≡ compares (comparatorOf k) (datumOf v x l) (literalValue t (literalOf b)))
+      → r ≡ compares (comparatorOf k) (meant t s p n heads values action a) (meant t s p n heads values action b)
+  compare-literal k a b v x r i h e g held =
+      held (listAt s (v .place))
+      ∙ ap (λ (d : Datum). compares (comparatorOf k) d (literalValue t (literalOf b))) (operand-is t s p n heads values stands action a v x i e g)
+      ∙ ap (compares (comparatorOf k) (meant t s p n heads values action a)) (sym (literal-meant t (withAction action (rowView s p n heads values)) b h))
 
   module _ (a : Entry) (v : Value) (placed : OperandPlaced t (operandOf a)) (e : v ≡ operandRead t s p n heads values a) where
     pub among-is : (x : List ℕ) (ls : List Literal) (r : Bool) → x ≡ stringOf t s action a v

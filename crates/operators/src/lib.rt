@@ -1,7 +1,8 @@
 // Conditions without parts, found true or false entry by entry, over a row's view of attributes. An absent attribute makes such a condition false.
 ghost use mathlib.Core.Path.{_≡_};
 ghost use mathlib.Core.List.{List};
-ghost use Prim.Native.Nat.{ℕ, _+_, _<_, _≤_};
+ghost use Prim.Native.Nat.{ℕ, _+_, _*_, _≤_};
+ghost use lib.ListN.{length};
 ghost use Rattle.views.specs.Meaning.{present};
 ghost use Rattle.views.specs.Rows.{rowView, Stands};
 ghost use Rattle.patterns.specs.Likes.{likes};
@@ -14,6 +15,7 @@ ghost use Rattle.meaning.specs.Conditions.{told, some, asked, listed, verdict};
 ghost use Rattle.operators.specs.Operands.{meant, whichOf};
 use crate::lists::among_literals;
 use crate::lists::in_list;
+use crate::lists::literal_holds;
 use crate::lists::literals_listed;
 use crate::operands::attribute_value;
 use crate::operands::operand_string;
@@ -24,7 +26,7 @@ use crate::values::values_hold;
 use bags::sections::Sections;
 use meaning::Verdict;
 use table::Entry;
-use table::entry_at;
+use table::entry_in;
 
 pub mod lists;
 pub mod operands;
@@ -76,8 +78,12 @@ fn compare_operands<'a>(
     ensures { λ r. ⌜ r ≡ compares (comparatorOf kind) (meant (now (text .entry)) (now (s .entry)) p n (now (heads .entry)) (now (values .entry)) (now (action .entry)) a) (meant (now (text .entry)) (now (s .entry)) p n (now (heads .entry)) (now (values .entry)) (now (action .entry)) b) ⌝ }
 {
     let v = operand_value(text, s, p, n, heads, values, a);
-    let w = operand_value(text, s, p, n, heads, values, b);
     let x = operand_string(text, s, action, a, v);
+    let sort = b.kind;
+    if 4 < sort {
+        return literal_holds(text, kind, b, v, x);
+    }
+    let w = attribute_value(text, s, p, n, heads, values, b);
     let y = operand_string(text, s, action, b, w);
     values_hold(kind, v, x, w, y)
 }
@@ -124,7 +130,7 @@ fn operand_in_list<'a>(
 ) -> bool
     requires { ⌜ OperandPlaced (now text) (operandOf a) ⌝ }
     requires { ⌜ Each (LiteralPlaced (now text)) (literalsAt count (now table) at) ⌝ }
-    requires { ⌜ at + count < 65536 ⌝ }
+    requires { ⌜ 5 * (at + count) ≤ length (now table) ⌝ }
     requires { ⌜ Stands (now s) p n (now heads) (now values) ⌝ }
     ensures { λ r. ⌜ r ≡ some (λ l. compares Equal (meant (now (text .entry)) (now (s .entry)) p n (now (heads .entry)) (now (values .entry)) (now (action .entry)) a) (literalValue (now (text .entry)) l)) (literalsAt count (now (table .entry)) at) ⌝ }
 {
@@ -180,7 +186,7 @@ fn contains_literals(
 ) -> bool
     requires { ⌜ PathPlaced (now text) (rootOf (b .kind)) (spanOf b) ⌝ }
     requires { ⌜ Each (LiteralPlaced (now text)) (literalsAt count (now table) at) ⌝ }
-    requires { ⌜ at + count < 65536 ⌝ }
+    requires { ⌜ 5 * (at + count) ≤ length (now table) ⌝ }
     requires { ⌜ Stands (now s) p n (now heads) (now values) ⌝ }
     ensures { λ r. ⌜ ((action : List ℕ) → r ≡ ifTexts (attributeValue (now (text .entry)) (withAction action (rowView (now (s .entry)) p n (now (heads .entry)) (now (values .entry)))) (rootOf (b .kind)) (spanOf b)) (λ l. asked (whichOf any) (λ x. ifText (literalValue (now (text .entry)) x) (listed l)) (literalsAt count (now (table .entry)) at))) ⌝ }
 {
@@ -224,22 +230,22 @@ pub fn flat<'a>(
         return told_of(kind == 11);
     }
     if kind <= 18 {
-        let a = entry_at(table, end - 3);
-        let b = entry_at(table, end - 2);
+        let a = entry_in(table, end - 3);
+        let b = entry_in(table, end - 2);
         return told_of(compare_operands(text, kind, a, b, s, p, n, heads, values, action));
     }
     if kind == 19 {
-        let a = entry_at(table, end - 2);
+        let a = entry_in(table, end - 2);
         return told_of(like_operand(text, x, a, s, p, n, heads, values, action));
     }
     if kind == 21 {
-        let a = entry_at(table, end - 3);
-        let b = entry_at(table, end - 2);
+        let a = entry_in(table, end - 3);
+        let b = entry_in(table, end - 2);
         return told_of(operand_in_attribute(text, a, b, s, p, n, heads, values, action));
     }
     let count = x.first;
     let at = end - count - 1;
-    let a = entry_at(table, end - count - 2);
+    let a = entry_in(table, end - count - 2);
     if kind == 20 {
         return told_of(operand_in_list(text, table, count, at, a, s, p, n, heads, values, action));
     }

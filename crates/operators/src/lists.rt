@@ -1,7 +1,8 @@
 // Lists: the literals of a list in the table, and the strings of a list in the bag or question.
 ghost use mathlib.Core.Path.{_≡_};
 ghost use mathlib.Core.List.{List};
-ghost use Prim.Native.Nat.{ℕ, _+_, _<_};
+ghost use Prim.Native.Nat.{ℕ, _+_, _*_, _≤_};
+ghost use lib.ListN.{length};
 ghost use Rattle.slices.specs.Same.{same};
 ghost use Rattle.bags.specs.Reading.{many, each};
 ghost use Rattle.bags.specs.Values.{stringEnd, listEnd};
@@ -9,7 +10,7 @@ ghost use Rattle.bags.specs.declared.After.the-variants.{At};
 ghost use Rattle.views.specs.Values.{stringAt, listAt, datumOf};
 ghost use Rattle.grammar.specs.Policies.{Comparator.Equal};
 ghost use Rattle.placing.specs.Placed.{Each, LiteralPlaced};
-ghost use Rattle.stored.specs.ReadBack.{literalOf, literalsAt};
+ghost use Rattle.stored.specs.ReadBack.{literalOf, literalsAt, comparatorOf};
 ghost use Rattle.meaning.specs.Values.{ifText, literalValue, compares};
 ghost use Rattle.meaning.specs.Conditions.{some, asked, listed};
 ghost use Rattle.operators.specs.Operands.{whichOf};
@@ -20,32 +21,32 @@ use crate::values::same_string;
 use crate::values::values_hold;
 use lookups::values::Value;
 use table::Entry;
-use table::entry_at;
+use table::entry_in;
 
-// Whether a literal is the same as the value, with its string.
-fn literal_same(text: &[u8], o: Entry, v: Value, x: &[u8]) -> bool
+// Whether the comparator of an entry's kind holds of the value, with its string, and a literal.
+pub fn literal_holds(text: &[u8], kind: u8, o: Entry, v: Value, x: &[u8]) -> bool
     requires { ⌜ LiteralPlaced (now text) (literalOf o) ⌝ }
-    ensures { λ r. ⌜ ((l : List (List ℕ)) → r ≡ compares Equal (datumOf v (now (x .entry)) l) (literalValue (now (text .entry)) (literalOf o))) ⌝ }
+    ensures { λ r. ⌜ ((l : List (List ℕ)) → r ≡ compares (comparatorOf kind) (datumOf v (now (x .entry)) l) (literalValue (now (text .entry)) (literalOf o))) ⌝ }
 {
     let w = literal_value(text, o);
-    let kind = o.kind;
-    if kind == 9 {
-        return values_hold(13, v, x, w, quoted(text, o));
+    let sort = o.kind;
+    if sort == 9 {
+        return values_hold(kind, v, x, w, quoted(text, o));
     }
-    values_hold(13, v, x, w, x)
+    values_hold(kind, v, x, w, x)
 }
 
 // Whether one of the `n` literals from entry `at` on is the same as the value, with its string.
 pub fn among_literals(text: &[u8], table: &[u8], n: usize, at: usize, v: Value, x: &[u8]) -> bool
     requires { ⌜ Each (LiteralPlaced (now text)) (literalsAt n (now table) at) ⌝ }
-    requires { ⌜ at + n < 65536 ⌝ }
+    requires { ⌜ 5 * (at + n) ≤ length (now table) ⌝ }
     ensures { λ r. ⌜ ((l : List (List ℕ)) → r ≡ some (λ o. compares Equal (datumOf v (now (x .entry)) l) (literalValue (now (text .entry)) o)) (literalsAt n (now (table .entry)) at)) ⌝ }
 {
     let mut left = n;
     let mut next = at;
     while 0 < left {
-        let literal = entry_at(table, next);
-        if literal_same(text, literal, v, x) {
+        let literal = entry_in(table, next);
+        if literal_holds(text, 13, literal, v, x) {
             return true;
         }
         next += 1;
@@ -106,14 +107,14 @@ pub fn literals_listed(
     place: usize,
 ) -> bool
     requires { ⌜ Each (LiteralPlaced (now text)) (literalsAt n (now table) at) ⌝ }
-    requires { ⌜ at + n < 65536 ⌝ }
+    requires { ⌜ 5 * (at + n) ≤ length (now table) ⌝ }
     requires { ⌜ ((e : ℕ) × (listEnd (now s) place ≡ At e)) ⌝ }
     ensures { λ r. ⌜ r ≡ asked (whichOf any) (λ o. ifText (literalValue (now (text .entry)) o) (listed (listAt (now (s .entry)) place))) (literalsAt n (now (table .entry)) at) ⌝ }
 {
     let mut left = n;
     let mut next = at;
     while 0 < left {
-        let o = entry_at(table, next);
+        let o = entry_in(table, next);
         let here = literal_listed(text, o, s, place);
         if same_flag(here, any) {
             return any;

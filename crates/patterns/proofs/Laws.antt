@@ -4,13 +4,14 @@ use mathlib.Core.Logic.{_↔_, _≢_}
 use mathlib.Core.List.{List, [], _∷_}
 use Prim.Native.Nat.{ℕ, _+_, _<_, _≤_}
 use native.Mathlib.Omega.{arith}
-use mathlib.Core.Bool.{Bool, true, false, not}
+use mathlib.Core.Bool.{Bool, true, false, not, _&&_}
 use lib.Dec.{eqb}
 use lib.ListN.{length, getD, drop, length-drop, drop-of-length-le}
 use borrow.Author.Tests.{eqb-true, eqb-false, eq-eqb, ne-eqb, not-true}
 use Rattle.slices.specs.Decides.{Decides, yes-to}
 use Rattle.slices.proofs.Rest.{rest-at}
 use Rattle.patterns.specs.Like.{star, mark, colon, Admits, itself, any, Matches, ends, one, none, more}
+use Rattle.patterns.specs.Likes.{bars}
 
 -- ---- Admits
 
@@ -109,3 +110,28 @@ module _ (p s : List ℕ) (j : ℕ) (hj : j < length s) (f : Matches p (drop j s
 
   pub star-on : getD s j 0 ≢ colon → Matches (star ∷ p) (drop j s) ↔ Matches (star ∷ p) (drop (j + 1) s)
   star-on n = rw (rest-at s j) ((λ m. star-takes (rw (rest-at s j) at f) m .1), more n)
+
+-- ---- a pattern whose first byte rules out a string that begins with c
+
+pub bars-nothing : (p : List ℕ) (c : ℕ) → length p ≡ 0 → true ≡ bars p c
+unfolding bars
+bars-nothing [] c e = refl
+bars-nothing (x ∷ p) c e = absurd (omega arith)
+
+pub bars-first : (p : List ℕ) (c : ℕ) → (length p ≡ 0 → ⊥) → (not (eqb (getD p 0 0) c) && not (eqb (getD p 0 0) star) && not (eqb (getD p 0 0) mark)) ≡ bars p c
+unfolding bars
+bars-first [] c n = absurd (n refl)
+bars-first (x ∷ p) c n = refl
+
+none-begins : {c : ℕ} {s : List ℕ} (p : List ℕ) → bars p c ≡ true → Matches p (c ∷ s) → ⊥
+unfolding bars
+none-begins {c} (x ∷ p) b m = go (eqb x c) (eqb x star) (eqb x mark) refl refl refl b
+  where
+    go : (i j k : Bool) → eqb x c ≡ i → eqb x star ≡ j → eqb x mark ≡ k → (not i && not j && not k) ≡ true → ⊥
+    go false false false e f g q = eqb-false x c e (only-itself (eqb-false x mark g) (head-admits (eqb-false x star f) m))
+    go true j k e f g q = let z : _≡_ {A = ℕ} 0 1 = cc in omega arith
+    go false true k e f g q = let z : _≡_ {A = ℕ} 0 1 = cc in omega arith
+    go false false true e f g q = let z : _≡_ {A = ℕ} 0 1 = cc in omega arith
+
+pub barred-at : (p s : List ℕ) (j : ℕ) → j < length s → bars p (getD s j 0) ≡ true → Matches p (drop j s) → ⊥
+barred-at p s j hj b = rw (rest-at s j) (none-begins p b)

@@ -14,7 +14,7 @@ use Rattle.stored.specs.Stored.{Stored, StoredPolicies, View, is-true, i
 use Rattle.stored.specs.ReadBack.{treeAt, policiesAt}
 use Rattle.stored.specs.Ready.{Ready, ReadyPart, Room, Parts, Node, ReadyPolicies, Last}
 use Rattle.stored.proofs.Standing.{each-left, each-right}
-use Rattle.stored.proofs.Views.{view-of, stored-some, stored-few}
+use Rattle.stored.proofs.Views.{view-of, stored-some, stored-few, stands-here, stored-here}
 use Rattle.stored.proofs.Policies.{last-policy}
 use Rattle.stored.proofs.ReadingBack.{tree-back, seen-back, policy-back, policies-back}
 
@@ -128,6 +128,7 @@ module _ {text table : List ℕ} {end : ℕ} where
         placed = subst (TreePlaced text) (sym back) (r .placed);
         some = n;
         few = stored-few (r .stored);
+        here = stored-here (r .stored);
         low = low;
         high = high;
         room = room-of v;
@@ -166,6 +167,7 @@ last-of {text} {table} {end} r n =
       ends = v .ends;
       listed = let b = v .begins in let l = listed-before (omega arith) (v .action) in omega arith;
       few = r .stored .stands .few;
+      here = stands-here (r .stored .stands) n;
       before = ready-policies (k .before) (each-left (k .front) (k .last ∷ []) each);
       condition = condition-ready (v .condition) (p .condition);
     }

@@ -2,13 +2,14 @@
 use mathlib.Core.Path.{_≡_, refl, sym, _∙_, ap, subst}
 use mathlib.Core.Bool.{true, false}
 use mathlib.Core.List.{List, [], _∷_, _++_}
-use Prim.Native.Nat.{ℕ, _+_, _-_, _≤_, _<_}
+use Prim.Native.Nat.{ℕ, _+_, _-_, _*_, _≤_, _<_}
 use native.Mathlib.Omega.{arith}
 use lib.ListN.{length, length-append, length-map}
 use Rattle.grammar.specs.Policies.{Literal, Tree, constant, compare, like, among, within, contains, has, not, brackets, both, either, choice}
 use Rattle.table.specs.declared.Entry.{Entry}
 use Rattle.table.specs.Entries.{entry, placed, literalEntry, literalEntries, operandEntry, comparatorKind, whichKind, rootKind, hasKind, treeEntries}
-use Rattle.table.specs.Layout.{entryAt}
+use Rattle.table.specs.Layout.{entrySize, entryAt}
+use Rattle.table.proofs.Holding.{held-room}
 use Rattle.stored.specs.Stored.{Stands, Stored, Literals, View, is-true, is-false, is-comparison, is-like, is-among, is-within, is-contains, is-has, is-not, is-brackets, is-both, is-either, is-choice}
 use Rattle.stored.proofs.Standing.{stands-left, stands-right, stands-head, stands-tail, stands-before, stands-last, stands-from, literals-stand}
 
@@ -127,3 +128,11 @@ stored-some {t = t} h = let n = some-entries (h .first) t in let e = h .stands .
 
 pub stored-few : {T : List ℕ} {end : ℕ} {t : Tree} → Stored T end t → end < 65536
 stored-few h = h .stands .few
+
+-- the table has the entries that end there
+pub stands-here : {T : List ℕ} {first end : ℕ} {es : List Entry} → Stands T first end es → first < end → entrySize * end ≤ length T
+stands-here {T} {first} {end} {es} h n =
+    let e = h .ends in let k = held-room T first es (omega arith) (h .has) in omega arith
+
+pub stored-here : {T : List ℕ} {end : ℕ} {t : Tree} → Stored T end t → entrySize * end ≤ length T
+stored-here {t = t} h = let n = some-entries (h .first) t in let e = h .stands .ends in stands-here (h .stands) (omega arith)

@@ -1,7 +1,8 @@
 -- A table from which a condition, or policies, can be evaluated entry by entry: what is read back is stored there and lies in the text. Definitions only.
 use mathlib.Core.Path.{_≡_}
 use mathlib.Core.List.{List, [], _∷_, _++_}
-use Prim.Native.Nat.{ℕ, _+_, _-_, _≤_, _<_}
+use Prim.Native.Nat.{ℕ, _+_, _-_, _*_, _≤_, _<_}
+use lib.ListN.{length}
 use Rattle.placing.specs.Placed.{Each, TreePlaced, PolicyPlaced}
 use Rattle.table.specs.declared.Entry.{Entry}
 use Rattle.table.specs.Layout.{entryAt}
@@ -32,12 +33,13 @@ pub record Parts (text table : List ℕ) (end : ℕ) (x : Entry) : Type 0 where
   pub left : 26 ≤ x .kind → ReadyPart text table end (x .first)
   pub middle : x .kind ≡ 28 → ReadyPart text table end (x .second)
 
--- what the condition's last entry x, number end - 1, says
+-- what the condition's last entry x, number end - 1, says; the table has it, and all before it
 pub record Node (text table : List ℕ) (end : ℕ) (x : Entry) : Type 0 where
   pub is : treeAt table end ≡ treeOf (treeAt table) table end x
   pub placed : TreePlaced text (treeOf (treeAt table) table end x)
   pub some : 0 < end
   pub few : end < 65536
+  pub here : 5 * end ≤ length table
   pub low : 5 ≤ x .kind
   pub high : x .kind ≤ 28
   pub room : Room end x
@@ -48,7 +50,7 @@ pub record ReadyPolicies (text table : List ℕ) (end : ℕ) : Type 0 where
   pub stored : StoredPolicies table end (policiesAt table end)
   pub placed : Each (PolicyPlaced text) (policiesAt table end)
 
--- what the last policy's last entry x, number end - 1, says; its action part's last entry says how many strings stand before that one
+-- what the last policy's last entry x, number end - 1, says; the table has it, and all before it; its action part's last entry says how many strings stand before that one
 pub record Last (text table : List ℕ) (end : ℕ) (x : Entry) : Type 0 where
   pub is : policiesAt table end ≡ policiesAt table (x .first) ++ policyOf table end x ∷ []
   pub placed : PolicyPlaced text (policyOf table end x)
@@ -56,5 +58,6 @@ pub record Last (text table : List ℕ) (end : ℕ) (x : Entry) : Type 0 where
   pub ends : x .second < end
   pub listed : entryAt table (x .second - 2) .first + 2 ≤ x .second
   pub few : end < 65536
+  pub here : 5 * end ≤ length table
   pub before : ReadyPolicies text table (x .first)
   pub condition : x .second < end - 1 → Ready text table (end - 1)

@@ -249,3 +249,30 @@ pub length-puts : (T : List ℕ) (e : ℕ) (es : List Entry) → length (puts T 
 unfolding puts
 length-puts T e [] = refl
 length-puts T e (x ∷ es) = length-puts (putAt T e x) (e + 1) es ∙ length-put T e x
+
+-- a table that has some entries is long enough for them
+left-holds : (p q : Bool) → p && q ≡ true → p ≡ true
+left-holds true q e = refl
+left-holds false q e = e
+
+right-holds : (p q : Bool) → p && q ≡ true → q ≡ true
+right-holds true q e = e
+right-holds false q e = absurd (let z : _≡_ {A = ℕ} 0 1 = cc in omega arith)
+
+first-holds : (r k a b c d : Bool) → r && k && a && b && c && d ≡ true → r ≡ true
+first-holds true k a b c d e = refl
+first-holds false k a b c d e = e
+
+entry-fits : (T : List ℕ) (e : ℕ) (x : Entry) → entryIs T e x ≡ true → entrySize * e + entrySize ≤ length T
+unfolding entryIs
+entry-fits T e x h =
+    leb-true (entrySize * e + entrySize) (length T)
+    (first-holds (fits T e) (eqb (getD T (entrySize * e) 0) (x .kind)) (eqb (getD T (entrySize * e + 1) 0) (x .first % 256)) (eqb (getD T (entrySize * e + 2) 0) (x .first / 256 % 256))
+    (eqb (getD T (entrySize * e + 3) 0) (x .second % 256)) (eqb (getD T (entrySize * e + 4) 0) (x .second / 256 % 256)) h)
+
+pub held-room : (T : List ℕ) (e : ℕ) (es : List Entry) → 0 < length es → held T e es ≡ true → entrySize * (e + length es) ≤ length T
+unfolding held
+held-room T e [] n h = absurd (omega arith)
+held-room T e (x ∷ []) n h = let f = entry-fits T e x (left-holds (entryIs T e x) true h) in omega arith
+held-room T e (x ∷ y ∷ ys) n h =
+    let f = held-room T (e + 1) (y ∷ ys) (omega arith) (right-holds (entryIs T e x) (held T (e + 1) (y ∷ ys)) h) in omega arith

@@ -1,7 +1,8 @@
 // The table's bytes: nothing else looks into a table or writes into one. An entry is there whole or not at all.
 ghost use mathlib.Core.Path.{_≡_};
 ghost use mathlib.Core.Bool.{_&&_};
-ghost use Prim.Native.Nat.{_<_, _^_};
+ghost use Prim.Native.Nat.{_+_, _*_, _<_, _≤_, _^_};
+ghost use lib.ListN.{length};
 ghost use Rattle.table.specs.Layout.{putAt, numberOf, entryAt, entryIs};
 
 // An entry: a kind and two fields.
@@ -18,24 +19,31 @@ fn number_of(low: u8, high: u8) -> usize
     low as usize + 256 * (high as usize)
 }
 
+// Entry `number` of a table that has it.
+pub fn entry_in(table: &[u8], number: usize) -> Entry
+    requires { ⌜ 5 * number + 5 ≤ length (now table) ⌝ }
+    ensures { λ r. ⌜ r ≡ entryAt (now (table .entry)) number ⌝ }
+{
+    let p = 5 * number;
+    Entry {
+        kind: table[p],
+        first: number_of(table[p + 1], table[p + 2]),
+        second: number_of(table[p + 3], table[p + 4]),
+    }
+}
+
 // Entry `number` of a table, with zeros where the table has none.
 pub fn entry_at(table: &[u8], number: usize) -> Entry
     requires { ⌜ number < 2 ^ 60 ⌝ }
     ensures { λ r. ⌜ r ≡ entryAt (now (table .entry)) number ⌝ }
 {
-    let p = 5 * number;
-    if p + 5 <= table.len() {
-        Entry {
-            kind: table[p],
-            first: number_of(table[p + 1], table[p + 2]),
-            second: number_of(table[p + 3], table[p + 4]),
-        }
-    } else {
-        Entry {
-            kind: 0,
-            first: 0,
-            second: 0,
-        }
+    if 5 * number + 5 <= table.len() {
+        return entry_in(table, number);
+    }
+    Entry {
+        kind: 0,
+        first: 0,
+        second: 0,
     }
 }
 

@@ -1,7 +1,8 @@
 -- Targets by the numbers of types, and what an action part's last entry asks. Definitions only.
 use mathlib.Core.Bool.{Bool, true}
 use mathlib.Core.List.{List}
-use Prim.Native.Nat.{ℕ, _+_, _≤_, _<_}
+use Prim.Native.Nat.{ℕ, _+_, _*_, _≤_}
+use lib.ListN.{length}
 use lib.Dec.{eqb}
 use Rattle.slices.specs.Same.{same}
 use Rattle.grammar.specs.Policies.{Part, any, typed, pinned}
@@ -19,8 +20,8 @@ matchesBy t s sort any = true
 matchesBy t s sort (typed k) = eqb sort k
 matchesBy t s sort (pinned p) = same s (quotedAt t p)
 
--- the action part of which x is the last entry, number end - 1: its strings stand before x and lie in the text
+-- the action part of which x is the last entry, number end - 1, which the table has: its strings stand before x and lie in the text
 pub record Listing (text table : List ℕ) (end : ℕ) (x : Entry) : Type 0 where
   pub placed : ActionsPlaced text (actionsOf table end x)
   pub room : x .first + 1 ≤ end
-  pub few : end < 65536
+  pub here : 5 * end ≤ length table

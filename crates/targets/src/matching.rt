@@ -13,7 +13,7 @@ ghost use Rattle.meaning.specs.Decisions.{targetMatches};
 ghost use Rattle.targets.specs.Matching.{matchesBy, request, Listing};
 use slices::same as equal;
 use table::Entry;
-use table::entry_at;
+use table::entry_in;
 
 // Whether s is what stands between the quotes of the string of the text from `start` up to `end`.
 fn is_quoted(text: &[u8], start: usize, end: usize, s: &[u8]) -> bool
@@ -53,7 +53,7 @@ fn action_matches(text: &[u8], table: &[u8], end: usize, x: Entry, action: &[u8]
     let mut left = x.first;
     let mut e = end - x.first - 1;
     while 0 < left {
-        let literal = entry_at(table, e);
+        let literal = entry_in(table, e);
         if is_quoted(text, literal.first, literal.second, action) {
             return true;
         }
@@ -80,14 +80,14 @@ pub fn target_matches(
     requires { ⌜ «resource_type» ≡ typeIn resourceTypes (now resource) ⌝ }
     ensures { λ r. ⌜ r ≡ targetMatches (now (text .entry)) (request (now (subject .entry)) (now (action .entry)) (now (resource .entry))) (policyOf (now (table .entry)) end x) ⌝ }
 {
-    let principal = entry_at(table, x.first);
+    let principal = entry_in(table, x.first);
     if !part_matches(text, principal, subject, subject_type) {
         return false;
     }
-    let part = entry_at(table, x.second - 1);
+    let part = entry_in(table, x.second - 1);
     if !part_matches(text, part, resource, resource_type) {
         return false;
     }
-    let actions = entry_at(table, x.second - 2);
+    let actions = entry_in(table, x.second - 2);
     action_matches(text, table, x.second - 1, actions, action)
 }

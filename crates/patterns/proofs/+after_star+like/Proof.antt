@@ -1,5 +1,6 @@
 -- The cycle {after_star, like}: each call goes one star deeper, so the measure is the pattern's length, twice, and one more for `after_star`.
 -- What is only arithmetic is answered in `spec` itself. Assumes nothing.
+use mathlib.Core.Path.{sym, _∙_}
 use mathlib.Core.Logic.{_↔_, Iff·rfl, Iff·trans}
 use mathlib.Core.List.{_∷_}
 use Prim.Native.Nat.{ℕ, _+_, _-_, _*_, _<_, _≤_}
@@ -11,7 +12,7 @@ use lib.ListN.{length, drop}
 use Rattle.slices.proofs.Rest.{part-is}
 use Rattle.slices.specs.Decides.{yes-to, no-to, refuted, carried}
 use Rattle.patterns.specs.Like.{star, Matches, none}
-use Rattle.patterns.proofs.Laws.{star-at, match-end, no-match-past, no-match-here, match-on, star-last, star-stops, star-on}
+use Rattle.patterns.proofs.Laws.{star-at, match-end, no-match-past, no-match-here, match-on, star-last, star-stops, star-on, barred-at}
 use Rattle.patterns.proofs.after_star.Reads as after-star
 use Rattle.patterns.proofs.after_star.Kinds as after-star-kinds
 use Rattle.patterns.proofs.+after_star+like.Lts-after_star as after-star-lts
@@ -19,6 +20,7 @@ use Rattle.patterns.proofs.like.Reads as like
 use Rattle.patterns.proofs.like.Kinds as like-kinds
 use Rattle.patterns.proofs.+after_star+like.Lts-like as like-lts
 use Rattle.patterns.proofs.admits.Reads as admits
+use Rattle.patterns.proofs.is_barred.Reads as is-barred
 use Rattle.patterns.proofs.+after_star+like.{statement}
 use Rattle.patterns.proofs.+after_star+like.Tie.{close}
 
@@ -50,33 +52,48 @@ left-after-star rest string i₀ i = length string - i
 
 -- what the function needs, at the measure t
 abbrev AfterStar : (after-star-lts.Claims → In 2 after-star-kinds.ps → Out 2 after-star-kinds.ps after-star-kinds.r → after-star-lts.InvT-loop → after-star-lts.MeasureT-loop → Type 0) → Type 0
-AfterStar Need = (t : ℕ) → Need (like-below t, like.Post) (after-star-at t) after-star.Post Inv-after-star left-after-star
+AfterStar Need = (t : ℕ) → Need (is-barred.Asked, is-barred.Learnt, like-below t, like.Post) (after-star-at t) after-star.Post Inv-after-star left-after-star
 
 after-star-returns : AfterStar after-star-lts.Need-returns
 after-star-returns t c =
-    let at-loop = c .before .before .before in
-    carried (at-loop .loop .inv .1) (yes-to (none (rw part-is at (c .before .like .ensures .sound (c .if1 .taken)))))
-
-after-star-returns-2 : AfterStar after-star-lts.Need-returns-2
-after-star-returns-2 t c =
-    let at-like = c .before .before in
-    let at-loop = at-like .before .before in
-    let fails = refuted (at-like .like .ensures) (c .before .if1 .left) in
-    carried (at-loop .loop .inv .1) (no-to (λ m. (rw part-is at fails) (star-last _ (at-loop .before .before .before .args .string .now) (at-loop .loop .i) (omega arith) .0 m)))
-
-after-star-returns-3 : AfterStar after-star-lts.Need-returns-3
-after-star-returns-3 t c =
-    let at-like = c .before .before .before .before in
-    let at-loop = at-like .before .before in
-    let fails = refuted (at-like .like .ensures) (c .before .before .before .if1 .left) in
-    carried (at-loop .loop .inv .1) (no-to (star-stops _ (at-loop .before .before .before .args .string .now) (at-loop .loop .i) (omega arith) (rw part-is at fails) (c .if3 .taken)))
+    let at-test = c .before .before .before .before in
+    let string = at-test .before .before .before .before .args .string .now in
+    let fails = barred-at _ string _ (at-test .loop-test .taken) (sym (c .before .before .is-barred .ensures) ∙ c .before .if1 .taken) in
+    carried (at-test .before .loop .inv .1) (no-to (star-stops _ string (at-test .before .loop .i) (at-test .loop-test .taken) fails (c .if2 .taken)))
 
 after-star-loop-again : AfterStar after-star-lts.Need-loop-again
 after-star-loop-again t c =
-    let at-like = c .before .before .before .before in
-    let at-loop = at-like .before .before in
-    let fails = refuted (at-like .like .ensures) (c .before .before .before .if1 .left) in
-    (omega arith, Iff·trans (at-loop .loop .inv .1) (star-on _ (at-loop .before .before .before .args .string .now) (at-loop .loop .i) (omega arith) (rw part-is at fails) (c .if3 .left)))
+    let at-test = c .before .before .before .before in
+    let string = at-test .before .before .before .before .args .string .now in
+    let fails = barred-at _ string _ (at-test .loop-test .taken) (sym (c .before .before .is-barred .ensures) ∙ c .before .if1 .taken) in
+    (omega arith, Iff·trans (at-test .before .loop .inv .1) (star-on _ string (at-test .before .loop .i) (at-test .loop-test .taken) fails (c .if2 .left)))
+
+after-star-returns-2 : AfterStar after-star-lts.Need-returns-2
+after-star-returns-2 t c =
+    let at-loop = c .before .before .before .before .before .before .before in
+    carried (at-loop .loop .inv .1) (yes-to (none (rw part-is at (c .before .like .ensures .sound (c .if3 .taken)))))
+
+after-star-returns-3 : AfterStar after-star-lts.Need-returns-3
+after-star-returns-3 t c =
+    let at-like = c .before .before in
+    let at-test = at-like .before .before .before .before .before in
+    let string = at-test .before .before .before .before .args .string .now in
+    let fails = refuted (at-like .like .ensures) (c .before .if3 .left) in
+    carried (at-test .before .loop .inv .1) (no-to (star-stops _ string (at-test .before .loop .i) (at-test .loop-test .taken) (rw part-is at fails) (c .if4 .taken)))
+
+after-star-loop-again-2 : AfterStar after-star-lts.Need-loop-again-2
+after-star-loop-again-2 t c =
+    let at-like = c .before .before in
+    let at-test = at-like .before .before .before .before .before in
+    let string = at-test .before .before .before .before .args .string .now in
+    let fails = refuted (at-like .like .ensures) (c .before .if3 .left) in
+    (omega arith, Iff·trans (at-test .before .loop .inv .1) (star-on _ string (at-test .before .loop .i) (at-test .loop-test .taken) (rw part-is at fails) (c .if4 .left)))
+
+after-star-returns-4 : AfterStar after-star-lts.Need-returns-4
+after-star-returns-4 t c =
+    let at-end = c .before .before in
+    let string = at-end .before .before .before .before .args .string .now in
+    carried (at-end .before .loop .inv .1) (carried (star-last _ string (at-end .before .loop .i) (at-end .loop-test .left)) (rw part-is at (c .like2 .ensures)))
 
 -- ---- like: the pattern matches the string exactly when what is left of the one from i on matches what is left of the other
 
@@ -131,23 +148,32 @@ pub +after-star+like-spec : {M : Type 1} → statement M
     μ-after-star
     μ-like
     (λ t. after-star-lts.spec
-    (like-below t, like.Post)
+    (is-barred.Asked, is-barred.Learnt, like-below t, like.Post)
     (after-star-at t)
     after-star.Post
     Inv-after-star
     left-after-star
     (λ c. (omega arith, Iff·rfl))
     (λ c. omega arith)
+    (λ c κs. tt)
+    (after-star-returns t)
+    (λ c. omega arith)
+    (λ c. omega arith)
+    (after-star-loop-again t)
+    (λ c. omega arith)
     (λ c. omega arith)
     (λ c. omega arith)
     (λ c κs. (omega arith, tt))
-    (after-star-returns t)
     (after-star-returns-2 t)
-    (λ c. omega arith)
     (after-star-returns-3 t)
     (λ c. omega arith)
     (λ c. omega arith)
-    (after-star-loop-again t))
+    (after-star-loop-again-2 t)
+    (λ c. omega arith)
+    (λ c. omega arith)
+    (λ c. omega arith)
+    (λ c κs. (omega arith, tt))
+    (after-star-returns-4 t))
     (λ t. like-lts.spec
     (after-star-below t, after-star.Post, admits.Asked, admits.Learnt)
     (like-at t)

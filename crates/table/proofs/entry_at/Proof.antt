@@ -1,16 +1,9 @@
--- `table::entry_at` meets its contract: the bytes read are those of `entryAt`. Assumes nothing.
+-- `table::entry_at` meets its contract. Assumes nothing.
 use borrow.Author.Needs.{needs}
-use borrow.Author.Tests.{le-leb, lt-leb}
+use borrow.Author.Tests.{lt-leb}
 use Rattle.table.specs.Layout.{entryAt}
 use Rattle.table.proofs.entry_at.Statement.{statement}
 use Rattle.table.proofs.entry_at.Tie as tie
-
-returns : tie.Need-returns
-unfolding entryAt
-returns c =
-    let at-number-of = c .before .before .before in
-    let at-if1 = at-number-of .before .before .before .before in
-    rw (le-leb _ _ (at-if1 .if1 .taken), c .number-of2 .ensures, at-number-of .number-of .ensures)
 
 returns-2 : tie.Need-returns-2
 unfolding entryAt
@@ -22,16 +15,6 @@ entry-at-spec =
     (tie.spec
     (λ c. search needs)
     (λ c. search needs)
-    (λ c. search needs)
-    (λ c. search needs)
-    (λ c. search needs)
-    (λ c. search needs)
-    (λ c. search needs)
     (λ c κs. search needs)
     (λ c. search needs)
-    (λ c. search needs)
-    (λ c. search needs)
-    (λ c. search needs)
-    (λ c κs. search needs)
-    returns
     returns-2)

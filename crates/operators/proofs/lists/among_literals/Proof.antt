@@ -1,3 +1,4 @@
+use Rattle.operators.proofs.OperatorLaws.{same-by-13}
 use Rattle.operators.proofs.ListLaws.{isSame}
 use Rattle.operators.proofs.ListLaws.{FirstPlaced, first-placed, at-entry, some-done, some-here, some-more}
 use Rattle.meaning.specs.Conditions.{some}
@@ -14,8 +15,8 @@ use Rattle.operators.proofs.lists.among_literals.Statement.{statement}
 use Rattle.operators.proofs.lists.among_literals.Tie as tie
 use Rattle.operators.proofs.lists.among_literals.Reads as reads
 use Rattle.operators.proofs.lists.among_literals.Lts as lts
-use Rattle.operators.proofs.lists.literal_same.Reads as literal-same-reads
-use Rattle.table.proofs.entry_at.Reads as entry-at-reads
+use Rattle.operators.proofs.lists.literal_holds.Reads as literal-holds-reads
+use Rattle.table.proofs.entry_in.Reads as entry-in-reads
 
 abbrev Inv-loop : tie.InvT-loop
 Inv-loop text table n at v x left₀ next₀ left next = Each (LiteralPlaced text) (literalsAt left table next) × (next + left ≡ at + n) × ((l : List (List ℕ)) → some (isSame text v x l) (literalsAt left table next) ≡ some (isSame text v x l) (literalsAt n table at))
@@ -31,16 +32,16 @@ loop-holds : tie.Need-loop-holds Inv-loop μ-loop
 loop-holds c = (c .before .before .before .pre .0, refl, λ l. refl)
 
 -- src/lists.rt:47:13
-entry-at-requires : tie.Need-entry-at-requires Inv-loop μ-loop
-entry-at-requires c κs = omega (arith, c .before .loop .inv .1, c .before .before .before .before .before .pre .1)
+entry-in-requires : tie.Need-entry-in-requires Inv-loop μ-loop
+entry-in-requires c κs = omega (arith, c .before .loop .inv .1, c .before .before .before .before .before .pre .1)
 
 -- src/lists.rt:48:12
-literal-same-requires : tie.Need-literal-same-requires Inv-loop μ-loop
-literal-same-requires c κs = rw (c .entry-at .ensures) (one (c .before) .here)
+literal-holds-requires : tie.Need-literal-holds-requires Inv-loop μ-loop
+literal-holds-requires c κs = rw (c .entry-in .ensures) (one (c .before) .here)
 
 -- src/lists.rt:49:13
 returns : tie.Need-returns Inv-loop μ-loop
-returns c = λ l. let test = isSame (c .before .before .before .before .before .before .before .before .args .text .now) (c .before .before .before .before .before .before .before .before .args .v) (c .before .before .before .before .before .before .before .before .args .x .now) l in some-here test _ _ _ (c .before .before .before .loop-test .taken) (at-entry _ _ test _ _ _ (c .before .literal-same .ensures l) (c .before .before .entry-at .ensures) (c .if1 .taken)) ∙ c .before .before .before .before .loop .inv .2 l
+returns c = λ l. let test = isSame (c .before .before .before .before .before .before .before .before .args .text .now) (c .before .before .before .before .before .before .before .before .args .v) (c .before .before .before .before .before .before .before .before .args .x .now) l in some-here test _ _ _ (c .before .before .before .loop-test .taken) (at-entry _ _ test _ _ _ (same-by-13 _ _ (c .before .literal-holds .ensures l)) (c .before .before .entry-in .ensures) (c .if1 .taken)) ∙ c .before .before .before .before .loop .inv .2 l
 
 -- src/lists.rt:51:9
 add-next : tie.Need-add-next Inv-loop μ-loop
@@ -56,7 +57,7 @@ loop-less c = omega arith
 
 -- src/lists.rt:46:5
 loop-again : tie.Need-loop-again Inv-loop μ-loop
-loop-again c = (one (c .before .before .before) .later, omega (arith, c .before .before .before .before .loop .inv .1), λ l. let test = isSame (c .before .before .before .before .before .before .before .before .args .text .now) (c .before .before .before .before .before .before .before .before .args .v) (c .before .before .before .before .before .before .before .before .args .x .now) l in sym (some-more test _ _ _ (c .before .before .before .loop-test .taken) (at-entry _ _ test _ _ _ (c .before .literal-same .ensures l) (c .before .before .entry-at .ensures) (c .if1 .left))) ∙ c .before .before .before .before .loop .inv .2 l)
+loop-again c = (one (c .before .before .before) .later, omega (arith, c .before .before .before .before .loop .inv .1), λ l. let test = isSame (c .before .before .before .before .before .before .before .before .args .text .now) (c .before .before .before .before .before .before .before .before .args .v) (c .before .before .before .before .before .before .before .before .args .x .now) l in sym (some-more test _ _ _ (c .before .before .before .loop-test .taken) (at-entry _ _ test _ _ _ (same-by-13 _ _ (c .before .literal-holds .ensures l)) (c .before .before .entry-in .ensures) (c .if1 .left))) ∙ c .before .before .before .before .loop .inv .2 l)
 
 -- src/lists.rt:39:1
 returns-2 : tie.Need-returns-2 Inv-loop μ-loop
@@ -69,8 +70,8 @@ among-literals-spec =
     Inv-loop
     μ-loop
     loop-holds
-    entry-at-requires
-    literal-same-requires
+    entry-in-requires
+    literal-holds-requires
     returns
     add-next
     sub-left

@@ -18,7 +18,7 @@ use Rattle.operators.proofs.lists.literals_listed.Reads as reads
 use Rattle.operators.proofs.lists.literals_listed.Lts as lts
 use Rattle.operators.proofs.lists.literal_listed.Reads as literal-listed-reads
 use Rattle.operators.proofs.values.same_flag.Reads as same-flag-reads
-use Rattle.table.proofs.entry_at.Reads as entry-at-reads
+use Rattle.table.proofs.entry_in.Reads as entry-in-reads
 
 abbrev Inv-loop : tie.InvT-loop
 Inv-loop text table any n at s place left₀ next₀ left next = Each (LiteralPlaced text) (literalsAt left table next) × (next + left ≡ at + n) × (asked (whichOf any) (isListed text s place) (literalsAt left table next) ≡ asked (whichOf any) (isListed text s place) (literalsAt n table at))
@@ -34,12 +34,12 @@ loop-holds : tie.Need-loop-holds Inv-loop μ-loop
 loop-holds c = (c .before .before .before .pre .0, refl, refl)
 
 -- src/lists.rt:108:13
-entry-at-requires : tie.Need-entry-at-requires Inv-loop μ-loop
-entry-at-requires c κs = omega (arith, c .before .loop .inv .1, c .before .before .before .before .before .pre .1 .0)
+entry-in-requires : tie.Need-entry-in-requires Inv-loop μ-loop
+entry-in-requires c κs = omega (arith, c .before .loop .inv .1, c .before .before .before .before .before .pre .1 .0)
 
 -- src/lists.rt:109:13
 literal-listed-requires : tie.Need-literal-listed-requires Inv-loop μ-loop
-literal-listed-requires c κs = (rw (c .entry-at .ensures) (one (c .before) .here), c .before .before .before .before .before .before .pre .1 .1)
+literal-listed-requires c κs = (rw (c .entry-in .ensures) (one (c .before) .here), c .before .before .before .before .before .before .pre .1 .1)
 
 -- src/lists.rt:110:12
 same-flag-requires : tie.Need-same-flag-requires Inv-loop μ-loop
@@ -47,7 +47,7 @@ same-flag-requires c κs = search needs
 
 -- src/lists.rt:111:13
 returns : tie.Need-returns Inv-loop μ-loop
-returns c = let test = isListed (c .before .before .before .before .before .before .before .before .before .args .text .now) (c .before .before .before .before .before .before .before .before .before .args .s .now) (c .before .before .before .before .before .before .before .before .before .args .place) in asked-here test (c .before .before .before .before .before .before .before .before .before .args .table .now) (c .before .before .before .before .before .before .before .before .before .args .any) (c .before .before .before .before .before .loop .left) (c .before .before .before .before .before .loop .next) (c .before .before .before .before .loop-test .taken) (at-entry _ _ (λ o. sameFlag (test o) (c .before .before .before .before .before .before .before .before .before .args .any)) _ _ _ (c .before .same-flag .ensures ∙ ap (λ (b : Bool). sameFlag b (c .before .before .before .before .before .before .before .before .before .args .any)) (c .before .before .literal-listed .ensures)) (c .before .before .before .entry-at .ensures) (c .if1 .taken)) ∙ c .before .before .before .before .before .loop .inv .2
+returns c = let test = isListed (c .before .before .before .before .before .before .before .before .before .args .text .now) (c .before .before .before .before .before .before .before .before .before .args .s .now) (c .before .before .before .before .before .before .before .before .before .args .place) in asked-here test (c .before .before .before .before .before .before .before .before .before .args .table .now) (c .before .before .before .before .before .before .before .before .before .args .any) (c .before .before .before .before .before .loop .left) (c .before .before .before .before .before .loop .next) (c .before .before .before .before .loop-test .taken) (at-entry _ _ (λ o. sameFlag (test o) (c .before .before .before .before .before .before .before .before .before .args .any)) _ _ _ (c .before .same-flag .ensures ∙ ap (λ (b : Bool). sameFlag b (c .before .before .before .before .before .before .before .before .before .args .any)) (c .before .before .literal-listed .ensures)) (c .before .before .before .entry-in .ensures) (c .if1 .taken)) ∙ c .before .before .before .before .before .loop .inv .2
 
 -- src/lists.rt:113:9
 add-next : tie.Need-add-next Inv-loop μ-loop
@@ -63,7 +63,7 @@ loop-less c = omega arith
 
 -- src/lists.rt:107:5
 loop-again : tie.Need-loop-again Inv-loop μ-loop
-loop-again c = let test = isListed (c .before .before .before .before .before .before .before .before .before .args .text .now) (c .before .before .before .before .before .before .before .before .before .args .s .now) (c .before .before .before .before .before .before .before .before .before .args .place) in (one (c .before .before .before .before) .later, omega (arith, c .before .before .before .before .before .loop .inv .1), sym (asked-more test (c .before .before .before .before .before .before .before .before .before .args .table .now) (c .before .before .before .before .before .before .before .before .before .args .any) (c .before .before .before .before .before .loop .left) (c .before .before .before .before .before .loop .next) (c .before .before .before .before .loop-test .taken) (at-entry _ _ (λ o. sameFlag (test o) (c .before .before .before .before .before .before .before .before .before .args .any)) _ _ _ (c .before .same-flag .ensures ∙ ap (λ (b : Bool). sameFlag b (c .before .before .before .before .before .before .before .before .before .args .any)) (c .before .before .literal-listed .ensures)) (c .before .before .before .entry-at .ensures) (c .if1 .left))) ∙ c .before .before .before .before .before .loop .inv .2)
+loop-again c = let test = isListed (c .before .before .before .before .before .before .before .before .before .args .text .now) (c .before .before .before .before .before .before .before .before .before .args .s .now) (c .before .before .before .before .before .before .before .before .before .args .place) in (one (c .before .before .before .before) .later, omega (arith, c .before .before .before .before .before .loop .inv .1), sym (asked-more test (c .before .before .before .before .before .before .before .before .before .args .table .now) (c .before .before .before .before .before .before .before .before .before .args .any) (c .before .before .before .before .before .loop .left) (c .before .before .before .before .before .loop .next) (c .before .before .before .before .loop-test .taken) (at-entry _ _ (λ o. sameFlag (test o) (c .before .before .before .before .before .before .before .before .before .args .any)) _ _ _ (c .before .same-flag .ensures ∙ ap (λ (b : Bool). sameFlag b (c .before .before .before .before .before .before .before .before .before .args .any)) (c .before .before .literal-listed .ensures)) (c .before .before .before .entry-in .ensures) (c .if1 .left))) ∙ c .before .before .before .before .before .loop .inv .2)
 
 -- src/lists.rt:99:1
 returns-2 : tie.Need-returns-2 Inv-loop μ-loop
@@ -76,7 +76,7 @@ literals-listed-spec =
     Inv-loop
     μ-loop
     loop-holds
-    entry-at-requires
+    entry-in-requires
     literal-listed-requires
     same-flag-requires
     returns

@@ -3,14 +3,15 @@ use native.Mathlib.Omega.{arith}
 use Rattle.targets.proofs.MatchLaws.{amongAt, every-action, one-action, each-listed, each-on, string-lies, found-here, not-here, none-found}
 use Rattle.stored.specs.ReadBack.{literalsAt}
 use Rattle.placing.specs.Placed.{Each, ActionPlaced}
-use Prim.Native.Nat.{_+_, _<_}
+use Prim.Native.Nat.{_+_, _*_, _≤_}
+use lib.ListN.{length}
 use mathlib.Core.Path.{_≡_, refl, sym, _∙_}
 use Rattle.targets.proofs.matching.action_matches.Statement.{statement}
 use Rattle.targets.proofs.matching.action_matches.Tie as tie
 
 abbrev Inv-loop : tie.InvT-loop
 Inv-loop text table end action left₀ e₀ left e =
-    (amongAt text action table left e ≡ amongAt text action table left₀ e₀) × Each (ActionPlaced text) (literalsAt left table e) × (e + left < 65536)
+    (amongAt text action table left e ≡ amongAt text action table left₀ e₀) × Each (ActionPlaced text) (literalsAt left table e) × (5 * (e + left) ≤ length table)
 
 abbrev μ-loop : tie.MeasureT-loop
 μ-loop text table end action left₀ e₀ left e = left
@@ -25,17 +26,17 @@ sub-e-2 : tie.Need-sub-e-2 Inv-loop μ-loop
 sub-e-2 c = omega (arith, c .before .before .before .before .before .before .pre .room)
 
 loop-holds : tie.Need-loop-holds Inv-loop μ-loop
-loop-holds c = (refl, each-listed _ (c .before .before .before .before .before .before .args .action .now) _ _ _ (c .before .if1 .left) (c .before .before .before .before .before .before .pre .placed), omega (arith, c .before .before .before .before .before .before .pre .few))
+loop-holds c = (refl, each-listed _ (c .before .before .before .before .before .before .args .action .now) _ _ _ (c .before .if1 .left) (c .before .before .before .before .before .before .pre .placed), omega (arith, c .before .before .before .before .before .before .pre .here, c .before .before .before .before .before .before .pre .room))
 
 is-quoted-requires : tie.Need-is-quoted-requires Inv-loop μ-loop
-is-quoted-requires c κs = string-lies _ (c .before .before .before .before .before .before .before .before .before .args .action .now) _ _ _ (c .before .loop-test .taken) (c .before .before .loop .inv .1) _ (c .entry-at .ensures)
+is-quoted-requires c κs = string-lies _ (c .before .before .before .before .before .before .before .before .before .args .action .now) _ _ _ (c .before .loop-test .taken) (c .before .before .loop .inv .1) _ (c .entry-in .ensures)
 
 returns-2 : tie.Need-returns-2 Inv-loop μ-loop
-returns-2 c = found-here _ _ _ _ _ (c .before .before .before .loop-test .taken) (c .before .before .before .before .loop .inv .1) _ (c .before .before .entry-at .ensures) (sym (c .before .is-quoted .ensures) ∙ c .if2 .taken) ∙ c .before .before .before .before .loop .inv .0 ∙ one-action _ _ _ _ _ (c .before .before .before .before .before .before .if1 .left)
+returns-2 c = found-here _ _ _ _ _ (c .before .before .before .loop-test .taken) (c .before .before .before .before .loop .inv .1) _ (c .before .before .entry-in .ensures) (sym (c .before .is-quoted .ensures) ∙ c .if2 .taken) ∙ c .before .before .before .before .loop .inv .0 ∙ one-action _ _ _ _ _ (c .before .before .before .before .before .before .if1 .left)
 
 loop-again : tie.Need-loop-again Inv-loop μ-loop
 loop-again c = (
-  not-here _ _ _ _ _ (c .before .before .before .loop-test .taken) (c .before .before .before .before .loop .inv .1) _ (c .before .before .entry-at .ensures) (sym (c .before .is-quoted .ensures) ∙ c .if2 .left) ∙ c .before .before .before .before .loop .inv .0,
+  not-here _ _ _ _ _ (c .before .before .before .loop-test .taken) (c .before .before .before .before .loop .inv .1) _ (c .before .before .entry-in .ensures) (sym (c .before .is-quoted .ensures) ∙ c .if2 .left) ∙ c .before .before .before .before .loop .inv .0,
   each-on _ (c .before .before .before .before .before .before .before .before .before .before .before .args .action .now) _ _ _ (c .before .before .before .loop-test .taken) (c .before .before .before .before .loop .inv .1),
   omega arith,
 )

@@ -2,10 +2,10 @@ use Rattle.operators.proofs.OperatorLaws.{literal-compares}
 use Rattle.operators.proofs.OperandLaws.{string-placed}
 use mathlib.Core.Path.{refl}
 use borrow.Author.Needs.{needs}
-use Rattle.operators.proofs.lists.literal_same.Statement.{statement}
-use Rattle.operators.proofs.lists.literal_same.Tie as tie
-use Rattle.operators.proofs.lists.literal_same.Reads as reads
-use Rattle.operators.proofs.lists.literal_same.Lts as lts
+use Rattle.operators.proofs.lists.literal_holds.Statement.{statement}
+use Rattle.operators.proofs.lists.literal_holds.Tie as tie
+use Rattle.operators.proofs.lists.literal_holds.Reads as reads
+use Rattle.operators.proofs.lists.literal_holds.Lts as lts
 use Rattle.operators.proofs.operands.literal_value.Reads as literal-value-reads
 use Rattle.operators.proofs.operands.quoted.Reads as quoted-reads
 use Rattle.operators.proofs.values.values_hold.Reads as values-hold-reads
@@ -24,7 +24,7 @@ values-hold-requires c κs = search needs
 
 -- src/lists.rt:33:9
 returns : tie.Need-returns
-returns c = λ l. literal-compares _ _ _ _ _ _ _ (c .before .before .before .literal-value .ensures) (λ k. c .before .quoted .ensures) (c .values-hold .ensures) l
+returns c = λ l. literal-compares _ _ _ _ _ _ _ _ (c .before .before .before .literal-value .ensures) (λ k. c .before .quoted .ensures) (c .values-hold .ensures) l
 
 -- src/lists.rt:35:5
 values-hold-requires-2 : tie.Need-values-hold-requires-2
@@ -32,10 +32,10 @@ values-hold-requires-2 c κs = search needs
 
 -- src/lists.rt:26:1
 returns-2 : tie.Need-returns-2
-returns-2 c = λ l. literal-compares _ _ _ _ _ _ _ (c .before .before .literal-value .ensures) (λ k. absurd (c .before .if1 .left k)) (c .values-hold2 .ensures) l
+returns-2 c = λ l. literal-compares _ _ _ _ _ _ _ _ (c .before .before .literal-value .ensures) (λ k. absurd (c .before .if1 .left k)) (c .values-hold2 .ensures) l
 
-pub literal-same-spec : {M : Type 1} → statement M
-literal-same-spec =
+pub literal-holds-spec : {M : Type 1} → statement M
+literal-holds-spec =
     tie.close
     (tie.spec
     literal-value-requires

@@ -1,0 +1,63 @@
+-- `lookups::finding::is_named` meets its contract. Assumes nothing.
+use Prim.Native.Nat.{ℕ, _+_, _<_, _≤_}
+use borrow.Author.Needs.{needs}
+use borrow.Author.Tests.{eqb-false}
+use lib.Dec.{eqb}
+use lib.ListN.{length}
+use mathlib.Core.Bool.{Bool, true, false, not, _&&_}
+use mathlib.Core.List.{List}
+use mathlib.Core.Path.{_≡_, refl, sym, _∙_, ap}
+use native.Mathlib.Omega.{arith}
+use Rattle.slices.specs.Parts.{part}
+use Rattle.slices.proofs.Equal.{same-is}
+use Rattle.bags.specs.Paths.{isPath}
+use Rattle.bags.proofs.PathLaws.{path-sized}
+use Rattle.bags.proofs.ReadLaws.{part-to}
+use Rattle.lookups.proofs.FindLaws.{same-long, other-lead, part-sized}
+use Rattle.lookups.proofs.BagLaws.{path-clear}
+use Rattle.lookups.proofs.finding.is_named.Statement.{statement}
+use Rattle.lookups.proofs.finding.is_named.Tie as tie
+
+-- a path is not empty
+sized : (s : List ℕ) (at n : ℕ) → at + n ≤ length s → isPath (part s at n) ≡ true → 0 < n
+sized s at n f p = let l = path-sized (part s at n) p .0 in let k = part-sized s at n f in omega arith
+
+both-differ : (a b : ℕ) (k : Bool) → (not (eqb a b) && not k) ≡ true → (a ≡ b → ⊥) × (k ≡ false)
+both-differ a b k h = go (eqb a b) k refl refl h
+  where
+    go : (i j : Bool) → eqb a b ≡ i → k ≡ j → (not i && not j) ≡ true → (a ≡ b → ⊥) × (k ≡ false)
+    go false false e f q = (eqb-false a b e, f)
+    go true j e f q = absurd (let z : _≡_ {A = ℕ} 0 1 = cc in omega arith)
+    go false true e f q = absurd (let z : _≡_ {A = ℕ} 0 1 = cc in omega arith)
+
+shared-slice-read-if1 : tie.Need-shared-slice-read-if1
+shared-slice-read-if1 c = omega (arith, sized _ _ _ (c .before .before .before .pre .0) (c .before .before .before .pre .1 .0))
+
+returns : tie.Need-returns
+returns c =
+    let start = c .before .before .before .before .before in
+    let (d, b) = both-differ _ _ _ (c .if1 .taken) in
+    other-lead _ _ _ _ _ (sized _ _ _ (start .pre .0) (start .pre .1 .0)) (start .pre .0) (start .pre .1 .1 .0) (start .pre .1 .1 .1) (sym (c .before .is-blank .ensures) ∙ b) d
+
+returns-2 : tie.Need-returns-2
+returns-2 c =
+    let start = c .before .before .before .before .before .before .before .before in
+    let s = start .args .s .now in
+    same-is (part s (start .args .at) (start .args .n)) _ (rw (part-to s (start .args .at) (start .args .n)) at (c .same .ensures))
+    ∙ same-long (part s (start .args .at) (start .args .n)) _ (path-clear _ (start .pre .1 .0)) (part-sized s (start .args .at) (start .args .n) (start .pre .0) ∙ c .before .before .if2 .taken)
+
+pub is-named-spec : {M : Type 1} → statement M
+is-named-spec =
+    tie.close
+    (tie.spec
+    shared-slice-read-if1
+    (λ c κs. search needs)
+    returns
+    (λ c. search needs)
+    (λ c. search needs)
+    (λ c. search needs)
+    (λ c. search needs)
+    (λ c κs. search needs)
+    returns-2
+    (λ c κs. search needs)
+    (λ c. search needs))
