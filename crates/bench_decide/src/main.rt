@@ -1,5 +1,5 @@
-// Decides one request again and again, so that the instructions can be counted. The input: how often, in 4 bytes, and as parts the text, the bag, the subject,
-// the action and the resource.
+// Decides one request again and again, so that the instructions can be counted. The input: how often, in 4 bytes, and as parts the text that is compiled, the text that
+// is lent beside its table (another one gets refusal 20), the bag, the subject, the action and the resource.
 ghost use Prim.Native.Nat.{_<_};
 use compiling::Compiled;
 use compiling::compile;
@@ -68,18 +68,20 @@ fn decide_often<'a>(
 
 fn main() {
     let mut table = [0u8; 65537];
+    let mut compiled = [0u8; 8192];
     let mut text = [0u8; 8192];
     let mut bag = [0u8; 4097];
     let mut subject = [0u8; 101];
     let mut action = [0u8; 101];
     let mut resource = [0u8; 101];
     let times = vectors::vector_count();
+    let c = vectors::read_part(&mut compiled);
     let n = vectors::read_part(&mut text);
     let b = vectors::read_part(&mut bag);
     let s = vectors::read_part(&mut subject);
     let a = vectors::read_part(&mut action);
     let r = vectors::read_part(&mut resource);
-    compile(&text[..n], &mut table);
+    compile(&compiled[..c], &mut table);
     let sum = decide_often(
         times,
         &text[..n],
