@@ -53,7 +53,6 @@ pub record Computed : Type 0 where
       (gets "permit(principal,action,resource)when{principal.a != \"x\"};" ≡ answered 0 3 0)
       × (gets "permit(principal,action,resource)when{!(principal.a != \"x\")};" ≡ answered 0 1 1)
   pub case-l : gets "permit(principal,action,resource);forbid(principal,action,resource);" ≡ answered 0 2 2
-
   -- the system first, with nothing else looked at; then the subject, the bag, the text
   pub in-order :
       (asks "system" [] "no text" ≡ answered 0 4 0)
