@@ -1,6 +1,6 @@
 -- The cases of a call for a page, test by test in document 01's order. Assumes nothing.
 use mathlib.Core.Path.{_≡_, sym, _∙_}
-use mathlib.Core.Bool.{true, false}
+use mathlib.Core.Bool.{true, false, cond}
 use mathlib.Core.List.{List, _++_}
 use Prim.Native.Nat.{ℕ, zero, suc, _+_, _-_, _≤_, _<_}
 use borrow.Author.Tests.{le-leb, lt-leb}
@@ -23,7 +23,7 @@ use Rattle.deciding.specs.Answers.{policiesOf}
 use Rattle.deciding.proofs.HeldLaws.{held-says}
 use Rattle.pages.specs.Listing.{rowSize, PageWritten}
 use Rattle.pages.specs.declared.Page.{Page}
-use Rattle.sheets.specs.Sheets.{rowsIn, decisionBy, decisionAt, dividedAs, sectionsIn, requestRefusal, refusalOf, unless, PartListed, answerOf, sheetAfter, SheetListed}
+use Rattle.sheets.specs.Sheets.{rowsIn, rowsAsked, decisionBy, decisionAt, dividedAs, sectionsIn, requestRefusal, refusalOf, unless, PartListed, answerOf, sheetAfter, SheetListed}
 use Rattle.sheets.specs.declared.Answer.{Answer}
 use Rattle.sheets.specs.declared.Answer.the-variants.{Listed, Refused}
 
@@ -121,3 +121,12 @@ module _ (text table s : List ℕ) (q : Request) (start : ℕ) (sheet : List ℕ
       listed-there g {answer} {after} w =
           let v : PartListed text table s (sectionsIn s) q start (drop at sheet) answer after = rw (sections-are, ← tail-lent at sheet) w in
           record { answered = rw (passes g) (v .answered); sheet = rw (tail-back at sheet after, passes g) (joined-back at sheet (requestRefusal text table q) _ after (v .bytes)) }
+
+-- ---- the number of rows
+
+pub rows-counted : (s : List ℕ) (p : Sections) → isQuestion s ≡ true → sectionsOf s ≡ In p → {r : ℕ} → r ≡ rowsIn s p → r ≡ cond (isQuestion s) (rowsAsked s) 0
+unfolding dividedAs
+rows-counted s p form divided e = rw (form, divided) e
+
+pub none-counted : (s : List ℕ) → isQuestion s ≡ false → 0 ≡ cond (isQuestion s) (rowsAsked s) 0
+none-counted s form = rw form

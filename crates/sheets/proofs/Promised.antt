@@ -6,7 +6,7 @@ use Prim.Native.Nat.{ℕ, zero, suc, _+_, _*_, _≤_, _<_}
 use native.Mathlib.Omega.{arith}
 use borrow.Author.Tests.{leb-true, leb-false, le-leb, lt-leb}
 use lib.Dec.{leb}
-use lib.ListN.{length, take, drop, length-drop}
+use lib.ListN.{length, take, drop, length-drop, length-take}
 use lib.Seq.{take-at, drop-at, drop-drop, length-take-le}
 use Rattle.compiling.specs.Outcome.{beginsOf}
 use Rattle.compiling.specs.Promise.{Begun, BeginsExactly}
@@ -16,13 +16,13 @@ use Rattle.meaning.specs.Targets.{Request, isSystem, isSubject, isAction, isRes
 use Rattle.meaning.specs.declared.Decision.{Decision}
 use Rattle.deciding.specs.Answers.{policiesOf}
 use Rattle.pages.specs.Rows.{countsOf, choicesAt}
-use Rattle.pages.specs.Listing.{pageRows, nextRow, rowSize, bytesOf, roomIn, PageWritten}
+use Rattle.pages.specs.Listing.{listed, pageRows, nextRow, rowSize, bytesOf, roomIn, PageWritten}
 use Rattle.pages.specs.Pages.{Written, nothing, page}
 use Rattle.pages.proofs.Combinations.{row-below, choices-of-row, choices-combine, row-of-choices, first-slowest}
 use Rattle.pages.proofs.Progress.{bytes-length}
 use Rattle.pages.proofs.Listed.{next-within, next-past, lists-yes, list-ascends, lists-combinations, all-written}
 use Rattle.sheets.specs.Sheets.{sectionsIn, decisionBy, decisions, rowsAsked, requestRefusal, refusalOf, unless, writtenOver, answerOf, sheetAfter, Said, saidOf, saidTo}
-use Rattle.sheets.specs.Promise.{countsAsked, ListsExactly, ListedRightly, OneRow, Ascends, FirstSlowest, Called, no-call, call, PagesJoined, GoesOn, OthersStay, OneResult, NothingChanged, Wellasked, Wellformed, Refusal, no-room, no-question, above, never-the-system, bad-subject, bad-action, bad-resource, not-compiled, none-wrong, RefusedRightly, OneRefusal}
+use Rattle.sheets.specs.Promise.{countsAsked, ListsExactly, ListedRightly, OneRow, Ascends, FirstSlowest, Called, no-call, call, PagesJoined, GoesOn, WrittenInside, OthersStay, OneResult, NothingChanged, Wellasked, Wellformed, Refusal, no-room, no-question, above, never-the-system, bad-subject, bad-action, bad-resource, not-compiled, none-wrong, RefusedRightly, OneRefusal}
 use Rattle.sheets.specs.declared.Answer.the-variants.{Listed, Refused}
 
 -- ---- demand 3: the list
@@ -120,6 +120,10 @@ module _ (text table s : List ℕ) (q : Request) (start : ℕ) (sheet : List ℕ
       let some : 1 ≤ room = omega (arith, passed .0, length-drop at sheet) in
       rw (← next-is) (λ h. next-past d (rowsAsked s) start room h some, next-within d (rowsAsked s) start room (passed .1))
 
+  fits-there : at + rowSize * said .written ≤ length sheet
+  unfolding pageRows
+  fits-there = omega (arith, written-is, length-take room (listed d (rowsAsked s) start), passed .0, length-drop at sheet)
+
   bytes-long : length (bytesOf d (pageRows d (rowsAsked s) start room)) ≡ rowSize * said .written
   bytes-long = bytes-length d (pageRows d (rowsAsked s) start room) ∙ ap (λ (n : ℕ). rowSize * n) written-is
 
@@ -137,6 +141,10 @@ module _ (text table s : List ℕ) (q : Request) (start : ℕ) (sheet : List ℕ
 pub goes-on : GoesOn
 unfolding GoesOn
 goes-on text table s q start at sheet e = gets-on text table s q start sheet at e
+
+pub written-inside : WrittenInside
+unfolding WrittenInside
+written-inside text table s q start at sheet e = fits-there text table s q start sheet at e
 
 pub others-stay : OthersStay
 unfolding OthersStay

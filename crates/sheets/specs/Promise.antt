@@ -76,6 +76,11 @@ unfoldable pub GoesOn : Type 0
 GoesOn = (text table s : List ℕ) (q : Request) (start at : ℕ) (sheet : List ℕ) → saidTo text table s q start sheet at .refusal ≡ 0
     → (start < rowsAsked s → start < saidTo text table s q start sheet at .next) × (saidTo text table s q start sheet at .next ≤ rowsAsked s)
 
+-- The rows written lie in the sheet, from the named byte on.
+unfoldable pub WrittenInside : Type 0
+WrittenInside = (text table s : List ℕ) (q : Request) (start at : ℕ) (sheet : List ℕ) → saidTo text table s q start sheet at .refusal ≡ 0
+    → at + rowSize * saidTo text table s q start sheet at .written ≤ length sheet
+
 -- All bytes but the rows written stay.
 unfoldable pub OthersStay : Type 0
 OthersStay = (text table s : List ℕ) (q : Request) (start at : ℕ) (sheet : List ℕ) → saidTo text table s q start sheet at .refusal ≡ 0

@@ -2,11 +2,13 @@
 mod writing;
 
 ghost use mathlib.Core.Path.{_≡_};
-ghost use mathlib.Core.Bool.{false};
+ghost use mathlib.Core.Bool.{false, cond};
+ghost use Prim.Native.Nat.{_≤_};
 ghost use Rattle.tokens.specs.Table.{classTable};
 ghost use Rattle.meaning.specs.Targets.{isSystem};
 ghost use Rattle.targets.specs.Matching.{request};
-ghost use Rattle.sheets.specs.Sheets.{PartListed, SheetListed};
+ghost use Rattle.questions.specs.Questions.{isQuestion};
+ghost use Rattle.sheets.specs.Sheets.{rowsAsked, PartListed, SheetListed};
 ghost use Rattle.sheets.specs.Asked.{Asked};
 ghost use Rattle.sheets.specs.declared.Answer.the-variants.{Listed};
 use crate::writing::write_page;
@@ -185,6 +187,22 @@ pub fn sheet<'a>(
                 start,
                 &mut sheet[at..],
             )
+        }
+    }
+}
+
+// How many rows a question has, and 0 where it is none.
+pub fn row_count(question: &[u8]) -> usize
+    ensures is { λ r. ⌜ r ≡ cond (isQuestion (now (question .entry))) (rowsAsked (now (question .entry))) 0 ⌝ }
+    ensures few { λ r. ⌜ r ≤ 262144 ⌝ }
+{
+    let classes = class_table();
+    match question_sections(&classes, question) {
+        Divided::Broken => 0,
+        Divided::In(p) => {
+            let end = p.end;
+            let n = question[end] as usize;
+            rows(question, end + 1, n)
         }
     }
 }
