@@ -3,7 +3,7 @@ use Prim.Native.Nat.{ℕ, _+_, _-_, _≤_, _<_}
 use mathlib.Core.List.{List}
 use mathlib.Core.Bool.{Bool, true, false, cond}
 use mathlib.Core.Path.{_≡_, refl, sym, _∙_, ap, subst}
-use borrow.Author.Tests.{eqb-true, eqb-false, le-leb, lt-leb}
+use borrow.Author.Tests.{eqb-true, eqb-false, ne-eqb, le-leb, lt-leb, leb-true, leb-false}
 use native.Mathlib.Omega.{arith}
 use lib.Dec.{eqb, leb}
 use Rattle.patterns.specs.Likes.{likes}
@@ -13,12 +13,12 @@ use Rattle.placing.specs.Placed.{quotedAt, StringPlaced, PathPlaced, Each, List
 use Rattle.table.specs.declared.Entry.{Entry}
 use Rattle.table.specs.Layout.{entryAt}
 use Rattle.stored.specs.ReadBack.{spanOf, rootOf, comparatorOf, operandOf, literalsAt, listAt, ownerAt, treeOf, treeAt}
-use Rattle.stored.specs.Ready.{Node}
+use Rattle.stored.specs.Ready.{Room, Node}
 use Rattle.stored.proofs.Nodes.{as-has, as-compare, as-like, as-among, as-within, as-contains-all, as-contains-any}
 use Rattle.meaning.specs.Values.{literalValue, attributeValue, operandValue, ifText, ifTexts, compares}
 use Rattle.meaning.specs.Conditions.{told, some, asked, listed, verdict}
 use Rattle.meaning.specs.declared.Verdict.{Verdict}
-use Rattle.operators.specs.Operands.{whichOf}
+use Rattle.operators.specs.Operands.{leftAt, whichOf}
 use Rattle.operators.proofs.VerdictLaws.{constant-told, compare-told, like-told, among-told, within-told, contains-told, has-told}
 
 -- ---- which condition it is
@@ -36,6 +36,37 @@ module _ (table : List ℕ) (end : ℕ) (x : Entry) where
           → treeOf (treeAt table) table end x ≡ contains (whichOf any) (rootOf (ownerAt table end x .kind)) (spanOf (ownerAt table end x)) (listAt table end x)
       go true e = as-contains-any (treeAt table) table end x (eqb-true (x .kind) 23 e)
       go false e = let n = eqb-false (x .kind) 23 e in as-contains-all (treeAt table) table end x (omega arith)
+
+-- ---- where its left operand stands
+
+module _ (end : ℕ) (x : Entry) where
+  pub left-compared : x .kind ≤ 18 → leftAt end x ≡ end - 3
+  left-compared h = rw (ne-eqb (x .kind) 19 (λ e. omega arith), ne-eqb (x .kind) 20 (λ e. omega arith))
+
+  pub left-liked : x .kind ≡ 19 → leftAt end x ≡ end - 2
+  left-liked e = rw e
+
+  pub left-listed : x .kind ≡ 20 → leftAt end x ≡ end - x .first - 2
+  left-listed e = rw e
+
+  pub left-within : x .kind ≡ 21 → leftAt end x ≡ end - 3
+  left-within e = rw e
+
+  module _ (room : Room end x) (l : 12 < x .kind) (h : x .kind ≤ 21) where
+    pub three-before : (x .kind ≡ 19 → ⊥) → (x .kind ≡ 20 → ⊥) → 3 ≤ end
+    three-before a b = go (eqb (x .kind) 21) refl
+      where
+        go : (c : Bool) → eqb (x .kind) 21 ≡ c → 3 ≤ end
+        go true e = room .within (eqb-true (x .kind) 21 e)
+        go false e = let n = eqb-false (x .kind) 21 e in room .compared (omega arith) (omega arith)
+
+    pub left-low : leftAt end x + 1 ≤ end
+    left-low = go (eqb (x .kind) 19) (eqb (x .kind) 20) refl refl
+      where
+        go : (i j : Bool) → eqb (x .kind) 19 ≡ i → eqb (x .kind) 20 ≡ j → cond i (end - 2) (cond j (end - x .first - 2) (end - 3)) + 1 ≤ end
+        go true j e f = let r = room .like (eqb-true (x .kind) 19 e) in omega arith
+        go false true e f = let r = room .among (eqb-true (x .kind) 20 f) in omega arith
+        go false false e f = let r = three-before (eqb-false (x .kind) 19 e) (eqb-false (x .kind) 20 f) in omega arith
 
 -- ---- where it lies
 
@@ -81,17 +112,17 @@ module _ {t table : List ℕ} {end : ℕ} {x : Entry} (node : Node t table end x
       → PathPlaced t (rootOf (b .kind)) (spanOf b) × Each (LiteralPlaced t) (literalsAt (x .first) table (end - x .first - 1))
   contains-placed b l h p = rw p (called (subst (TreePlaced t) (as-contains table end x l h) (node .placed)))
 
-  -- before a list's last entry stand its literals, and their owner
-  pub list-room : 18 < x .kind → (x .kind ≡ 19 → ⊥) → (x .kind ≡ 21 → ⊥) → x .kind ≤ 23 → x .first + 2 ≤ end
-  list-room l a b h = go (eqb (x .kind) 20) refl
+  -- the left operand
+  pub left-placed : (a : Entry) → 12 < x .kind → x .kind ≤ 21 → a ≡ entryAt table (leftAt end x) → OperandPlaced t (operandOf a)
+  left-placed a l h p = go (leb (x .kind) 18) (eqb (x .kind) 19) (eqb (x .kind) 20) refl refl refl
     where
-      go : (c : Bool) → eqb (x .kind) 20 ≡ c → x .first + 2 ≤ end
-      go true e = node .room .among (eqb-true (x .kind) 20 e)
-      go false e = let n = eqb-false (x .kind) 20 e in node .room .contains (omega arith) h
-
--- what is left is containsAll or containsAny
-pub a-call-left : (k : ℕ) → 18 < k → (k ≡ 19 → ⊥) → (k ≡ 21 → ⊥) → (k ≡ 20 → ⊥) → 22 ≤ k
-a-call-left k l a b c = omega arith
+      go : (i j k : Bool) → leb (x .kind) 18 ≡ i → eqb (x .kind) 19 ≡ j → eqb (x .kind) 20 ≡ k → OperandPlaced t (operandOf a)
+      go true j k e f g = let q = leb-true (x .kind) 18 e in compare-placed a (entryAt table (end - 2)) l q (p ∙ ap (entryAt table) (left-compared end x q)) refl .0
+      go false true k e f g = let q = eqb-true (x .kind) 19 f in like-placed a q (p ∙ ap (entryAt table) (left-liked end x q)) .0
+      go false false true e f g = let q = eqb-true (x .kind) 20 g in among-placed a q (p ∙ ap (entryAt table) (left-listed end x q)) .0
+      go false false false e f g =
+          let u = leb-false (x .kind) 18 e in let v = eqb-false (x .kind) 19 f in let w = eqb-false (x .kind) 20 g in let q : x .kind ≡ 21 = omega arith in
+          within-placed a (entryAt table (end - 2)) q (p ∙ ap (entryAt table) (left-within end x q)) refl .0
 
 -- ---- its verdict
 

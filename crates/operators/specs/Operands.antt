@@ -1,5 +1,5 @@
 -- What is read for an operand's entry: a value, and the bytes of its string, which lie in the rule text, in the bag or question, or are the action. Definitions only.
-use Prim.Native.Nat.{ℕ}
+use Prim.Native.Nat.{ℕ, _-_}
 use mathlib.Core.List.{List}
 use mathlib.Core.Bool.{Bool, true, false, _&&_, cond}
 use lib.Dec.{eqb, leb}
@@ -54,3 +54,7 @@ meant t s p n heads values action o = operandValue t (withAction action (rowView
 -- containsAny or containsAll
 abbrev pub whichOf : Bool → Which
 whichOf any = cond any Any All
+
+-- where the left operand stands of the condition whose last entry is x, number end - 1: before a pattern, before a list, or before another operand
+abbrev pub leftAt : ℕ → Entry → ℕ
+leftAt end x = cond (eqb (x .kind) 19) (end - 2) (cond (eqb (x .kind) 20) (end - x .first - 2) (end - 3))

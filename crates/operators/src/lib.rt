@@ -1,18 +1,19 @@
 // Conditions without parts, found true or false entry by entry, over a row's view of attributes. An absent attribute makes such a condition false.
 ghost use mathlib.Core.Path.{_≡_};
 ghost use mathlib.Core.List.{List};
-ghost use Prim.Native.Nat.{ℕ, _+_, _*_, _≤_};
+ghost use Prim.Native.Nat.{ℕ, _+_, _*_, _<_, _≤_};
 ghost use lib.ListN.{length};
 ghost use Rattle.views.specs.Meaning.{present};
 ghost use Rattle.views.specs.Rows.{rowView, Stands};
 ghost use Rattle.patterns.specs.Likes.{likes};
 ghost use Rattle.grammar.specs.Policies.{Comparator.Equal};
 ghost use Rattle.placing.specs.Placed.{quotedAt, Each, Lies, StringPlaced, PathPlaced, LiteralPlaced, OperandPlaced};
+ghost use Rattle.table.specs.Layout.{entryAt};
 ghost use Rattle.stored.specs.ReadBack.{spanOf, rootOf, comparatorOf, operandOf, literalsAt, treeOf, treeAt};
-ghost use Rattle.stored.specs.Ready.{Node};
+ghost use Rattle.stored.specs.Ready.{Room, Node};
 ghost use Rattle.meaning.specs.Values.{withAction, literalValue, attributeValue, ifText, ifTexts, compares};
 ghost use Rattle.meaning.specs.Conditions.{told, some, asked, listed, verdict};
-ghost use Rattle.operators.specs.Operands.{meant, whichOf};
+ghost use Rattle.operators.specs.Operands.{operandRead, meant, leftAt, whichOf};
 use crate::lists::among_literals;
 use crate::lists::in_list;
 use crate::lists::literal_holds;
@@ -24,6 +25,7 @@ use crate::operands::quoted;
 use crate::values::is_present;
 use crate::values::values_hold;
 use bags::sections::Sections;
+use lookups::values::Value;
 use meaning::Verdict;
 use table::Entry;
 use table::entry_in;
@@ -59,7 +61,7 @@ fn has_attribute(
     is_present(v)
 }
 
-// Two operands, with the comparator of an entry's kind.
+// Two operands, with the comparator of an entry's kind. The first was read: v.
 fn compare_operands<'a>(
     text: &'a [u8],
     kind: u8,
@@ -70,14 +72,15 @@ fn compare_operands<'a>(
     n: usize,
     heads: &[usize; 6],
     values: &[usize; 6],
+    v: Value,
     action: &'a [u8],
 ) -> bool
     requires { ⌜ OperandPlaced (now text) (operandOf a) ⌝ }
     requires { ⌜ OperandPlaced (now text) (operandOf b) ⌝ }
     requires { ⌜ Stands (now s) p n (now heads) (now values) ⌝ }
+    requires { ⌜ v ≡ operandRead (now text) (now s) p n (now heads) (now values) a ⌝ }
     ensures { λ r. ⌜ r ≡ compares (comparatorOf kind) (meant (now (text .entry)) (now (s .entry)) p n (now (heads .entry)) (now (values .entry)) (now (action .entry)) a) (meant (now (text .entry)) (now (s .entry)) p n (now (heads .entry)) (now (values .entry)) (now (action .entry)) b) ⌝ }
 {
-    let v = operand_value(text, s, p, n, heads, values, a);
     let x = operand_string(text, s, action, a, v);
     let sort = b.kind;
     if 4 < sort {
@@ -88,7 +91,7 @@ fn compare_operands<'a>(
     values_hold(kind, v, x, w, y)
 }
 
-// An operand `like` the pattern of the entry o.
+// An operand, read as v, `like` the pattern of the entry o.
 fn like_operand<'a>(
     text: &'a [u8],
     o: Entry,
@@ -98,14 +101,15 @@ fn like_operand<'a>(
     n: usize,
     heads: &[usize; 6],
     values: &[usize; 6],
+    v: Value,
     action: &'a [u8],
 ) -> bool
     requires { ⌜ OperandPlaced (now text) (operandOf a) ⌝ }
     requires { ⌜ StringPlaced (now text) (spanOf o) ⌝ }
     requires { ⌜ Stands (now s) p n (now heads) (now values) ⌝ }
+    requires { ⌜ v ≡ operandRead (now text) (now s) p n (now heads) (now values) a ⌝ }
     ensures { λ r. ⌜ r ≡ ifText (meant (now (text .entry)) (now (s .entry)) p n (now (heads .entry)) (now (values .entry)) (now (action .entry)) a) (likes (quotedAt (now (text .entry)) (spanOf o))) ⌝ }
 {
-    let v = operand_value(text, s, p, n, heads, values, a);
     let kind = v.kind;
     if kind != 1 {
         return false;
@@ -114,7 +118,7 @@ fn like_operand<'a>(
     patterns::like(quoted(text, o), x)
 }
 
-// An operand `in` the list of the `count` literals from entry `at` on.
+// An operand, read as v, `in` the list of the `count` literals from entry `at` on.
 fn operand_in_list<'a>(
     text: &'a [u8],
     table: &[u8],
@@ -126,20 +130,21 @@ fn operand_in_list<'a>(
     n: usize,
     heads: &[usize; 6],
     values: &[usize; 6],
+    v: Value,
     action: &'a [u8],
 ) -> bool
     requires { ⌜ OperandPlaced (now text) (operandOf a) ⌝ }
     requires { ⌜ Each (LiteralPlaced (now text)) (literalsAt count (now table) at) ⌝ }
     requires { ⌜ 5 * (at + count) ≤ length (now table) ⌝ }
     requires { ⌜ Stands (now s) p n (now heads) (now values) ⌝ }
+    requires { ⌜ v ≡ operandRead (now text) (now s) p n (now heads) (now values) a ⌝ }
     ensures { λ r. ⌜ r ≡ some (λ l. compares Equal (meant (now (text .entry)) (now (s .entry)) p n (now (heads .entry)) (now (values .entry)) (now (action .entry)) a) (literalValue (now (text .entry)) l)) (literalsAt count (now (table .entry)) at) ⌝ }
 {
-    let v = operand_value(text, s, p, n, heads, values, a);
     let x = operand_string(text, s, action, a, v);
     among_literals(text, table, count, at, v, x)
 }
 
-// An operand `in` the attribute of the entry b.
+// An operand, read as v, `in` the attribute of the entry b.
 fn operand_in_attribute<'a>(
     text: &'a [u8],
     a: Entry,
@@ -149,14 +154,15 @@ fn operand_in_attribute<'a>(
     n: usize,
     heads: &[usize; 6],
     values: &[usize; 6],
+    v: Value,
     action: &'a [u8],
 ) -> bool
     requires { ⌜ OperandPlaced (now text) (operandOf a) ⌝ }
     requires { ⌜ PathPlaced (now text) (rootOf (b .kind)) (spanOf b) ⌝ }
     requires { ⌜ Stands (now s) p n (now heads) (now values) ⌝ }
+    requires { ⌜ v ≡ operandRead (now text) (now s) p n (now heads) (now values) a ⌝ }
     ensures { λ r. ⌜ r ≡ ifText (meant (now (text .entry)) (now (s .entry)) p n (now (heads .entry)) (now (values .entry)) (now (action .entry)) a) (λ x. ifTexts (attributeValue (now (text .entry)) (withAction (now (action .entry)) (rowView (now (s .entry)) p n (now (heads .entry)) (now (values .entry)))) (rootOf (b .kind)) (spanOf b)) (λ l. listed l x)) ⌝ }
 {
-    let v = operand_value(text, s, p, n, heads, values, a);
     let kind = v.kind;
     if kind != 1 {
         return false;
@@ -198,6 +204,62 @@ fn contains_literals(
     literals_listed(text, table, any, count, at, s, w.place)
 }
 
+// Where the left operand stands of the condition whose last entry is x, number end - 1.
+fn left_at(end: usize, x: Entry) -> usize
+    requires { ⌜ Room end x ⌝ }
+    requires { ⌜ (12 < x .kind) × (x .kind ≤ 21) ⌝ }
+    ensures { λ r. ⌜ r ≡ leftAt end x ⌝ }
+{
+    let kind = x.kind;
+    if kind == 19 {
+        return end - 2;
+    }
+    if kind == 20 {
+        let count = x.first;
+        return end - count - 2;
+    }
+    end - 3
+}
+
+// Whether the condition holds whose last entry is x, number end - 1, and whose left operand, of the entry a, was read: v.
+fn left_holds<'a>(
+    text: &'a [u8],
+    table: &[u8],
+    end: usize,
+    x: Entry,
+    a: Entry,
+    s: &'a [u8],
+    p: Sections,
+    n: usize,
+    heads: &[usize; 6],
+    values: &[usize; 6],
+    v: Value,
+    action: &'a [u8],
+) -> bool
+    requires { ⌜ Node (now text) (now table) end x ⌝ }
+    requires { ⌜ (12 < x .kind) × (x .kind ≤ 21) ⌝ }
+    requires { ⌜ a ≡ entryAt (now table) (leftAt end x) ⌝ }
+    requires { ⌜ Stands (now s) p n (now heads) (now values) ⌝ }
+    requires { ⌜ v ≡ operandRead (now text) (now s) p n (now heads) (now values) a ⌝ }
+    ensures { λ r. ⌜ told r ≡ verdict (now (text .entry)) (withAction (now (action .entry)) (rowView (now (s .entry)) p n (now (heads .entry)) (now (values .entry)))) (treeOf (treeAt (now (table .entry))) (now (table .entry)) end x) ⌝ }
+{
+    let kind = x.kind;
+    if kind <= 18 {
+        let b = entry_in(table, end - 2);
+        return compare_operands(text, kind, a, b, s, p, n, heads, values, v, action);
+    }
+    if kind == 19 {
+        return like_operand(text, x, a, s, p, n, heads, values, v, action);
+    }
+    if kind == 21 {
+        let b = entry_in(table, end - 2);
+        return operand_in_attribute(text, a, b, s, p, n, heads, values, v, action);
+    }
+    let count = x.first;
+    let at = end - count - 1;
+    operand_in_list(text, table, count, at, a, s, p, n, heads, values, v, action)
+}
+
 // The verdict of the condition without parts whose last entry is x, number end - 1.
 pub fn flat<'a>(
     text: &'a [u8],
@@ -229,26 +291,14 @@ pub fn flat<'a>(
     if kind <= 12 {
         return told_of(kind == 11);
     }
-    if kind <= 18 {
-        let a = entry_in(table, end - 3);
-        let b = entry_in(table, end - 2);
-        return told_of(compare_operands(text, kind, a, b, s, p, n, heads, values, action));
+    if 22 <= kind {
+        let count = x.first;
+        let at = end - count - 1;
+        let a = entry_in(table, end - count - 2);
+        let any = kind == 23;
+        return told_of(contains_literals(text, table, any, count, at, a, s, p, n, heads, values));
     }
-    if kind == 19 {
-        let a = entry_in(table, end - 2);
-        return told_of(like_operand(text, x, a, s, p, n, heads, values, action));
-    }
-    if kind == 21 {
-        let a = entry_in(table, end - 3);
-        let b = entry_in(table, end - 2);
-        return told_of(operand_in_attribute(text, a, b, s, p, n, heads, values, action));
-    }
-    let count = x.first;
-    let at = end - count - 1;
-    let a = entry_in(table, end - count - 2);
-    if kind == 20 {
-        return told_of(operand_in_list(text, table, count, at, a, s, p, n, heads, values, action));
-    }
-    let any = kind == 23;
-    told_of(contains_literals(text, table, any, count, at, a, s, p, n, heads, values))
+    let a = entry_in(table, left_at(end, x));
+    let v = operand_value(text, s, p, n, heads, values, a);
+    told_of(left_holds(text, table, end, x, a, s, p, n, heads, values, v, action))
 }

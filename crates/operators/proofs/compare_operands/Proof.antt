@@ -6,35 +6,31 @@ use Rattle.operators.proofs.OperandLaws.{path-placed, literal-placed, r
 use Rattle.operators.proofs.compare_operands.Statement.{statement}
 use Rattle.operators.proofs.compare_operands.Tie as tie
 
-operand-value-requires : tie.Need-operand-value-requires
-operand-value-requires c κs = (c .before .before .before .pre .0, c .before .before .before .pre .1 .1)
-
 operand-string-requires : tie.Need-operand-string-requires
-operand-string-requires c κs = (c .before .before .before .before .pre .0, operand-whole _ _ _ _ _ _ (c .before .before .before .before .pre .1 .1) _ _ (c .operand-value .ensures))
+operand-string-requires c κs = (c .before .before .before .pre .0, operand-whole _ _ _ _ _ _ (c .before .before .before .pre .1 .1 .0) _ _ (c .before .before .before .pre .1 .1 .1))
 
 literal-holds-requires : tie.Need-literal-holds-requires
-literal-holds-requires c κs = literal-placed _ _ (c .if1 .taken) (c .before .before .before .before .before .before .pre .1 .0)
+literal-holds-requires c κs = literal-placed _ _ (c .if1 .taken) (c .before .before .before .before .before .pre .1 .0)
 
 returns : tie.Need-returns
 returns c =
-    compare-literal _ _ _ _ _ _ (c .before .before .before .before .before .before .before .pre .1 .1) _ _ _ _ _ _ _ (c .before .before .before .before .before .before .before .pre .0) (c .before .if1 .taken) (c .before .before .before .operand-value .ensures) (c .before .before .operand-string .ensures) (c .literal-holds .ensures)
+    compare-literal _ _ _ _ _ _ (c .before .before .before .before .before .before .pre .1 .1 .0) _ _ _ _ _ _ _ (c .before .before .before .before .before .before .pre .0) (c .before .if1 .taken) (c .before .before .before .before .before .before .pre .1 .1 .1) (c .before .before .operand-string .ensures) (c .literal-holds .ensures)
 
 attribute-value-requires : tie.Need-attribute-value-requires
-attribute-value-requires c κs = (path-placed _ _ (c .if1 .left) (c .before .before .before .before .before .before .pre .1 .0) .lies, c .before .before .before .before .before .before .pre .1 .1)
+attribute-value-requires c κs = (path-placed _ _ (c .if1 .left) (c .before .before .before .before .before .pre .1 .0) .lies, c .before .before .before .before .before .pre .1 .1 .0)
 
 operand-string-requires-2 : tie.Need-operand-string-requires-2
 operand-string-requires-2 c κs =
-    (c .before .before .before .before .before .before .before .pre .1 .0, operand-whole _ _ _ _ _ _ (c .before .before .before .before .before .before .before .pre .1 .1) _ _ (c .attribute-value .ensures ∙ read-attribute _ _ _ _ _ _ _ (c .before .if1 .left)))
+    (c .before .before .before .before .before .before .pre .1 .0, operand-whole _ _ _ _ _ _ (c .before .before .before .before .before .before .pre .1 .1 .0) _ _ (c .attribute-value .ensures ∙ read-attribute _ _ _ _ _ _ _ (c .before .if1 .left)))
 
 returns-2 : tie.Need-returns-2
 returns-2 c =
-    compare-is _ _ _ _ _ _ (c .before .before .before .before .before .before .before .before .before .pre .1 .1) _ _ _ _ _ _ _ _ _ (c .before .before .before .before .before .before .before .before .before .pre .0) (c .before .before .before .before .before .before .before .before .before .pre .1 .0) (c .before .before .before .before .before .operand-value .ensures) (c .before .before .attribute-value .ensures ∙ read-attribute _ _ _ _ _ _ _ (c .before .before .before .if1 .left)) (c .before .before .before .before .operand-string .ensures) (c .before .operand-string2 .ensures) (c .values-hold .ensures)
+    compare-is _ _ _ _ _ _ (c .before .before .before .before .before .before .before .before .pre .1 .1 .0) _ _ _ _ _ _ _ _ _ (c .before .before .before .before .before .before .before .before .pre .0) (c .before .before .before .before .before .before .before .before .pre .1 .0) (c .before .before .before .before .before .before .before .before .pre .1 .1 .1) (c .before .before .attribute-value .ensures ∙ read-attribute _ _ _ _ _ _ _ (c .before .before .before .if1 .left)) (c .before .before .before .before .operand-string .ensures) (c .before .operand-string2 .ensures) (c .values-hold .ensures)
 
 pub compare-operands-spec : {M : Type 1} → statement M
 compare-operands-spec =
     tie.close
     (tie.spec
-    operand-value-requires
     operand-string-requires
     literal-holds-requires
     returns

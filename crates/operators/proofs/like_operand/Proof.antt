@@ -13,25 +13,20 @@ use Rattle.operators.proofs.like_operand.Tie as tie
 use Rattle.operators.proofs.like_operand.Reads as reads
 use Rattle.operators.proofs.like_operand.Lts as lts
 use Rattle.operators.proofs.operands.operand_string.Reads as operand-string-reads
-use Rattle.operators.proofs.operands.operand_value.Reads as operand-value-reads
 use Rattle.operators.proofs.operands.quoted.Reads as quoted-reads
 use Rattle.patterns.proofs.like.Reads as like-reads
 
--- src/lib.rt:73:9
-operand-value-requires : tie.Need-operand-value-requires
-operand-value-requires c κs = (c .before .before .before .pre .0, c .before .before .before .pre .1 .1)
-
 -- src/lib.rt:76:9
 returns : tie.Need-returns
-returns c = of-no-string _ _ _ _ _ _ (c .before .before .before .before .before .pre .1 .1) _ _ _ (c .before .before .before .before .before .pre .0) (c .before .operand-value .ensures) (likes (quotedAt (c .before .before .before .before .before .args .text .now) (spanOf (c .before .before .before .before .before .args .o)))) (c .if1 .taken)
+returns c = of-no-string _ _ _ _ _ _ (c .before .before .before .before .pre .1 .1 .0) _ _ _ (c .before .before .before .before .pre .0) (c .before .before .before .before .pre .1 .1 .1) (likes (quotedAt (c .before .before .before .before .args .text .now) (spanOf (c .before .before .before .before .args .o)))) (c .if1 .taken)
 
 -- src/lib.rt:78:9
 operand-string-requires : tie.Need-operand-string-requires
-operand-string-requires c κs = (c .before .before .before .before .before .pre .0, operand-whole _ _ _ _ _ _ (c .before .before .before .before .before .pre .1 .1) _ _ (c .before .operand-value .ensures))
+operand-string-requires c κs = (c .before .before .before .before .pre .0, operand-whole _ _ _ _ _ _ (c .before .before .before .before .pre .1 .1 .0) _ _ (c .before .before .before .before .pre .1 .1 .1))
 
 -- src/lib.rt:79:20
 quoted-requires : tie.Need-quoted-requires
-quoted-requires c κs = c .before .before .before .before .before .before .pre .1 .0
+quoted-requires c κs = c .before .before .before .before .before .pre .1 .0
 
 -- src/lib.rt:79:5
 like-requires : tie.Need-like-requires
@@ -39,13 +34,12 @@ like-requires c κs = search needs
 
 -- src/lib.rt:67:1
 returns-2 : tie.Need-returns-2
-returns-2 c = of-string _ _ _ _ _ _ (c .before .before .before .before .before .before .before .before .pre .1 .1) _ _ _ (c .before .before .before .before .before .before .before .before .pre .0) (c .before .before .before .before .operand-value .ensures) (likes (quotedAt (c .before .before .before .before .before .before .before .before .args .text .now) (spanOf (c .before .before .before .before .before .before .before .before .args .o)))) _ _ (c .before .before .before .if1 .left) (c .before .before .operand-string .ensures) (like-is _ _ (c .like .ensures) ∙ ap (λ (q : List ℕ). likes q (c .before .before .operand-string .result .now)) (c .before .quoted .ensures))
+returns-2 c = of-string _ _ _ _ _ _ (c .before .before .before .before .before .before .before .pre .1 .1 .0) _ _ _ (c .before .before .before .before .before .before .before .pre .0) (c .before .before .before .before .before .before .before .pre .1 .1 .1) (likes (quotedAt (c .before .before .before .before .before .before .before .args .text .now) (spanOf (c .before .before .before .before .before .before .before .args .o)))) _ _ (c .before .before .before .if1 .left) (c .before .before .operand-string .ensures) (like-is _ _ (c .like .ensures) ∙ ap (λ (q : List ℕ). likes q (c .before .before .operand-string .result .now)) (c .before .quoted .ensures))
 
 pub like-operand-spec : {M : Type 1} → statement M
 like-operand-spec =
     tie.close
     (tie.spec
-    operand-value-requires
     returns
     operand-string-requires
     quoted-requires

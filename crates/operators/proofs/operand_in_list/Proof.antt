@@ -7,25 +7,20 @@ use Rattle.operators.proofs.operand_in_list.Reads as reads
 use Rattle.operators.proofs.operand_in_list.Lts as lts
 use Rattle.operators.proofs.lists.among_literals.Reads as among-literals-reads
 use Rattle.operators.proofs.operands.operand_string.Reads as operand-string-reads
-use Rattle.operators.proofs.operands.operand_value.Reads as operand-value-reads
-
--- src/lib.rt:90:9
-operand-value-requires : tie.Need-operand-value-requires
-operand-value-requires c κs = (c .before .before .before .before .pre .0, c .before .before .before .before .pre .1 .1 .1)
 
 -- src/lib.rt:91:9
 operand-string-requires : tie.Need-operand-string-requires
-operand-string-requires c κs = (c .before .before .before .before .before .pre .0, operand-whole _ _ _ _ _ _ (c .before .before .before .before .before .pre .1 .1 .1) _ _ (c .operand-value .ensures))
+operand-string-requires c κs = (c .before .before .before .before .pre .0, operand-whole _ _ _ _ _ _ (c .before .before .before .before .pre .1 .1 .1 .0) _ _ (c .before .before .before .before .pre .1 .1 .1 .1))
 
 -- src/lib.rt:92:5
 among-literals-requires : tie.Need-among-literals-requires
-among-literals-requires c κs = (c .before .before .before .before .before .before .pre .1 .0, c .before .before .before .before .before .before .pre .1 .1 .0)
+among-literals-requires c κs = (c .before .before .before .before .before .pre .1 .0, c .before .before .before .before .before .pre .1 .1 .0)
 
 -- src/lib.rt:83:1
 returns : tie.Need-returns
-returns c = among-is _ _ _ _ _ _ (c .before .before .before .before .before .before .before .pre .1 .1 .1) _ _ _ (c .before .before .before .before .before .before .before .pre .0) (c .before .before .operand-value .ensures) _ _ _ (c .before .operand-string .ensures) (c .among-literals .ensures)
+returns c = among-is _ _ _ _ _ _ (c .before .before .before .before .before .before .pre .1 .1 .1 .0) _ _ _ (c .before .before .before .before .before .before .pre .0) (c .before .before .before .before .before .before .pre .1 .1 .1 .1) _ _ _ (c .before .operand-string .ensures) (c .among-literals .ensures)
 
 pub operand-in-list-spec : {M : Type 1} → statement M
 operand-in-list-spec =
     tie.close
-    (tie.spec operand-value-requires operand-string-requires among-literals-requires returns)
+    (tie.spec operand-string-requires among-literals-requires returns)
