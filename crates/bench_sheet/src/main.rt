@@ -1,0 +1,90 @@
+// Asks again and again for the first page of one sheet, with room for all its rows, so that the instructions can be counted. The input: how often, in 4 bytes,
+// and as parts the text, the question, the subject, the action and the resource.
+ghost use Prim.Native.Nat.{_<_};
+use compiling::compile;
+use sheets::Answer;
+use sheets::sheet;
+
+// A number for each answer.
+fn told(answer: Answer) -> u64
+    ensures { λ r. ⌜ r < 1000003 ⌝ }
+{
+    match answer {
+        Answer::Refused(number) => number as u64,
+        Answer::Listed(written, next) => (written % 1000 * 1000 + next % 1000) as u64,
+    }
+}
+
+// The sum goes into the page's last byte before each call, so the compiler can neither drop a call nor take one for all.
+fn stamp(page: &mut [u8], sum: u64) {
+    let n = page.len();
+    if 0 < n {
+        let last = n - 1;
+        page[last] = (sum % 256) as u8;
+    }
+}
+
+fn ask_once<'a>(
+    text: &'a [u8],
+    table: &[u8],
+    question: &'a [u8],
+    subject: &[u8],
+    action: &'a [u8],
+    resource: &[u8],
+    page: &mut [u8],
+    sum: u64,
+) -> u64
+    requires { ⌜ sum < 1000003 ⌝ }
+    ensures { λ r. ⌜ r < 1000003 ⌝ }
+{
+    stamp(page, sum);
+    let answer = sheet(text, table, question, subject, action, resource, 0, page, 0);
+    (sum + told(answer)) % 1000003
+}
+
+fn ask_often<'a>(
+    times: u32,
+    text: &'a [u8],
+    table: &[u8],
+    question: &'a [u8],
+    subject: &[u8],
+    action: &'a [u8],
+    resource: &[u8],
+    page: &mut [u8],
+) -> u64 {
+    let mut sum: u64 = 0;
+    let mut left = times;
+    while left > 0 {
+        sum = ask_once(text, table, question, subject, action, resource, page, sum);
+        left -= 1;
+    }
+    sum
+}
+
+fn main() {
+    let mut page = [0u8; 480000];
+    let mut table = [0u8; 65536];
+    let mut text = [0u8; 8192];
+    let mut question = [0u8; 4097];
+    let mut subject = [0u8; 101];
+    let mut action = [0u8; 101];
+    let mut resource = [0u8; 101];
+    let times = vectors::vector_count();
+    let n = vectors::read_part(&mut text);
+    let b = vectors::read_part(&mut question);
+    let s = vectors::read_part(&mut subject);
+    let a = vectors::read_part(&mut action);
+    let r = vectors::read_part(&mut resource);
+    compile(&text[..n], &mut table);
+    let sum = ask_often(
+        times,
+        &text[..n],
+        &table,
+        &question[..b],
+        &subject[..s],
+        &action[..a],
+        &resource[..r],
+        &mut page,
+    );
+    vectors::print_number(sum, b'\n');
+}

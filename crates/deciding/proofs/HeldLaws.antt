@@ -1,0 +1,68 @@
+-- A table that holds its text: its policies are those that the text says, and can be evaluated there. Assumes nothing.
+use mathlib.Core.Path.{_≡_, refl, sym, _∙_, ap}
+use mathlib.Core.List.{List, []}
+use Prim.Native.Nat.{ℕ}
+use lib.ListN.{length}
+use Rattle.reading.specs.Reader.{took}
+use Rattle.grammar.specs.Policies.{Policy}
+use Rattle.table.specs.Entries.{policiesEntries}
+use Rattle.table.specs.Layout.{bytesOf, Begins}
+use Rattle.table.proofs.Holding.{starts-decides, held-starts}
+use Rattle.stored.specs.Stored.{Says}
+use Rattle.stored.specs.ReadBack.{policiesAt}
+use Rattle.stored.specs.Ready.{ReadyPolicies}
+use Rattle.stored.proofs.Theorems.{compiled-says, compiled-ready}
+use Rattle.compiling.specs.Outcome.{said, heldOf}
+use Rattle.compiling.specs.Promise.{HeldRightly, Holds}
+use Rattle.compiling.specs.declared.Held.the-variants.{Right, Wrong}
+use Rattle.compiling.proofs.Outcomes.{right-begins, wrong-begins}
+use Rattle.compiling.proofs.Promised.{held-rightly}
+use Rattle.bags.specs.declared.sections.Sections.{Sections}
+use Rattle.views.specs.Meaning.{View, look, columnsFirst}
+use Rattle.views.specs.Values.{baseBag}
+use Rattle.views.specs.Rows.{chosenOf, rowView}
+use Rattle.meaning.specs.Targets.{Request}
+use Rattle.meaning.specs.Decisions.{policiesDecide}
+use Rattle.meaning.specs.declared.Decision.{Decision}
+use Rattle.deciding.specs.Answers.{policiesIn, policiesOf, heldDecide}
+use Rattle.deciding.specs.declared.Answer.the-variants.{Decided, Refused}
+
+-- the policies that a text says are those that its tokens are read as
+pub policies-said : (text : List ℕ) (ps : List Policy) → said text ≡ took ps [] → policiesOf text ≡ ps
+unfolding policiesIn
+policies-said text ps e = rw e
+
+-- a bag is a row without columns
+pub plain-row : (s : List ℕ) (p : Sections) (heads values : List ℕ) → rowView s p 0 heads values ≡ look (baseBag s p)
+unfolding rowView chosenOf columnsFirst
+plain-row s p heads values = refl
+
+module _ (text table : List ℕ) (policies entries : ℕ) (h : heldOf text table ≡ Right policies entries) where
+  holds : Holds text table policies entries
+  unfolding HeldRightly
+  holds = held-rightly text table policies entries h
+
+  says : Says text (holds .value)
+  unfolding said
+  says = record { short = holds .short; read = holds .is }
+
+  begins : Begins (bytesOf (policiesEntries 0 (holds .value))) table
+  begins = starts-decides (bytesOf (policiesEntries 0 (holds .value))) table .sound (sym (held-starts table 0 (policiesEntries 0 (holds .value))) ∙ holds .held-all)
+
+  pub held-ready : ReadyPolicies text table entries
+  held-ready = rw (holds .count) (compiled-ready says begins)
+
+  pub held-says : policiesAt table entries ≡ policiesOf text
+  held-says = ap (λ (n : ℕ). policiesAt table n) (holds .count) ∙ compiled-says says begins ∙ sym (policies-said text (holds .value) (holds .is))
+
+  pub held-many : policies ≡ length (policiesAt table entries)
+  held-many = holds .many ∙ ap length (sym (policies-said text (holds .value) (holds .is)) ∙ sym held-says)
+
+  pub held-decides : (s : List ℕ) (p : Sections) (heads values : List ℕ) (q : Request) {d : Decision}
+      → d ≡ policiesDecide text (rowView s p 0 heads values) q (policiesAt table entries) → Decided d ≡ heldDecide text table (look (baseBag s p)) q
+  unfolding heldDecide
+  held-decides s p heads values q e = rw (e, plain-row s p heads values, held-says, ← right-begins text table (sym h))
+
+pub wrong-decides : (text table : List ℕ) (view : View) (q : Request) → heldOf text table ≡ Wrong → Refused 20 ≡ heldDecide text table view q
+unfolding heldDecide
+wrong-decides text table view q h = rw (← wrong-begins text table (sym h))

@@ -1,0 +1,6 @@
+pub mod Lowest
+pub mod Counting
+pub mod HeldLaws
+pub mod Answering
+pub mod Promised
+pub mod Examples

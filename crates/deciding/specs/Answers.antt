@@ -1,0 +1,63 @@
+-- What is answered to a request over a bag (document 01, 'Deciding' and 'Refusal numbers'). Definitions only.
+use mathlib.Core.Bool.{Bool, cond, not, _||_}
+use mathlib.Core.List.{List, []}
+use Prim.Native.Nat.{ℕ}
+use lib.Dec.{eqb}
+use Rattle.reading.specs.Reader as reader
+use Rattle.reading.specs.Reader.{took, refuse}
+use Rattle.grammar.specs.Policies.{Policy}
+use Rattle.compiling.specs.Outcome.{said, beginsOf}
+use Rattle.bags.specs.Sections.{sectionsOf, isBag}
+use Rattle.bags.specs.declared.sections.Divided.{Divided}
+use Rattle.bags.specs.declared.sections.Divided.the-variants.{In, Broken}
+use Rattle.views.specs.Meaning.{absent, View, look}
+use Rattle.views.specs.Values.{baseBag}
+use Rattle.meaning.specs.Targets.{Request, isSystem, isSubject, isAction, isResource}
+use Rattle.meaning.specs.Decisions.{policiesDecide, decisionOf, outcomeOf, policyOf}
+use Rattle.meaning.specs.declared.Decision.the-variants.{System}
+use Rattle.deciding.specs.declared.Answer.{Answer}
+use Rattle.deciding.specs.declared.Answer.the-variants.{Decided, Refused}
+
+-- the policies that a text says
+unfoldable pub policiesIn : reader.Answer (List Policy) → List Policy
+policiesIn (took ps r) = ps
+policiesIn (refuse n r) = []
+
+abbrev pub policiesOf : List ℕ → List Policy
+policiesOf text = policiesIn (said text)
+
+-- the attributes that a bag holds
+unfoldable pub viewIn : List ℕ → Divided → View
+viewIn bag (In p) = look (baseBag bag p)
+viewIn bag Broken = λ root path. absent
+
+abbrev pub viewOf : List ℕ → View
+viewOf bag = viewIn bag (sectionsOf bag)
+
+-- what the policies decide over these attributes, where the table begins with the bytes that the text compiles to; else refusal 20
+unfoldable pub heldDecide : List ℕ → List ℕ → View → Request → Answer
+heldDecide text table view q = cond (beginsOf text table) (Decided (policiesDecide text view q (policiesOf text))) (Refused 20)
+
+-- the answer: the system first, with nothing else looked at; then refusals 21, 22, 23, 24 and 20; else what is decided
+unfoldable pub answerOf : List ℕ → List ℕ → List ℕ → Request → Answer
+answerOf text table bag q =
+    cond (isSystem (q .subject)) (Decided System)
+    (cond (not (isSubject (q .subject))) (Refused 21)
+    (cond (not (isAction (q .action))) (Refused 22)
+    (cond (not (isResource (q .resource))) (Refused 23)
+    (cond (not (isBag bag)) (Refused 24)
+    (cond (not (beginsOf text table)) (Refused 20) (Decided (decisionOf text (viewOf bag) q (policiesOf text))))))))
+
+-- what document 01 calls an answer: the refusal's number, the outcome and the policy, with 0 for what there is none of
+pub record Said : Type 0 where
+  pub refusal : ℕ
+  pub outcome : ℕ
+  pub policy : ℕ
+
+unfoldable pub saidOf : Answer → Said
+saidOf (Decided d) = record { refusal = 0; outcome = outcomeOf d; policy = policyOf d }
+saidOf (Refused number) = record { refusal = number; outcome = 0; policy = 0 }
+
+-- yes: outcome 1 or 4
+unfoldable pub saysYes : Answer → Bool
+saysYes a = eqb (saidOf a .outcome) 1 || eqb (saidOf a .outcome) 4

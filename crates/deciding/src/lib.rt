@@ -1,0 +1,119 @@
+// Deciding: what the policies of a table decide over a row, and the public call, which decides a request over a bag.
+pub mod row;
+
+ghost use mathlib.Core.Path.{_≡_};
+ghost use Rattle.tokens.specs.Table.{classTable};
+ghost use Rattle.grammar.specs.Rules.{principalTypes, resourceTypes};
+ghost use Rattle.bags.specs.Sections.{Sectioned};
+ghost use Rattle.views.specs.Meaning.{look};
+ghost use Rattle.views.specs.Values.{baseBag};
+ghost use Rattle.meaning.specs.Targets.{typeIn};
+ghost use Rattle.targets.specs.Matching.{request};
+ghost use Rattle.deciding.specs.Answers.{answerOf, heldDecide};
+use crate::row::decision;
+use bags::sections::Divided;
+use bags::sections::Sections;
+use bags::sections::bag_sections;
+use compiling::Held;
+use compiling::held_policies;
+use meaning::Decision;
+use targets::forms::is_action;
+use targets::forms::is_system;
+use targets::forms::resource_type;
+use targets::forms::subject_type;
+use tokens::classes::class_table;
+
+// What is answered: a decision, or a refusal by its number.
+pub enum Answer {
+    Decided(Decision),
+    Refused(u8),
+}
+
+// What is decided over the bag's sections, where the table holds the text.
+fn held<'a>(
+    classes: &[u8; 256],
+    text: &'a [u8],
+    table: &[u8],
+    bag: &'a [u8],
+    p: Sections,
+    subject: &[u8],
+    subject_type: usize,
+    action: &'a [u8],
+    resource: &[u8],
+    resource_type: usize,
+) -> Answer
+    requires { ⌜ now classes ≡ classTable ⌝ }
+    requires { ⌜ Sectioned (now bag) p ⌝ }
+    requires { ⌜ «subject_type» ≡ typeIn principalTypes (now subject) ⌝ }
+    requires { ⌜ «resource_type» ≡ typeIn resourceTypes (now resource) ⌝ }
+    ensures { λ r. ⌜ r ≡ heldDecide (now (text .entry)) (now (table .entry)) (look (baseBag (now (bag .entry)) p))
+        (request (now (subject .entry)) (now (action .entry)) (now (resource .entry))) ⌝ }
+{
+    match held_policies(classes, text, table) {
+        Held::Wrong => Answer::Refused(20),
+        Held::Right(policies, entries) => {
+            let heads = [0usize; 6];
+            let values = [0usize; 6];
+            Answer::Decided(decision(
+                text,
+                table,
+                policies,
+                entries,
+                bag,
+                p,
+                0,
+                &heads,
+                &values,
+                subject,
+                subject_type,
+                action,
+                resource,
+                resource_type,
+            ))
+        }
+    }
+}
+
+// Decides a request over a bag, by the policies of a text whose table is lent. The system is let in first, with nothing else looked at.
+pub fn decide<'a>(
+    text: &'a [u8],
+    table: &[u8],
+    bag: &'a [u8],
+    subject: &[u8],
+    action: &'a [u8],
+    resource: &[u8],
+) -> Answer
+    ensures { λ r. ⌜ r ≡ answerOf (now (text .entry)) (now (table .entry)) (now (bag .entry))
+        (request (now (subject .entry)) (now (action .entry)) (now (resource .entry))) ⌝ }
+{
+    if is_system(subject) {
+        return Answer::Decided(Decision::System);
+    }
+    let sort = subject_type(subject);
+    if sort == 0 {
+        return Answer::Refused(21);
+    }
+    if !is_action(action) {
+        return Answer::Refused(22);
+    }
+    let kind = resource_type(resource);
+    if kind == 0 {
+        return Answer::Refused(23);
+    }
+    let classes = class_table();
+    match bag_sections(&classes, bag) {
+        Divided::Broken => Answer::Refused(24),
+        Divided::In(p) => held(
+            &classes,
+            text,
+            table,
+            bag,
+            p,
+            subject,
+            sort,
+            action,
+            resource,
+            kind,
+        ),
+    }
+}

@@ -1,0 +1,6 @@
+pub mod Combinations
+pub mod Digits
+pub mod Stepping
+pub mod Progress
+pub mod Listed
+pub mod SixColumns

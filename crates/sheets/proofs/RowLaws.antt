@@ -1,0 +1,166 @@
+-- The row at which a page stands: its choices and their places, its decision, and the next row. Assumes nothing.
+use mathlib.Core.Path.{_≡_, refl, sym, ap, _∙_}
+use mathlib.Core.Bool.{Bool, true, false, cond}
+use mathlib.Core.List.{List, []}
+use Prim.Native.Nat.{ℕ, _+_, _%_, _≤_, _<_}
+use native.Mathlib.Nat.{mod-lt, mod-eq-of-lt}
+use native.Mathlib.Omega.{arith}
+use borrow.Author.Tests.{lt-ltb, ltb-true}
+use lib.Dec.{ltb}
+use lib.ListN.{length, getD}
+use Rattle.grammar.specs.Policies.{Policy}
+use Rattle.bags.specs.Reading.{many}
+use Rattle.bags.specs.declared.After.the-variants.{At}
+use Rattle.bags.specs.declared.sections.Sections.{Sections}
+use Rattle.questions.specs.Columns.{columnEnd}
+use Rattle.questions.specs.Questions.{cell, product, rowsOf}
+use Rattle.questions.proofs.PlaceLaws.{firstOf}
+use Rattle.stored.specs.ReadBack.{policiesAt}
+use Rattle.views.specs.Meaning.{View, look}
+use Rattle.views.specs.Rows.{rowView, Stands, bagOfRow, Chooses}
+use Rattle.views.proofs.RowLaws.{row-stands, row-shows}
+use Rattle.meaning.specs.Targets.{Request, isSystem}
+use Rattle.meaning.specs.Decisions.{decisionOf, policiesDecide, policyOf, Numbered, first, later, Names, the-system, a-forbid, a-permit, none-named, NamedRightly}
+use Rattle.meaning.specs.declared.Decision.the-variants.{System}
+use Rattle.meaning.proofs.Deciding.{named-rightly}
+use Rattle.pages.specs.Rows.{countsOf, Combination, rowOf, choicesAt, countsBy, Few, Picked, Placed, Moved}
+use Rattle.pages.proofs.Combinations.{choices-combine, row-of-choices, choice-below}
+use Rattle.pages.proofs.Digits.{counts-length, count-is, rows-some}
+use Rattle.pages.proofs.SixColumns.{rows-are, row-chooses, lasts-few, six-rows, six-choices}
+use Rattle.sheets.specs.Sheets.{columnsIn, firstIn, decisionBy, decisionAt}
+use Rattle.sheets.specs.Asked.{Asked, Decidable, Laid}
+
+-- ---- the row at which the choices stand
+
+pub record Standing (grid : List (List ℕ)) (ends choices values : List ℕ) (row : ℕ) : Type 0 where
+  pub choices-are : choices ≡ choicesAt (countsBy ends) (row % product (countsBy ends))
+  pub values-are : Picked grid choices values
+
+module _ (ends choices : List ℕ) (row : ℕ) (is : choices ≡ choicesAt (countsBy ends) (row % product (countsBy ends))) where
+  pub combines : Combination (countsBy ends) choices
+  combines = rw is (choices-combine (countsBy ends) (row % product (countsBy ends)) (mod-lt row (rows-some ends 0)))
+
+  -- each choice is below 8
+  pub choices-small : Few ends → (i : ℕ) → i < 6 → getD choices i 0 < 8
+  choices-small f i h =
+      let here : i < length ends = rw (f .six) h in
+      omega (arith, choice-below combines i (rw (counts-length ends) here), count-is ends i here, f .few i h)
+
+pub placed-there : {grid : List (List ℕ)} {ends choices values : List ℕ} {row : ℕ} → Few ends → Standing grid ends choices values row → Placed grid ends choices values
+placed-there f s = record { few = f; combines = combines _ _ _ (s .choices-are); values-are = s .values-are }
+
+-- the places of a row's choices, as they are first looked up
+pub stands-first : {grid : List (List ℕ)} {ends choices values : List ℕ} {row : ℕ} → choices ≡ choicesAt (countsBy ends) (row % product (countsBy ends)) → length values ≡ 6
+    → ((i : ℕ) → i < 6 → getD values i 0 ≡ cond (ltb i 6) (getD (getD grid i []) (getD choices i 0) 0) 0) → Standing grid ends choices values row
+stands-first is six v = record { choices-are = is; values-are = record { six = six; picked = λ i l. v i l ∙ simp (lt-ltb i 6 l) } }
+
+-- the next row
+pub stands-next : {grid : List (List ℕ)} {ends choices values choices' values' : List ℕ} {row : ℕ} → row < product (countsBy ends) → Standing grid ends choices values row
+    → Moved grid ends choices choices' values' → Standing grid ends choices' values' (row + 1)
+stands-next {ends = ends} {choices = choices} {row = row} h s m =
+    let here : row % product (countsBy ends) ≡ row = mod-eq-of-lt h in
+    let is : choices ≡ choicesAt (countsBy ends) row = s .choices-are ∙ ap (choicesAt (countsBy ends)) here in
+    let row-is : rowOf (countsBy ends) choices ≡ row = ap (rowOf (countsBy ends)) is ∙ row-of-choices (countsBy ends) row h in
+    record {
+      choices-are = m .choices-are ∙ ap (λ (r : ℕ). choicesAt (countsBy ends) ((r + 1) % product (countsBy ends))) row-is;
+      values-are = m .values-are;
+    }
+
+-- ---- what the row shows, and what is decided in it
+
+module _ {s : List ℕ} {p : Sections} {all start n : ℕ} {starts ends : List ℕ} {grid : List (List ℕ)} (asked : Asked s p all start) (laid : Laid s p n starts grid ends) where
+  most : n ≤ 6
+  most = rw (laid .many) (asked .question .few)
+
+  columns : many n (columnEnd s) (firstIn p) ≡ At (asked .question .last)
+  columns = rw (laid .many) (asked .question .columns)
+
+  pub ends-few : Few ends
+  ends-few = lasts-few s n (firstIn p) (asked .question .last) most columns starts ends (laid .six) (laid .starts-are) (laid .ends-are)
+
+  pub as-many-rows : product (countsBy ends) ≡ all
+  as-many-rows =
+      six-rows s n (firstIn p) (asked .question .last) most columns starts ends (laid .six) (laid .starts-are) (laid .ends-are)
+      ∙ ap (λ (n : ℕ). rowsOf n s (firstIn p)) (laid .many) ∙ sym (asked .all-rows)
+
+  module _ {choices values : List ℕ} {row : ℕ} (h : row < all) (st : Standing grid ends choices values row) where
+    rows-of : rowsOf n s (firstIn p) ≡ all
+    rows-of = ap (λ (n : ℕ). rowsOf n s (firstIn p)) (laid .many) ∙ sym (asked .all-rows)
+
+    there : row < product (countsOf n s (firstIn p))
+    there = rw (← rows-are s n (firstIn p) (asked .question .last) most columns, rows-of) h
+
+    abbrev chosen-row : List ℕ
+    chosen-row = choicesAt (countsOf n s (firstIn p)) row
+
+    chooses : Chooses n s (firstIn p) chosen-row
+    chooses = row-chooses s n (firstIn p) (asked .question .last) most columns row there
+
+    same-choice : (i : ℕ) → i < n → getD choices i 0 ≡ getD chosen-row i 0
+    same-choice i l =
+        let here : row % product (countsBy ends) ≡ row = mod-eq-of-lt (rw as-many-rows h) in
+        ap (λ (cs : List ℕ). getD cs i 0) (st .choices-are ∙ ap (choicesAt (countsBy ends)) here)
+        ∙ six-choices s n (firstIn p) (asked .question .last) most columns starts ends (laid .six) (laid .starts-are) (laid .ends-are) row (rw rows-of h) i l
+
+    values-chosen : (i : ℕ) → i < 6 → getD values i 0 ≡ firstOf n (λ i. getD (getD grid i []) (getD chosen-row i 0) 0) i
+    unfolding cell
+    values-chosen i l = go (ltb i n) refl
+      where
+        go : (b : Bool) → ltb i n ≡ b → getD values i 0 ≡ firstOf n (λ i. getD (getD grid i []) (getD chosen-row i 0) 0) i
+        go true q = simp q (st .values-are .picked i l ∙ ap (λ (c : ℕ). getD (getD grid i []) c 0) (same-choice i (ltb-true i n q)))
+        go false q =
+            simp q (st .values-are .picked i l ∙ laid .grid-is i (getD choices i 0) l (choices-small ends choices row (st .choices-are) ends-few i l) ∙ simp q)
+
+    pub stands-there : Stands s p n starts values
+    stands-there =
+        row-stands s p n (firstIn p) (asked .question .last) most columns chosen-row chooses starts values grid (laid .starts-are) (laid .grid-is) values-chosen
+        (asked .question .sections)
+
+    shows : rowView s p n starts values ≡ look (bagOfRow s p (columnsIn s p) (firstIn p) (choicesAt (countsOf (columnsIn s p) s (firstIn p)) row))
+    shows =
+        (λ i root path.
+          row-shows s p n (firstIn p) (asked .question .last) most columns chosen-row chooses starts values grid (laid .starts-are) (laid .grid-is) values-chosen root path i)
+        ∙ ap (λ (n : ℕ). look (bagOfRow s p n (firstIn p) (choicesAt (countsOf n s (firstIn p)) row))) (laid .many)
+
+    -- the row's decision
+    pub decides-there : (system : Bool) (text : List ℕ) (q : Request) (ps : List Policy) → system ≡ isSystem (q .subject)
+        → cond system System (policiesDecide text (rowView s p n starts values) q ps) ≡ decisionAt text s p q ps row
+    unfolding decisionBy decisionOf
+    decides-there system text q ps e = rw (e, shows)
+
+-- ---- a policy's number fits a byte
+
+number-few : {n : ℕ} {p : Policy} {ps : List Policy} → Numbered n p ps → n ≤ length ps
+number-few first = omega arith
+number-few (later h) = let l = number-few h in omega arith
+
+named-few : {t : List ℕ} {view : View} {q : Request} {ps : List Policy} {n : ℕ} → Names t view q ps n → n ≤ length ps
+named-few (the-system s) = omega arith
+named-few (a-forbid s l) = number-few (l .bites .numbered)
+named-few (a-permit s f l) = number-few (l .bites .numbered)
+named-few (none-named s f g) = omega arith
+
+module _ (text : List ℕ) (view : View) (q : Request) (ps : List Policy) where
+  system-fits : isSystem (q .subject) ≡ true → policyOf (decisionOf text view q ps) < 256
+  unfolding decisionOf policyOf
+  system-fits e = rw e (omega arith)
+
+  other-fits : length ps ≤ 64 → policyOf (decisionOf text view q ps) < 256
+  unfolding NamedRightly
+  other-fits h = omega (arith, named-few (named-rightly text view q ps))
+
+pub policy-fits : {system : Bool} {text table subject resource : List ℕ} {policies entries sort resource-sort : ℕ} → Decidable system text table policies entries subject sort resource resource-sort
+    → (s : List ℕ) (p : Sections) (action : List ℕ) (row : ℕ)
+    → policyOf (decisionAt text s p (record { subject = subject; action = action; resource = resource }) (policiesAt table entries) row) < 256
+unfolding decisionBy
+policy-fits {system} {text} {table} {subject} {resource} {policies} {entries} d s p action row = go system refl
+  where
+    q : Request
+    q = record { subject = subject; action = action; resource = resource }
+
+    view : View
+    view = look (bagOfRow s p (columnsIn s p) (firstIn p) (choicesAt (countsOf (columnsIn s p) s (firstIn p)) row))
+
+    go : (b : Bool) → system ≡ b → policyOf (decisionOf text view q (policiesAt table entries)) < 256
+    go true e = system-fits text view q (policiesAt table entries) (sym (d .whose) ∙ e)
+    go false e = let r = d .others e in other-fits text view q (policiesAt table entries) (rw (← r .many) (r .few))

@@ -1,0 +1,112 @@
+-- What the sheet's call answers and leaves in the sheet, as functions of all that it is given (document 01, 'The sheet' and 'Refusal numbers'). Definitions only.
+use mathlib.Core.Path.{_≡_}
+use mathlib.Core.Bool.{cond}
+use mathlib.Core.List.{List, _++_}
+use Prim.Native.Nat.{ℕ, zero, suc, _+_}
+use lib.Dec.{leb}
+use lib.ListN.{length, take, drop}
+use Rattle.grammar.specs.Policies.{Policy}
+use Rattle.compiling.specs.Outcome.{beginsOf}
+use Rattle.bags.specs.Reading.{byte}
+use Rattle.bags.specs.Sections.{sectionsOf}
+use Rattle.bags.specs.declared.sections.Sections.{Sections}
+use Rattle.bags.specs.declared.sections.Divided.{Divided}
+use Rattle.bags.specs.declared.sections.Divided.the-variants.{In, Broken}
+use Rattle.questions.specs.Questions.{isQuestion, rowsOf}
+use Rattle.views.specs.Meaning.{look}
+use Rattle.views.specs.Rows.{bagOfRow}
+use Rattle.meaning.specs.Targets.{Request, isSystem, isSubject, isAction, isResource}
+use Rattle.meaning.specs.Decisions.{decisionOf}
+use Rattle.meaning.specs.declared.Decision.{Decision}
+use Rattle.deciding.specs.Answers.{policiesOf}
+use Rattle.pages.specs.Rows.{countsOf, choicesAt}
+use Rattle.pages.specs.Listing.{pageRows, nextRow, rowSize, bytesOf, over, roomIn}
+use Rattle.sheets.specs.declared.Answer.{Answer}
+use Rattle.sheets.specs.declared.Answer.the-variants.{Listed, Refused}
+
+-- ---- the rows of a question, and what is decided in each
+
+-- the count byte of the columns stands at the sections' end; how many columns, where the first starts, and their candidates' counts
+abbrev pub columnsIn : List ℕ → Sections → ℕ
+columnsIn s p = byte s (p .end)
+
+abbrev pub firstIn : Sections → ℕ
+firstIn p = p .end + 1
+
+abbrev pub countsIn : List ℕ → Sections → List ℕ
+countsIn s p = countsOf (columnsIn s p) s (firstIn p)
+
+abbrev pub rowsIn : List ℕ → Sections → ℕ
+rowsIn s p = rowsOf (columnsIn s p) s (firstIn p)
+
+-- what is decided where the columns have these choices: a row's bag is the base with each column's attribute set to its choice or removed
+unfoldable pub decisionBy : List ℕ → List ℕ → Sections → Request → List Policy → List ℕ → Decision
+decisionBy text s p q ps choices = decisionOf text (look (bagOfRow s p (columnsIn s p) (firstIn p) choices)) q ps
+
+-- the decision of each row
+abbrev pub decisionAt : List ℕ → List ℕ → Sections → Request → List Policy → ℕ → Decision
+decisionAt text s p q ps row = decisionBy text s p q ps (choicesAt (countsIn s p) row)
+
+-- the sections of a question
+unfoldable pub dividedAs : Divided → Sections
+dividedAs (In p) = p
+dividedAs Broken = record { resource = 0; env = 0; end = 0 }
+
+abbrev pub sectionsIn : List ℕ → Sections
+sectionsIn s = dividedAs (sectionsOf s)
+
+-- ---- refusals: the number of the first rule that is broken, and 0 where none is
+
+-- the system's rows are all outcome 4; else subject, action, resource, and the text with its table
+unfoldable pub requestRefusal : List ℕ → List ℕ → Request → ℕ
+requestRefusal text table q =
+    cond (isSystem (q .subject)) 0
+    (cond (isSubject (q .subject)) (cond (isAction (q .action)) (cond (isResource (q .resource)) (cond (beginsOf text table) 0 20) 23) 22) 21)
+
+-- before them: a row's bytes from the named byte on, a question, and a start row that is not above the number of rows
+unfoldable pub refusalOf : List ℕ → List ℕ → List ℕ → Request → ℕ → List ℕ → ℕ → ℕ
+refusalOf text table s q start sheet at =
+    cond (leb (at + rowSize) (length sheet)) (cond (isQuestion s) (cond (leb start (rowsIn s (sectionsIn s))) (requestRefusal text table q) 26) 24) 25
+
+-- what is there without a refusal, else what the refusal's number gives
+unfoldable pub unless : {A : Type 0} → ℕ → A → (ℕ → A) → A
+unless zero a refused = a
+unless (suc n) a refused = refused (suc n)
+
+-- ---- a page
+
+-- the answer for a part of the sheet: the rows written, and the first listed row at or after the start that was not written, else the number of rows
+abbrev pub listedOn : (ℕ → Decision) → ℕ → ℕ → List ℕ → Answer
+listedOn d rows start part = Listed (length (pageRows d rows start (roomIn part))) (nextRow d rows start (roomIn part))
+
+-- the part afterwards
+abbrev pub writtenOver : (ℕ → Decision) → ℕ → ℕ → List ℕ → List ℕ
+writtenOver d rows start part = over (bytesOf d (pageRows d rows start (roomIn part))) part
+
+-- a page for a question whose sections are p
+pub record PartListed (text table s : List ℕ) (p : Sections) (q : Request) (start : ℕ) (before : List ℕ) (answer : Answer) (after : List ℕ) : Type 0 where
+  pub answered : answer ≡ unless (requestRefusal text table q) (listedOn (decisionAt text s p q (policiesOf text)) (rowsIn s p) start before) Refused
+  pub bytes : after ≡ unless (requestRefusal text table q) (writtenOver (decisionAt text s p q (policiesOf text)) (rowsIn s p) start before) (λ _. before)
+
+-- ---- the call
+
+-- the decision of each row of the question
+abbrev pub decisions : List ℕ → List ℕ → Request → ℕ → Decision
+decisions text s q = decisionAt text s (sectionsIn s) q (policiesOf text)
+
+abbrev pub rowsAsked : List ℕ → ℕ
+rowsAsked s = rowsIn s (sectionsIn s)
+
+-- what the call answers
+unfoldable pub answerOf : List ℕ → List ℕ → List ℕ → Request → ℕ → List ℕ → ℕ → Answer
+answerOf text table s q start sheet at = unless (refusalOf text table s q start sheet at) (listedOn (decisions text s q) (rowsAsked s) start (drop at sheet)) Refused
+
+-- the sheet afterwards: the page is written into the part from the named byte on; a refusal changes nothing
+unfoldable pub sheetAfter : List ℕ → List ℕ → List ℕ → Request → ℕ → List ℕ → ℕ → List ℕ
+sheetAfter text table s q start sheet at =
+    unless (refusalOf text table s q start sheet at) (take at sheet ++ writtenOver (decisions text s q) (rowsAsked s) start (drop at sheet)) (λ _. sheet)
+
+-- what the call promises
+pub record SheetListed (text table s : List ℕ) (q : Request) (start : ℕ) (before : List ℕ) (at : ℕ) (answer : Answer) (after : List ℕ) : Type 0 where
+  pub answered : answer ≡ answerOf text table s q start before at
+  pub sheet : after ≡ sheetAfter text table s q start before at
