@@ -1,21 +1,16 @@
 -- Which columns the condition of a policy names, by its entries. Columns count from 1 on here, and 0 stands for none. Definitions only.
 use mathlib.Core.Bool.{Bool, cond, not, _&&_}
 use mathlib.Core.List.{List}
-use Prim.Native.Nat.{ℕ, zero, suc, _+_, _-_, _≤_, _<_}
+use Prim.Native.Nat.{ℕ, zero, suc, _+_, _-_}
 use lib.Dec.{eqb, leb, ltb}
 use lib.ListN.{length, getD}
 use Rattle.slices.specs.Same.{same}
 use Rattle.bags.specs.Reading.{byte}
-use Rattle.questions.specs.Columns.{columnPath, countAt}
+use Rattle.questions.specs.Columns.{columnPath}
 use Rattle.placing.specs.Placed.{pathAt}
 use Rattle.table.specs.declared.Entry.{Entry}
 use Rattle.table.specs.Layout.{entryAt}
 use Rattle.stored.specs.ReadBack.{spanOf}
-
--- at most six columns at these places have their count bytes
-pub record Headed (s : List ℕ) (n : ℕ) (heads : List ℕ) : Type 0 where
-  pub few : n ≤ 6
-  pub named : (i : ℕ) → i < n → countAt s (getD heads i 0) < length s
 
 -- the first of n columns, of which i stand before, that names the attribute
 unfoldable pub naming : ℕ → List ℕ → List ℕ → ℕ → ℕ → List ℕ → ℕ

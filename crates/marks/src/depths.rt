@@ -1,12 +1,12 @@
 // Which columns can matter to a policy, found once from the entries of its condition.
 ghost use mathlib.Core.Path.{_≡_};
-ghost use mathlib.Core.List.{List};
 ghost use Prim.Native.Nat.{_-_, _≤_, _<_};
 ghost use lib.ListN.{length};
 ghost use Rattle.tokens.specs.Blanks.{unblanked};
 ghost use Rattle.stored.specs.ReadBack.{policiesAt};
 ghost use Rattle.stored.specs.Ready.{ReadyPolicies};
-ghost use Rattle.marks.specs.Columns.{Headed, naming, rootBy, isAttribute, columnOf, deeper, depthFrom};
+ghost use Rattle.pages.specs.Rows.{Counted};
+ghost use Rattle.marks.specs.Columns.{naming, rootBy, columnOf, deeper, depthFrom};
 ghost use Rattle.marks.specs.Marks.{Depths};
 use table::Entry;
 use table::entry_at;
@@ -20,7 +20,7 @@ fn root_by(kind: u8) -> u8
 
 // The first of `n` columns that names this attribute, from 1 on; 0 where none does.
 fn column_naming(s: &[u8], n: usize, heads: &[usize; 6], root: u8, path: &[u8]) -> u8
-    requires { ⌜ Headed (now s) n (now heads) ⌝ }
+    requires { ⌜ Counted (now s) n (now heads) ⌝ }
     ensures { λ r. ⌜ r ≡ naming n (now (s .entry)) (now (heads .entry)) 0 root (unblanked (now (path .entry))) ⌝ }
 {
     let mut left = n;
@@ -38,7 +38,7 @@ fn column_naming(s: &[u8], n: usize, heads: &[usize; 6], root: u8, path: &[u8]) 
 
 // The column that an entry names.
 fn column_of(text: &[u8], x: Entry, s: &[u8], n: usize, heads: &[usize; 6]) -> u8
-    requires { ⌜ Headed (now s) n (now heads) ⌝ }
+    requires { ⌜ Counted (now s) n (now heads) ⌝ }
     ensures { λ r. ⌜ r ≡ columnOf (now (text .entry)) (now (s .entry)) n (now (heads .entry)) x ⌝ }
 {
     let start = x.first;
@@ -67,7 +67,7 @@ fn depth(
     heads: &[usize; 6],
     but: u8,
 ) -> u8
-    requires { ⌜ Headed (now s) n (now heads) ⌝ }
+    requires { ⌜ Counted (now s) n (now heads) ⌝ }
     requires { ⌜ first ≤ end ⌝ }
     requires { ⌜ end < 65536 ⌝ }
     ensures { λ r. ⌜ r ≡ depthFrom (end - first) (now (text .entry)) (now (table .entry)) (now (s .entry)) n (now (heads .entry)) but first 0 ⌝ }
@@ -97,7 +97,7 @@ pub fn depths(
     requires { ⌜ ReadyPolicies (now text) (now table) entries ⌝ }
     requires { ⌜ policies ≡ length (policiesAt (now table) entries) ⌝ }
     requires { ⌜ policies ≤ 64 ⌝ }
-    requires { ⌜ Headed (now s) n (now heads) ⌝ }
+    requires { ⌜ Counted (now s) n (now heads) ⌝ }
     ensures { λ r. ⌜ Depths (now (text .entry)) (now (s .entry)) n (now (heads .entry)) (policiesAt (now (table .entry)) entries) (now (buts .entry)) r ⌝ }
 {
     let mut found = [0u8; 64];

@@ -89,14 +89,14 @@ module _ (lasts before choices : List ℕ) (j v : ℕ) (s : Passed lasts before 
       go i l h true e = rw (eqb-true i j e, ← s .kept j (omega arith)) full
       go i l h false e = s .full i (let d = eqb-false i j e in omega arith) h
 
-  pub moved-at : getD choices j 0 < getD lasts j 0 → MovedAt lasts before j (set choices j v)
-  moved-at free = record { free = λ z. rw (← s .kept j (omega arith)) free; full = λ i l h. s .full i (omega arith) h; kept = still }
+  pub moved-at : j < 6 → getD choices j 0 < getD lasts j 0 → MovedAt lasts before j (set choices j v)
+  moved-at h free = record { within = h; free = λ z. rw (← s .kept j (omega arith)) free; full = λ i l h. s .full i (omega arith) h; kept = still }
 
 pub none-passed : (lasts choices : List ℕ) → Passed lasts choices 6 choices
 none-passed lasts choices = record { kept = λ i h. refl; full = λ i l h. absurd (omega arith) }
 
 pub all-passed : {lasts before choices : List ℕ} {k : ℕ} → k ≤ 0 → Passed lasts before k choices → MovedAt lasts before 0 choices
-all-passed z s = record { free = λ h. absurd (omega arith); full = λ i l h. s .full i (omega arith) h; kept = λ i h. absurd (omega arith) }
+all-passed z s = record { within = omega arith; free = λ h. absurd (omega arith); full = λ i l h. s .full i (omega arith) h; kept = λ i h. absurd (omega arith) }
 
 -- ---- the row afterwards
 

@@ -57,6 +57,7 @@ pub record Placed (grid : List (List ℕ)) (lasts choices values : List ℕ) : T
 
 -- `column` is the last column that has a choice left, or 0, and the columns before it keep their choices
 pub record MovedAt (lasts before : List ℕ) (column : ℕ) (choices : List ℕ) : Type 0 where
+  pub within : column < 6
   pub free : 0 < column → getD before column 0 < getD lasts column 0
   pub full : (i : ℕ) → column < i → i < 6 → getD lasts i 0 ≤ getD before i 0
   pub kept : (i : ℕ) → i < column → getD choices i 0 ≡ getD before i 0

@@ -30,7 +30,7 @@ add-i : tie.Need-add-i Inv-loop μ-loop
 add-i c = omega (arith, c .before .before .before .before .before .pre .few)
 
 names-requires : tie.Need-names-requires Inv-loop μ-loop
-names-requires c κs = c .before .before .before .before .before .pre .named (c .before .before .loop .i) (omega arith)
+names-requires c κs = c .before .before .before .before .before .pre .inside (c .before .before .loop .i) (omega arith)
 
 cast-result : tie.Need-cast-result Inv-loop μ-loop
 cast-result c = omega (arith, c .before .before .before .before .before .before .before .pre .few)

@@ -37,7 +37,7 @@ returns c =
     let e : c .before .before .before .before .before .loop .k ≡ suc (c .before .before .before .before .before .loop .k - 1) = omega arith in
     let six = c .before .before .before .before .before .before .pre .few .six in
     moved-on _ _ _ _ _ _ (pick-set _ _ _ _ _ (c .before .before .before .before .before .loop .inv .1) (omega arith) (c .before .before .before .before .before .loop .inv .2))
-    (moved-at _ _ (c .before .before .before .before .before .loop .choices) (c .before .before .before .before .before .loop .k - 1) _ (rw e at (c .before .before .before .before .before .loop .inv .4)) (c .before .if1 .taken))
+    (moved-at _ _ (c .before .before .before .before .before .loop .choices) (c .before .before .before .before .before .loop .k - 1) _ (rw e at (c .before .before .before .before .before .loop .inv .4)) (omega arith) (c .before .if1 .taken))
     (take-next (c .before .before .before .before .before .before .args .lasts .now) _ (c .before .before .before .before .before .loop .k - 1) (c .before .before .before .before .before .loop .choices) (omega arith) (rw e at (c .before .before .before .before .before .loop .inv .3)) (c .before .if1 .taken))
 
 loop-again : tie.Need-loop-again Inv-loop μ-loop
