@@ -47,12 +47,13 @@ module _ (t s : List ℕ) (n : ℕ) (heads : List ℕ) (ps : List Policy) (buts 
       fits : number - 1 < length lows
       fits = let e = f .long in omega arith
 
-pub zeros-few : (i : ℕ) → getD (replicate 64 0) i 0 ≤ 6
-zeros-few i = go (ltb i 64) refl
+-- a list of zeros has no other number
+pub zeros-say : (n i : ℕ) → _≡_ {A = ℕ} (getD (replicate n 0) i 0) 0
+zeros-say n i = go (ltb i n) refl
   where
-    go : (b : Bool) → ltb i 64 ≡ b → getD (replicate 64 0) i 0 ≤ 6
-    go true e = rw (getD-replicate {A = ℕ} 64 i 0 0 (ltb-true i 64 e)) (omega arith)
-    go false e = rw (List·getD-eq-default {A = ℕ} (replicate 64 0) 0 {n = i} (rw (length-replicate {A = ℕ} 64 0) (ltb-false i 64 e))) (omega arith)
+    go : (b : Bool) → ltb i n ≡ b → _≡_ {A = ℕ} (getD (replicate n 0) i 0) 0
+    go true e = getD-replicate {A = ℕ} n i 0 0 (ltb-true i n e)
+    go false e = List·getD-eq-default {A = ℕ} (replicate n 0) 0 {n = i} (rw (length-replicate {A = ℕ} n 0) (ltb-false i n e))
 
 -- ---- eight marks set to 0, one after the other
 

@@ -6,7 +6,7 @@ use Rattle.stored.specs.ReadBack.{policyOf, policiesAt}
 use Rattle.deciding.proofs.Lowest.{last-there}
 use Rattle.marks.proofs.Depth.{depth-few, last-steady}
 use Rattle.marks.proofs.Numbering.{numbered-few, numbered-some, Left, all-left, none-there, fewer-left, last-numbered, one-left}
-use Rattle.marks.proofs.Marking.{Found, found-more, zeros-few}
+use Rattle.marks.proofs.Marking.{Found, found-more, zeros-say}
 use Rattle.marks.proofs.depths.depths.Statement.{statement}
 use Rattle.marks.proofs.depths.depths.Tie as tie
 use Rattle.marks.proofs.depths.depths.Reads as reads
@@ -23,7 +23,7 @@ abbrev μ-loop : tie.MeasureT-loop
 loop-holds : tie.Need-loop-holds Inv-loop μ-loop
 loop-holds c = let all = c .before .before .before .pre .1 .0 in (
       all-left (c .before .before .before .pre .0) all (c .before .before .before .pre .1 .1 .0),
-      record { long = refl; few = zeros-few; steady = λ m policy h l. absurd (omega (arith, numbered-few h)) },
+      record { long = refl; few = λ i. omega (arith, zeros-say 64 i); steady = λ m policy h l. absurd (omega (arith, numbered-few h)) },
     )
 
 sub-entry-at : tie.Need-sub-entry-at Inv-loop μ-loop
