@@ -32,7 +32,7 @@ fn is_yes(v: Verdict) -> bool
 
 // Whether the policy of which x is the last entry, number end - 1, is satisfied and may decide: a permit does not where a forbid is known.
 // Its target is met first, then its condition, if any.
-fn counts<'a>(
+pub fn counts<'a>(
     known: bool,
     text: &'a [u8],
     table: &[u8],
@@ -80,14 +80,14 @@ fn counts<'a>(
 }
 
 // One number or another.
-fn number_if(b: bool, number: usize, other: usize) -> usize
+pub fn number_if(b: bool, number: usize, other: usize) -> usize
     ensures { λ r. ⌜ r ≡ cond b number other ⌝ }
 {
     if b { number } else { other }
 }
 
 // The decision by the lowest-numbered satisfied forbid and permit, 0 where there is none.
-fn by_numbers(forbid: usize, permit: usize) -> Decision
+pub fn by_numbers(forbid: usize, permit: usize) -> Decision
     ensures { λ r. ⌜ r ≡ byNumbers forbid permit ⌝ }
 {
     if 0 < forbid {

@@ -55,7 +55,15 @@ pub record Placed (grid : List (List ℕ)) (lasts choices values : List ℕ) : T
   pub combines : Combination (countsBy lasts) choices
   pub values-are : Picked grid choices values
 
+-- `column` is the last column that has a choice left, or 0, and the columns before it keep their choices
+pub record MovedAt (lasts before : List ℕ) (column : ℕ) (choices : List ℕ) : Type 0 where
+  pub within : column < 6
+  pub free : 0 < column → getD before column 0 < getD lasts column 0
+  pub full : (i : ℕ) → column < i → i < 6 → getD lasts i 0 ≤ getD before i 0
+  pub kept : (i : ℕ) → i < column → getD choices i 0 ≡ getD before i 0
+
 -- on to the next row, and from the last row to the first
-pub record Moved (grid : List (List ℕ)) (lasts before choices values : List ℕ) : Type 0 where
+pub record Moved (grid : List (List ℕ)) (lasts before : List ℕ) (column : ℕ) (choices values : List ℕ) : Type 0 where
   pub choices-are : choices ≡ choicesAt (countsBy lasts) ((rowOf (countsBy lasts) before + 1) % product (countsBy lasts))
   pub values-are : Picked grid choices values
+  pub moved : MovedAt lasts before column choices

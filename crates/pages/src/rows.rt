@@ -42,9 +42,15 @@ pub fn choices_of(lasts: &[u8; 6], row: usize) -> [u8; 6]
 }
 
 // On to the next row: the last column that has a choice left takes it, and the columns after it begin anew. `values` are the places of what is chosen.
-pub fn step(grid: &[[usize; 8]; 6], lasts: &[u8; 6], choices: &mut [u8; 6], values: &mut [usize; 6])
+// Answers the number of that column, from 0 on, and 0 past the last row.
+pub fn step(
+    grid: &[[usize; 8]; 6],
+    lasts: &[u8; 6],
+    choices: &mut [u8; 6],
+    values: &mut [usize; 6],
+) -> usize
     requires { ⌜ Placed (now grid) (now lasts) (now choices) (now values) ⌝ }
-    ensures { λ _. ⌜ Moved (now (grid .entry)) (now (lasts .entry)) (now (choices .entry)) (now (choices .exit)) (now (values .exit)) ⌝ }
+    ensures { λ r. ⌜ Moved (now (grid .entry)) (now (lasts .entry)) (now (choices .entry)) r (now (choices .exit)) (now (values .exit)) ⌝ }
 {
     let mut k = 6;
     while 0 < k {
@@ -54,9 +60,10 @@ pub fn step(grid: &[[usize; 8]; 6], lasts: &[u8; 6], choices: &mut [u8; 6], valu
             let next = choice + 1;
             choices[k] = next;
             values[k] = grid[k][next as usize];
-            return;
+            return k;
         }
         choices[k] = 0;
         values[k] = grid[k][0];
     }
+    0
 }

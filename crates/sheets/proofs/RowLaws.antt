@@ -2,12 +2,12 @@
 use mathlib.Core.Path.{_≡_, refl, sym, ap, _∙_}
 use mathlib.Core.Bool.{Bool, true, false, cond}
 use mathlib.Core.List.{List, []}
-use Prim.Native.Nat.{ℕ, _+_, _%_, _≤_, _<_}
+use Prim.Native.Nat.{ℕ, _+_, _-_, _*_, _%_, _≤_, _<_}
 use native.Mathlib.Nat.{mod-lt, mod-eq-of-lt}
 use native.Mathlib.Omega.{arith}
 use borrow.Author.Tests.{lt-ltb, ltb-true}
 use lib.Dec.{ltb}
-use lib.ListN.{length, getD}
+use lib.ListN.{length, getD, replicate}
 use Rattle.grammar.specs.Policies.{Policy}
 use Rattle.bags.specs.Reading.{many}
 use Rattle.bags.specs.declared.After.the-variants.{At}
@@ -21,14 +21,17 @@ use Rattle.views.specs.Rows.{rowView, Stands, bagOfRow, Chooses}
 use Rattle.views.proofs.RowLaws.{row-stands, row-shows}
 use Rattle.meaning.specs.Targets.{Request, isSystem}
 use Rattle.meaning.specs.Decisions.{decisionOf, policiesDecide, policyOf, Numbered, first, later, Names, the-system, a-forbid, a-permit, none-named, NamedRightly}
+use Rattle.meaning.specs.declared.Decision.{Decision}
 use Rattle.meaning.specs.declared.Decision.the-variants.{System}
 use Rattle.meaning.proofs.Deciding.{named-rightly}
-use Rattle.pages.specs.Rows.{countsOf, Combination, rowOf, choicesAt, countsBy, Few, Picked, Placed, Moved}
+use Rattle.pages.specs.Rows.{countsOf, Combination, rowOf, choicesAt, countsBy, Few, Counted, Picked, Placed, Moved}
+use Rattle.marks.specs.Marks.{Depths, DecidedFrom}
+use Rattle.marks.proofs.Marking.{zeros-say}
 use Rattle.pages.proofs.Combinations.{choices-combine, row-of-choices, choice-below}
 use Rattle.pages.proofs.Digits.{counts-length, count-is, rows-some}
-use Rattle.pages.proofs.SixColumns.{rows-are, row-chooses, lasts-few, six-rows, six-choices}
+use Rattle.pages.proofs.SixColumns.{heads-counted, rows-are, row-chooses, lasts-few, six-rows, six-choices}
 use Rattle.sheets.specs.Sheets.{columnsIn, firstIn, decisionBy, decisionAt}
-use Rattle.sheets.specs.Asked.{Asked, Decidable, Laid}
+use Rattle.sheets.specs.Asked.{Asked, Decidable, Laid, Kept}
 
 -- ---- the row at which the choices stand
 
@@ -55,8 +58,8 @@ pub stands-first : {grid : List (List ℕ)} {ends choices values : List ℕ} {ro
 stands-first is six v = record { choices-are = is; values-are = record { six = six; picked = λ i l. v i l ∙ simp (lt-ltb i 6 l) } }
 
 -- the next row
-pub stands-next : {grid : List (List ℕ)} {ends choices values choices' values' : List ℕ} {row : ℕ} → row < product (countsBy ends) → Standing grid ends choices values row
-    → Moved grid ends choices choices' values' → Standing grid ends choices' values' (row + 1)
+pub stands-next : {grid : List (List ℕ)} {ends choices values choices' values' : List ℕ} {row column : ℕ} → row < product (countsBy ends) → Standing grid ends choices values row
+    → Moved grid ends choices column choices' values' → Standing grid ends choices' values' (row + 1)
 stands-next {ends = ends} {choices = choices} {row = row} h s m =
     let here : row % product (countsBy ends) ≡ row = mod-eq-of-lt h in
     let is : choices ≡ choicesAt (countsBy ends) row = s .choices-are ∙ ap (choicesAt (countsBy ends)) here in
@@ -65,6 +68,44 @@ stands-next {ends = ends} {choices = choices} {row = row} h s m =
       choices-are = m .choices-are ∙ ap (λ (r : ℕ). choicesAt (countsBy ends) ((r + 1) % product (countsBy ends))) row-is;
       values-are = m .values-are;
     }
+
+-- ---- what is kept from row to row
+
+module _ {text s : List ℕ} {p : Sections} {n : ℕ} {starts : List ℕ} {grid : List (List ℕ)} {q : Request} {ps : List Policy} {policies : ℕ} {deeps lows : List ℕ} where
+  -- before the first row no mark says anything
+  pub kept-first : (values : List ℕ) → length values ≡ 6 → ((i : ℕ) → getD deeps i 0 ≤ 6) → Depths text s n starts ps deeps lows
+      → Kept text s p n starts grid q ps policies deeps lows values 0 (replicate 512 0)
+  kept-first values six few d = record {
+    few = few;
+    depths = d;
+    carried = record {
+      before = values;
+      six = six;
+      alike = record { alike = λ j h. refl };
+      marked = record { right = λ m policy h l u. record { says = λ c k. record { told = λ z. absurd (z (zeros-say 512 (8 * (m - 1) + c))) } } };
+      long = refl;
+    };
+  }
+
+  -- the next row chooses alike in the columns before the one that moves
+  pub kept-next : {ends choices choices' values values' marks marks' : List ℕ} {from column : ℕ} {d : Decision} → policies ≡ length ps
+      → Kept text s p n starts grid q ps policies deeps lows values from marks → DecidedFrom text s p n starts grid q ps deeps values d marks'
+      → Picked grid choices values → Moved grid ends choices column choices' values' → Kept text s p n starts grid q ps policies deeps lows values' column marks'
+  kept-next {values = values} many k d v m = record {
+    few = k .few;
+    depths = k .depths;
+    carried = record {
+      before = values;
+      six = v .six;
+      alike = record {
+        alike = λ j h.
+          let l = m .moved .within in
+          v .picked j (omega arith) ∙ ap (λ (c : ℕ). getD (getD grid j []) c 0) (sym (m .moved .kept j h)) ∙ sym (m .values-are .picked j (omega arith));
+      };
+      marked = rw many (d .marked);
+      long = d .long;
+    };
+  }
 
 -- ---- what the row shows, and what is decided in it
 
@@ -77,6 +118,9 @@ module _ {s : List ℕ} {p : Sections} {all start n : ℕ} {starts ends : List �
 
   pub ends-few : Few ends
   ends-few = lasts-few s n (firstIn p) (asked .question .last) most columns starts ends (laid .six) (laid .starts-are) (laid .ends-are)
+
+  pub counted-there : Counted s n starts
+  counted-there = heads-counted s n (firstIn p) (asked .question .last) most columns starts (laid .starts-are)
 
   pub as-many-rows : product (countsBy ends) ≡ all
   as-many-rows =

@@ -10,7 +10,13 @@ use Rattle.bags.specs.declared.sections.Sections.{Sections}
 use Rattle.questions.specs.Questions.{Question, headOf, countOf, cell}
 use Rattle.stored.specs.ReadBack.{policiesAt}
 use Rattle.stored.specs.Ready.{ReadyPolicies}
-use Rattle.meaning.specs.Targets.{isSystem, typeIn}
+use Rattle.grammar.specs.Policies.{Policy}
+use Rattle.views.specs.Rows.{rowView}
+use Rattle.meaning.specs.Targets.{Request, isSystem, typeIn}
+use Rattle.meaning.specs.Decisions.{policiesDecide}
+use Rattle.meaning.specs.declared.Decision.{Decision}
+use Rattle.meaning.specs.declared.Decision.the-variants.{System}
+use Rattle.marks.specs.Marks.{Depths, Carried, DecidedFrom}
 use Rattle.sheets.specs.Sheets.{columnsIn, firstIn, rowsIn}
 
 -- a question with so many rows, and a start row that is not above their number
@@ -46,3 +52,17 @@ pub record RowsAsked (system : Bool) (text table : List ℕ) (policies entries :
   pub asked : Asked s p all start
   pub laid : Laid s p n starts grid ends
   pub decidable : Decidable system text table policies entries subject sort resource resource-sort
+
+-- What is kept from row to row, for any subject but the system: which columns can matter to each policy, and marks that are right for a row that chooses alike in the columns
+-- before number `from`.
+pub record Kept (text s : List ℕ) (p : Sections) (n : ℕ) (starts : List ℕ) (grid : List (List ℕ)) (q : Request) (ps : List Policy) (policies : ℕ) (deeps lows values : List ℕ) (from : ℕ)
+    (marks : List ℕ) : Type 0 where
+  pub few : (i : ℕ) → getD deeps i 0 ≤ 6
+  pub depths : Depths text s n starts ps deeps lows
+  pub carried : Carried text s p n starts grid q ps deeps values from policies marks
+
+-- a row's decision; for any subject but the system the marks are then right for the row
+pub record RowDecided (system : Bool) (text s : List ℕ) (p : Sections) (n : ℕ) (starts : List ℕ) (grid : List (List ℕ)) (q : Request) (ps : List Policy) (deeps values : List ℕ) (d : Decision)
+    (marks : List ℕ) : Type 0 where
+  pub is : d ≡ cond system System (policiesDecide text (rowView s p n starts values) q ps)
+  pub others : system ≡ false → DecidedFrom text s p n starts grid q ps deeps values d marks

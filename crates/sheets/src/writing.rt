@@ -1,16 +1,20 @@
 // Writes a page: each row is decided, and the listed ones are put one after the other while they fit.
 ghost use mathlib.Core.Path.{_≡_};
-ghost use mathlib.Core.Bool.{false, cond};
+ghost use mathlib.Core.Bool.{false};
+ghost use Prim.Native.Nat.{_≤_};
+ghost use lib.ListN.{length};
 ghost use Rattle.stored.specs.ReadBack.{policiesAt};
-ghost use Rattle.views.specs.Rows.{rowView, Stands};
-ghost use Rattle.meaning.specs.Decisions.{policiesDecide};
-ghost use Rattle.meaning.specs.declared.Decision.the-variants.{System};
+ghost use Rattle.stored.specs.Ready.{ReadyPolicies};
+ghost use Rattle.views.specs.Rows.{Stands};
 ghost use Rattle.targets.specs.Matching.{request};
+ghost use Rattle.pages.specs.Rows.{Counted};
 ghost use Rattle.pages.specs.Listing.{PageWritten};
+ghost use Rattle.marks.specs.Marks.{Depths, Chosen};
 ghost use Rattle.sheets.specs.Sheets.{decisionAt};
-ghost use Rattle.sheets.specs.Asked.{Asked, Decidable, Laid, RowsAsked};
+ghost use Rattle.sheets.specs.Asked.{Asked, Decidable, RowsAsked, Kept, RowDecided};
 use bags::sections::Sections;
-use deciding::row::decision;
+use marks::decision_from;
+use marks::depths::depths;
 use meaning::Decision;
 use pages::Page;
 use pages::listing::is_allowed;
@@ -25,9 +29,38 @@ use views::chosen;
 // The bytes of a listed row.
 const ROW: usize = 6;
 
-// What is decided in a row. For the system nothing is looked at.
+// The last column that each policy's condition names, but the one that `buts` has for it. For the system nothing is looked at.
+fn depths_unless(
+    system: bool,
+    text: &[u8],
+    table: &[u8],
+    policies: usize,
+    entries: usize,
+    s: &[u8],
+    n: usize,
+    starts: &[usize; 6],
+    buts: &[u8; 64],
+) -> [u8; 64]
+    requires { ⌜ (system ≡ false → (ReadyPolicies (now text) (now table) entries) × (policies ≡ length (policiesAt (now table) entries)) × (policies ≤ 64)) ⌝ }
+    requires { ⌜ Counted (now s) n (now starts) ⌝ }
+    ensures { λ r. ⌜ (system ≡ false
+        → Depths (now (text .entry)) (now (s .entry)) n (now (starts .entry)) (policiesAt (now (table .entry)) entries) (now (buts .entry)) r) ⌝ }
+{
+    if system {
+        return [0u8; 64];
+    }
+    depths(text, table, policies, entries, s, n, starts, buts)
+}
+
+// What is decided in a row, by marks that are right for a row that chooses alike in the columns before number `from`. For the system nothing is looked at.
 fn row_decision<'a>(
     system: bool,
+    from: usize,
+    deeps: &[u8; 64],
+    lows: &[u8; 64],
+    marks: &mut [u8; 512],
+    grid: &[[usize; 8]; 6],
+    choices: &[u8; 6],
     text: &'a [u8],
     table: &[u8],
     policies: usize,
@@ -45,13 +78,23 @@ fn row_decision<'a>(
 ) -> Decision
     requires { ⌜ Stands (now s) p n (now starts) (now values) ⌝ }
     requires { ⌜ Decidable system (now text) (now table) policies entries (now subject) «subject_sort» (now resource) «resource_sort» ⌝ }
-    ensures { λ r. ⌜ r ≡ cond system System (policiesDecide (now (text .entry)) (rowView (now (s .entry)) p n (now (starts .entry)) (now (values .entry)))
-        (request (now (subject .entry)) (now (action .entry)) (now (resource .entry))) (policiesAt (now (table .entry)) entries)) ⌝ }
+    requires { ⌜ Chosen (now grid) (now choices) (now values) ⌝ }
+    requires { ⌜ (system ≡ false → Kept (now text) (now s) p n (now starts) (now grid) (request (now subject) (now action) (now resource)) (policiesAt (now table) entries)
+        policies (now deeps) (now lows) (now values) from (now marks)) ⌝ }
+    ensures { λ r. ⌜ RowDecided system (now (text .entry)) (now (s .entry)) p n (now (starts .entry)) (now (grid .entry))
+        (request (now (subject .entry)) (now (action .entry)) (now (resource .entry))) (policiesAt (now (table .entry)) entries) (now (deeps .entry)) (now (values .entry))
+        r (now (marks .exit)) ⌝ }
 {
     if system {
         return Decision::System;
     }
-    decision(
+    decision_from(
+        from,
+        deeps,
+        lows,
+        marks,
+        grid,
+        choices,
         text,
         table,
         policies,
@@ -97,6 +140,11 @@ fn write_rows<'a>(
 {
     let mut choices = choices_of(ends, start);
     let mut values = chosen(grid, 6, &choices);
+    let none = [0u8; 64];
+    let deeps = depths_unless(system, text, table, policies, entries, s, n, starts, &none);
+    let lows = depths_unless(system, text, table, policies, entries, s, n, starts, &deeps);
+    let mut marks = [0u8; 512];
+    let mut from = 0;
     let mut written = 0;
     let mut at = 0;
     let mut row = start;
@@ -104,6 +152,12 @@ fn write_rows<'a>(
         let here = row;
         let d = row_decision(
             system,
+            from,
+            &deeps,
+            &lows,
+            &mut marks,
+            &grid,
+            &choices,
             text,
             table,
             policies,
@@ -119,7 +173,7 @@ fn write_rows<'a>(
             resource,
             resource_sort,
         );
-        step(&grid, ends, &mut choices, &mut values);
+        from = step(&grid, ends, &mut choices, &mut values);
         row += 1;
         if is_allowed(d) {
             if part.len() - at < ROW {

@@ -17,7 +17,7 @@ use lookups::values::Value;
 use lookups::values::value_from;
 
 // Whether the column at `head` names this attribute.
-fn names(s: &[u8], head: usize, root: u8, path: &[u8]) -> bool
+pub fn names(s: &[u8], head: usize, root: u8, path: &[u8]) -> bool
     requires { ⌜ countAt (now s) head < length (now s) ⌝ }
     ensures { λ r. ⌜ r ≡ (eqb (byte (now (s .entry)) head) root && same (columnPath (now (s .entry)) head) (unblanked (now (path .entry)))) ⌝ }
 {

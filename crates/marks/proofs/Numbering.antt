@@ -1,0 +1,79 @@
+-- Policies by their numbers. Assumes nothing.
+use mathlib.Core.Path.{_≡_, refl, ap, subst, sym}
+use mathlib.Core.List.{List, [], _∷_, _++_}
+use Prim.Native.Nat.{ℕ, zero, suc, _-_, _≤_, _<_}
+use native.Mathlib.Omega.{arith}
+use lib.ListN.{length}
+use Rattle.grammar.specs.Policies.{Policy}
+use Rattle.table.specs.declared.Entry.{Entry}
+use Rattle.stored.specs.ReadBack.{policyOf, policiesIn, policiesAt}
+use Rattle.stored.specs.Ready.{ReadyPolicies, Last}
+use Rattle.meaning.specs.Decisions.{Numbered, first, later}
+use Rattle.deciding.proofs.Lowest.{some-left, number-falls}
+
+pub numbered-some : {n : ℕ} {p : Policy} {ps : List Policy} → Numbered n p ps → 0 < n
+numbered-some first = omega arith
+numbered-some (later h) = omega arith
+
+pub numbered-few : {n : ℕ} {p : Policy} {ps : List Policy} → Numbered n p ps → n ≤ length ps
+numbered-few first = omega arith
+numbered-few (later h) = let l = numbered-few h in omega arith
+
+pub numbered-left : {n : ℕ} {p : Policy} {ps : List Policy} (qs : List Policy) → Numbered n p ps → Numbered n p (ps ++ qs)
+numbered-left qs first = first
+numbered-left qs (later h) = later (numbered-left qs h)
+
+pub numbered-last : (ps : List Policy) (p : Policy) → Numbered (suc (length ps)) p (ps ++ p ∷ [])
+numbered-last [] p = first
+numbered-last (q ∷ ps) p = later (numbered-last ps p)
+
+-- a number is that of one policy
+same-number : {n m : ℕ} {p : Policy} {ps : List Policy} → n ≡ m → Numbered n p ps → Numbered m p ps
+same-number {p = p} {ps = ps} e h = subst (λ (k : ℕ). Numbered k p ps) e h
+
+behind : {n m : ℕ} {p q : Policy} {ps : List Policy} → Numbered n p (q ∷ ps) → n ≡ suc m → 0 < m → Numbered m p ps
+behind first e l = absurd (omega arith)
+behind (later h) e l = same-number (omega arith) h
+
+front : {n : ℕ} {p q : Policy} {ps : List Policy} → Numbered n p (q ∷ ps) → n ≡ 1 → p ≡ q
+front first e = refl
+front (later h) e = let l = numbered-some h in absurd (omega arith)
+
+pub numbered-one : {n : ℕ} {p q : Policy} {ps : List Policy} → Numbered n p ps → Numbered n q ps → p ≡ q
+numbered-one first k = sym (front k refl)
+numbered-one (later h) k = numbered-one h (behind k refl (numbered-some h))
+
+-- ---- the policies left, as they are met from the last to the first
+
+-- those before entry `end` are policies 1 to `number` of all those before entry `entries`
+pub record Left (t table : List ℕ) (entries end number : ℕ) : Type 0 where
+  pub ready : ReadyPolicies t table end
+  pub count : number ≡ length (policiesAt table end)
+  pub few : number ≤ 64
+  pub among : (m : ℕ) (policy : Policy) → Numbered m policy (policiesAt table end) → Numbered m policy (policiesAt table entries)
+
+pub all-left : {t table : List ℕ} {entries policies : ℕ} → ReadyPolicies t table entries → policies ≡ length (policiesAt table entries) → policies ≤ 64
+    → Left t table entries entries policies
+all-left r c f = record { ready = r; count = c; few = f; among = λ m policy h. h }
+
+pub none-there : {t table : List ℕ} {entries end number : ℕ} → Left t table entries end number → end ≤ 0 → number ≡ 0
+unfolding policiesIn
+none-there {end = zero} l h = l .count
+none-there {end = suc end} l h = absurd (omega arith)
+
+module _ {t table : List ℕ} {entries end number : ℕ} {x : Entry} (l : Left t table entries end number) (last : Last t table end x) where
+  pub fewer-left : Left t table entries (x .first) (number - 1)
+  fewer-left = record {
+    ready = last .before;
+    count = number-falls last (l .count);
+    few = let f = l .few in omega arith;
+    among = λ m policy h. l .among m policy (rw (last .is) (numbered-left (policyOf table end x ∷ []) h));
+  }
+
+  pub last-numbered : Numbered number (policyOf table end x) (policiesAt table entries)
+  last-numbered =
+      let e : suc (length (policiesAt table (x .first))) ≡ number = let f = number-falls last (l .count) in let s = some-left last (l .count) in omega arith in
+      l .among number (policyOf table end x) (rw (last .is) (rw e at (numbered-last (policiesAt table (x .first)) (policyOf table end x))))
+
+  pub one-left : 1 ≤ number
+  one-left = some-left last (l .count)

@@ -1,0 +1,116 @@
+// Which columns can matter to a policy, found once from the entries of its condition.
+ghost use mathlib.Core.Path.{_≡_};
+ghost use Prim.Native.Nat.{_-_, _≤_, _<_};
+ghost use lib.ListN.{length};
+ghost use Rattle.tokens.specs.Blanks.{unblanked};
+ghost use Rattle.stored.specs.ReadBack.{policiesAt};
+ghost use Rattle.stored.specs.Ready.{ReadyPolicies};
+ghost use Rattle.pages.specs.Rows.{Counted};
+ghost use Rattle.marks.specs.Columns.{naming, rootBy, columnOf, deeper, depthFrom};
+ghost use Rattle.marks.specs.Marks.{Depths};
+use table::Entry;
+use table::entry_at;
+use views::names;
+
+fn root_by(kind: u8) -> u8
+    ensures { λ r. ⌜ r ≡ rootBy kind ⌝ }
+{
+    if kind <= 4 { kind } else { kind - 4 }
+}
+
+// The first of `n` columns that names this attribute, from 1 on; 0 where none does.
+fn column_naming(s: &[u8], n: usize, heads: &[usize; 6], root: u8, path: &[u8]) -> u8
+    requires { ⌜ Counted (now s) n (now heads) ⌝ }
+    ensures { λ r. ⌜ r ≡ naming n (now (s .entry)) (now (heads .entry)) 0 root (unblanked (now (path .entry))) ⌝ }
+{
+    let mut left = n;
+    let mut i = 0;
+    while 0 < left {
+        let head = heads[i];
+        i += 1;
+        if names(s, head, root, path) {
+            return i as u8;
+        }
+        left -= 1;
+    }
+    0
+}
+
+// The column that an entry names.
+fn column_of(text: &[u8], x: Entry, s: &[u8], n: usize, heads: &[usize; 6]) -> u8
+    requires { ⌜ Counted (now s) n (now heads) ⌝ }
+    ensures { λ r. ⌜ r ≡ columnOf (now (text .entry)) (now (s .entry)) n (now (heads .entry)) x ⌝ }
+{
+    let start = x.first;
+    let end = x.second;
+    if (x.kind <= 8) & (start <= end) & (end <= text.len()) {
+        let root = root_by(x.kind);
+        return column_naming(s, n, heads, root, &text[start..end]);
+    }
+    0
+}
+
+fn deeper_of(but: u8, a: u8, k: u8) -> u8
+    ensures { λ r. ⌜ r ≡ deeper but a k ⌝ }
+{
+    if (a < k) & (k != but) { k } else { a }
+}
+
+// The last column, `but` aside, that the entries from number `first` up to `end` name.
+fn depth(
+    text: &[u8],
+    table: &[u8],
+    first: usize,
+    end: usize,
+    s: &[u8],
+    n: usize,
+    heads: &[usize; 6],
+    but: u8,
+) -> u8
+    requires { ⌜ Counted (now s) n (now heads) ⌝ }
+    requires { ⌜ first ≤ end ⌝ }
+    requires { ⌜ end < 65536 ⌝ }
+    ensures { λ r. ⌜ r ≡ depthFrom (end - first) (now (text .entry)) (now (table .entry)) (now (s .entry)) n (now (heads .entry)) but first 0 ⌝ }
+{
+    let mut deepest = 0;
+    let mut at = first;
+    while at < end {
+        let x = entry_at(table, at);
+        let k = column_of(text, x, s, n, heads);
+        deepest = deeper_of(but, deepest, k);
+        at += 1;
+    }
+    deepest
+}
+
+// The last column that each policy's condition names, but the one that `buts` has for it.
+pub fn depths(
+    text: &[u8],
+    table: &[u8],
+    policies: usize,
+    entries: usize,
+    s: &[u8],
+    n: usize,
+    heads: &[usize; 6],
+    buts: &[u8; 64],
+) -> [u8; 64]
+    requires { ⌜ ReadyPolicies (now text) (now table) entries ⌝ }
+    requires { ⌜ policies ≡ length (policiesAt (now table) entries) ⌝ }
+    requires { ⌜ policies ≤ 64 ⌝ }
+    requires { ⌜ Counted (now s) n (now heads) ⌝ }
+    ensures { λ r. ⌜ Depths (now (text .entry)) (now (s .entry)) n (now (heads .entry)) (policiesAt (now (table .entry)) entries) (now (buts .entry)) r ⌝ }
+{
+    let mut found = [0u8; 64];
+    let mut end = entries;
+    let mut number = policies;
+    while 0 < end {
+        let x = entry_at(table, end - 1);
+        let i = number - 1;
+        let but = buts[i];
+        let last = depth(text, table, x.second, end - 1, s, n, heads, but);
+        found[i] = last;
+        end = x.first;
+        number = i;
+    }
+    found
+}
