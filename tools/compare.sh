@@ -11,20 +11,13 @@ scale=${2:-1}
 work=$(mktemp -d)
 trap 'rm -rf "$work"' EXIT
 export CARGO_TARGET_DIR="$work/cargo"
-cargo run --quiet --release --locked --offline --manifest-path second/Cargo.toml -- vectors "$work/vectors" --seed "$seed" --scale "$scale"
-home=${RATTLE_HOME:-$(dirname "$(dirname "$(readlink -f "$(command -v rt)")")")}
-if [ "$(uname -m)" = x86_64 ]; then
-    run=''
-else
-    own=$home/on/$(uname -m)/toolchain/lib
-    run="qemu-x86_64 $own/ld-linux-x86-64.so.2 --library-path $own"
-fi
+cargo run --quiet --release --locked --offline --manifest-path second/Cargo.toml --bin second -- vectors "$work/vectors" --seed "$seed" --scale "$scale"
 status=0
 total=0
 for sort in "$@"; do
     program=target/bin/${sort}_vectors
     [ -f "$program" ] || { echo "compare.sh: no $program: run rt check ${sort}_vectors first" >&2; exit 2; }
-    $run "$program" <"$work/vectors/${sort}_vectors/stdin" >"$work/answers"
+    tools/run.sh "$program" <"$work/vectors/${sort}_vectors/stdin" >"$work/answers"
     right=$work/vectors/${sort}_vectors/stdout
     count=$(wc -l <"$right")
     total=$((total + count))

@@ -30,7 +30,7 @@ fn vector(text: &[u8], table: &[u8]) -> Vector {
 }
 
 /// The table of a text, or no bytes if the text does not compile.
-fn table_of(text: &[u8]) -> Vec<u8> {
+pub fn table_of(text: &[u8]) -> Vec<u8> {
     match policies_of(text) {
         Ok(policies) => bytes_of(&entries_of(&policies)),
         Err(_) => Vec::new(),

@@ -105,7 +105,7 @@ impl Facts<'_> {
     }
 
     /// A policy is satisfied if its target parts match and its condition, if any, is true.
-    fn is_satisfied(&self, policy: &Policy) -> bool {
+    pub fn is_satisfied(&self, policy: &Policy) -> bool {
         self.principal_matches(&policy.principal)
             && self.action_matches(&policy.action)
             && self.resource_matches(&policy.resource)

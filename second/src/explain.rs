@@ -3,14 +3,18 @@
 use crate::bags::{path_without_blanks, read_bag, Bag, Content, Value};
 use crate::bags_vectors;
 use crate::begins_vectors;
-use crate::compile::{compile as compile_text, policies_of};
+use crate::compile::{compile as compile_text, policies_of, policies_said_by};
 use crate::compile_vectors::{self, room_of};
+use crate::decide_vectors::{self, request_of};
+use crate::deciding::Facts;
 use crate::number_vectors;
 use crate::numbers::value_of;
 use crate::pattern_vectors;
 use crate::patterns::reached;
 use crate::questions::{read_question, Question};
 use crate::questions_vectors;
+use crate::sheet_vectors::{self, lent, page_of, wanted_of};
+use crate::sheets::ROW_BYTES;
 use crate::table::{bytes_of, entries_of, Entry, ENTRY_BYTES, KINDS};
 use crate::token_vectors;
 use crate::tokens::{self, all_tokens, place_of, token_at, RESERVED_WORDS};
@@ -230,6 +234,84 @@ pub fn view(vector: &Vector) -> String {
     lines
 }
 
+/// A typed request: the parts of a decide vector.
+pub fn read_decide(typed: &[u8]) -> Option<Vector> {
+    read_parts(typed, 6)
+}
+
+/// The text, the request, the bag, and which policies are satisfied.
+pub fn decide(vector: &Vector) -> String {
+    let mut lines = text_and_request(vector);
+    match read_bag(&vector[2]) {
+        Some(bag) => {
+            lines.push_str(&sections(&bag));
+            let look_up = |root: u8, path: &[u8]| bag.look_up(root, path);
+            lines.push_str(&satisfied(vector, &look_up));
+        }
+        None => lines.push_str(&format!("not a bag: {}\n", vector[2].escape_ascii())),
+    }
+    lines.push_str(&format!("answer: {}\n", decide_vectors::answer(vector)));
+    lines
+}
+
+/// A typed sheet: the parts of a sheet vector.
+pub fn read_sheet(typed: &[u8]) -> Option<Vector> {
+    read_parts(typed, 9).filter(|vector| vector[6].len() == 8 && vector[7].len() == 2 && vector[8].len() == 8)
+}
+
+/// The text, the request, the question, the rows that are written, and which policies are satisfied in the first rows.
+pub fn sheet(vector: &Vector) -> String {
+    const MOST_ROWS: usize = 20;
+    let mut lines = text_and_request(vector);
+    let wanted = wanted_of(vector);
+    lines.push_str(&format!("start {}, sheet of {} bytes, from byte {}\n", wanted.start, wanted.length, wanted.named));
+    match read_question(&vector[2]) {
+        Some(question) => {
+            lines.push_str(&base_and_columns(&question));
+            for row in (0..question.rows()).skip(wanted.start.min(1 << 20) as usize).take(MOST_ROWS) {
+                let choices = question.choices_of(row);
+                let look_up = |root: u8, path: &[u8]| question.look_up(&choices, root, path);
+                lines.push_str(&format!("row {} ({:?}): {}", row, choices, satisfied(vector, &look_up)));
+            }
+        }
+        None => lines.push_str(&format!("not a question: {}\n", vector[2].escape_ascii())),
+    }
+    let (answer, after) = page_of(vector);
+    let before = lent(wanted.length);
+    if let Ok(page) = answer {
+        for written in after[wanted.named as usize..].chunks(ROW_BYTES).take(page.written.min(MOST_ROWS)) {
+            lines.push_str(&format!("written: {:?}\n", written));
+        }
+    }
+    let changed = (0..before.len()).filter(|at| before[*at] != after[*at]).count();
+    lines.push_str(&format!("{} bytes of the sheet are changed\n", changed));
+    lines.push_str(&format!("answer: {}\n", sheet_vectors::answer(vector)));
+    lines
+}
+
+/// The text and the request of a decide or sheet vector, and whether the table is the text's.
+fn text_and_request(vector: &Vector) -> String {
+    let (text, given) = (&vector[0], &vector[1]);
+    let mut lines = format!("text ({} bytes):\n{}\n", text.len(), text.escape_ascii());
+    let table = if policies_said_by(text, given).is_some() { "begins" } else { "does not begin" };
+    lines.push_str(&format!("the table ({} bytes) {} with the text's compiled bytes\n", given.len(), table));
+    for (name, part) in ["subject", "action", "resource"].iter().zip(&vector[3..6]) {
+        lines.push_str(&format!("{} ({} bytes): {}\n", name, part.len(), part.escape_ascii()));
+    }
+    lines
+}
+
+/// Which policies are satisfied, as a line.
+fn satisfied<'a>(vector: &'a Vector, look_up: &'a dyn Fn(u8, &[u8]) -> Option<&'a Value>) -> String {
+    let policies = policies_of(&vector[0]).unwrap_or_default();
+    let facts = Facts { text: &vector[0], request: request_of(vector), look_up };
+    let numbers: Vec<String> = (0..policies.len())
+        .filter(|index| facts.is_satisfied(&policies[*index]))
+        .map(|index| format!("{} {:?}", index + 1, policies[index].effect))
+        .collect();
+    format!("satisfied policies: [{}]\n", numbers.join(", "))
+}
+
 fn base_and_columns(question: &Question) -> String {
     let mut lines = sections(&question.base);
     for (index, column) in question.columns.iter().enumerate() {
@@ -332,6 +414,24 @@ mod tests {
         let explained = view(&vec![bytes.clone(), vec![0; 6], vec![2], b"a .b".to_vec()]);
         assert!(explained.ends_with("looked up: root 2, path a.b\nanswer: 0 0000000000000000\n"), "{}", explained);
         assert!(bag(&vec![bytes, vec![1], b"a".to_vec()]).ends_with("answer: 24\n"));
+    }
+
+    #[test]
+    fn decisions_and_pages_are_shown() {
+        let vectors = decide_vectors::fixed();
+        let explained = decide(vectors.iter().find(|vector| decide_vectors::answer(vector) == "2 3").unwrap());
+        assert!(explained.contains("begins with the text's compiled bytes\nsubject (9 bytes): person:K7\n"));
+        assert!(explained.contains("satisfied policies: ["), "{}", explained);
+        assert!(explained.contains("3 Forbid"), "{}", explained);
+        assert!(explained.ends_with("\nanswer: 2 3\n"));
+        let vectors = sheet_vectors::fixed();
+        let explained = sheet(&vectors[0]);
+        assert!(explained.contains("\nrow 3 ([1, 0]): satisfied policies: [1 Permit]\n"), "{}", explained);
+        assert!(explained.contains("\nrow 5 ([1, 2]): satisfied policies: [1 Permit, 2 Forbid]\n"), "{}", explained);
+        assert!(explained.contains("\nwritten: [3, 0, 0, 0, 1, 1]\n"), "{}", explained);
+        for vector in vectors.iter().step_by(50) {
+            assert!(sheet(vector).contains("\nanswer: "));
+        }
     }
 
     #[test]

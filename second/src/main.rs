@@ -6,9 +6,12 @@ mod bags_vectors;
 mod begins_vectors;
 mod compile;
 mod compile_vectors;
+mod condition_texts;
 mod damaged_texts;
+mod decide_vectors;
 mod deciding;
 mod explain;
+mod folders;
 mod number_vectors;
 mod numbers;
 mod pattern_vectors;
@@ -18,6 +21,8 @@ mod policy_texts;
 mod questions;
 mod questions_vectors;
 mod random;
+mod requests;
+mod sheet_vectors;
 mod sheets;
 mod table;
 mod token_vectors;
@@ -36,9 +41,11 @@ const USAGE: &str = "usage:
   second vectors DIR [--seed N] [--scale K]  write the test vectors and their answers (K from 1 to 1000)
   second explain SORT                        explain the input on standard input
   second explain SORT --vector N             explain vector N (from 1) of the vectors on standard input
+  second folders DIR                         write folders for the sheet program, with what it has to print
   second sheet DIR                           print what the sheet program prints for the files in DIR
   second decide DIR                          decide policy.txt, bag.bin and request.txt in DIR
-SORT is tokens, number, like, compile, begins, bag, question or view; README.md says what the input of each is";
+SORT is tokens, number, like, compile, begins, bag, question, view, decide or sheet; README.md says what the input of
+each is";
 
 /// The bytes of the sheets that `second sheet` lends.
 const PAGE_BYTES: usize = 6_000;
@@ -90,6 +97,7 @@ fn run(words: &[&str]) -> Result<(), Failure> {
                 .ok_or_else(|| Failure::Other(format!("vectors are numbered 1 to {}", vectors.len())))?;
             print_explained(sort, vector)
         }
+        ["folders", directory] => folders::write_all(Path::new(directory)).map_err(failed),
         ["sheet", directory] => {
             let [text, question, request] = files(directory, ["policy.txt", "question.bin", "request.txt"])?;
             print(&sheets::printed(&text, &question, &request, PAGE_BYTES))

@@ -19,11 +19,13 @@ const NUMBERS: [&str; 12] =
     ["0", "-0", "1", "3", "-1", "2.5", "0.1", "75.50", "007", "-12.25", "123456789012345", "0.00000000000001"];
 const COMPARATORS: [&str; 6] = ["==", "!=", ">", ">=", "<", "<="];
 
-fn put(tokens: &mut Tokens, token: &str) {
+/// One more token.
+pub fn put(tokens: &mut Tokens, token: &str) {
     tokens.push(token.as_bytes().to_vec());
 }
 
-fn put_string(tokens: &mut Tokens, inside: &str) {
+/// One more string, between its quotes.
+pub fn put_string(tokens: &mut Tokens, inside: &str) {
     put(tokens, &format!("\"{}\"", inside));
 }
 
@@ -126,7 +128,7 @@ fn put_action_part(tokens: &mut Tokens, random: &mut Random) {
     put(tokens, "action");
     if random.one_in(3) {
         put(tokens, "in");
-        put_list(tokens, random, |tokens, random| put_string(tokens, random.pick(&STRINGS)));
+        put_list_of(tokens, random, |tokens, random| put_string(tokens, random.pick(&STRINGS)));
     }
 }
 
@@ -179,7 +181,7 @@ fn put_condition(tokens: &mut Tokens, random: &mut Random, depth: usize) {
         1 => {
             put_operand(tokens, random);
             put(tokens, "in");
-            put_list(tokens, random, put_literal);
+            put_list_of(tokens, random, put_literal);
         }
         2 => {
             put_operand(tokens, random);
@@ -191,7 +193,7 @@ fn put_condition(tokens: &mut Tokens, random: &mut Random, depth: usize) {
             put(tokens, ".");
             put(tokens, random.pick(&["containsAll", "containsAny"]));
             put(tokens, "(");
-            put_list(tokens, random, put_literal);
+            put_list_of(tokens, random, put_literal);
             put(tokens, ")");
         }
         4 => {
@@ -269,7 +271,7 @@ fn put_literal(tokens: &mut Tokens, random: &mut Random) {
 }
 
 /// A list has at least one literal.
-fn put_list(tokens: &mut Tokens, random: &mut Random, put_one: fn(&mut Tokens, &mut Random)) {
+pub fn put_list_of(tokens: &mut Tokens, random: &mut Random, put_one: impl Fn(&mut Tokens, &mut Random)) {
     put(tokens, "[");
     put_one(tokens, random);
     for _ in 0..random.pick(&[0, 0, 0, 0, 1, 1, 2, 3]) {

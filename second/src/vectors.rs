@@ -7,11 +7,13 @@ use std::path::Path;
 use crate::bags_vectors;
 use crate::begins_vectors;
 use crate::compile_vectors;
+use crate::decide_vectors;
 use crate::explain;
 use crate::number_vectors;
 use crate::pattern_vectors;
 use crate::questions_vectors;
 use crate::random::Random;
+use crate::sheet_vectors;
 use crate::token_vectors;
 use crate::views_vectors;
 
@@ -49,7 +51,7 @@ pub struct Sort {
 }
 
 /// All sorts of vectors.
-pub static SORTS: [Sort; 8] = [
+pub static SORTS: [Sort; 10] = [
     Sort {
         name: "tokens",
         explain_word: "tokens",
@@ -137,6 +139,28 @@ pub static SORTS: [Sort; 8] = [
         answer: views_vectors::answer,
         read_typed: explain::read_view,
         explain: explain::view,
+    },
+    Sort {
+        name: "decide",
+        explain_word: "decide",
+        parts: 6,
+        count: 32_000,
+        fixed: decide_vectors::fixed,
+        random: decide_vectors::random,
+        answer: decide_vectors::answer,
+        read_typed: explain::read_decide,
+        explain: explain::decide,
+    },
+    Sort {
+        name: "sheet",
+        explain_word: "sheet",
+        parts: 9,
+        count: 6_000,
+        fixed: sheet_vectors::fixed,
+        random: sheet_vectors::random,
+        answer: sheet_vectors::answer,
+        read_typed: explain::read_sheet,
+        explain: explain::sheet,
     },
 ];
 
@@ -251,7 +275,7 @@ mod tests {
         for sort in &SORTS {
             let vectors = make(sort, STANDARD_SEED, 1);
             assert_eq!(vectors.len(), sort.count);
-            assert!(encode(&vectors).len() <= 4_000_000);
+            assert!(encode(&vectors).len() <= if sort.name == "decide" { 12_000_000 } else { 4_000_000 });
             assert_eq!(answers(sort, &vectors).lines().count(), sort.count);
         }
     }

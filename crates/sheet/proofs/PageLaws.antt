@@ -1,0 +1,97 @@
+-- What the sheet program knows of the sheet's answers: its first page is refused or none is, and the pages have all listed rows. Assumes nothing.
+use mathlib.Core.Path.{_≡_, refl, sym, ap, _∙_}
+use mathlib.Core.Bool.{Bool, true, false, cond}
+use mathlib.Core.List.{List}
+use Prim.Native.Nat.{ℕ, zero, suc, _+_, _-_, _*_, _≤_, _<_}
+use native.Mathlib.Omega.{arith}
+use borrow.Author.Tests.{le-leb}
+use lib.ListN.{length, length-take, length-drop}
+use Rattle.questions.specs.Questions.{isQuestion}
+use Rattle.meaning.specs.Targets.{Request}
+use Rattle.meaning.specs.declared.Decision.{Decision}
+use Rattle.pages.specs.Listing.{yesOf, listed, pageRows, nextRow}
+use Rattle.pages.specs.declared.Page.{Page}
+use Rattle.pages.proofs.Listed.{next-lists, next-within, next-past}
+use Rattle.sheets.specs.Sheets.{rowsAsked, decisions, requestRefusal, refusalOf, unless, answerOf, SheetListed}
+use Rattle.sheets.specs.declared.Answer.{Answer}
+use Rattle.sheets.specs.declared.Answer.the-variants.{Listed, Refused}
+use Rattle.sheet.specs.Printed.{refusalFor, Accepted, PagePrinted, pageRoom}
+
+-- ---- refusals
+
+-- the refusal's number of an answer, and 0 where it has none
+abbrev pub refusedBy : Answer → ℕ
+refusedBy (Listed written next) = 0
+refusedBy (Refused number) = number
+
+told-by : (n w o : ℕ) → refusedBy (unless n (Listed w o) Refused) ≡ n
+unfolding unless
+told-by zero w o = refl
+told-by (suc n) w o = refl
+
+module _ {text table s : List ℕ} {q : Request} {start : ℕ} {page after : List ℕ} {answer : Answer} (l : SheetListed text table s q start page 0 answer after) where
+  refusal-is : 6 ≤ length page → start ≤ rowsAsked s → refusalOf text table s q start page 0 ≡ refusalFor text table s q
+  unfolding refusalOf refusalFor
+  refusal-is long h = rw (le-leb 6 (length page) long, le-leb start (rowsAsked s) h)
+
+  pub refusal-told : 6 ≤ length page → start ≤ rowsAsked s → {a : Answer} → answer ≡ a → refusedBy a ≡ refusalFor text table s q
+  unfolding answerOf
+  refusal-told long h e = ap refusedBy (sym e ∙ l .answered) ∙ told-by (refusalOf text table s q start page 0) _ _ ∙ refusal-is long h
+
+  module _ {rows : ℕ} (a : Accepted text table s q rows) (h : start < rows) (long : length page ≡ 6000) where
+    answer-is : answer ≡ Listed (length (pageRows (decisions text s q) rows start pageRoom)) (nextRow (decisions text s q) rows start pageRoom)
+    unfolding answerOf unless
+    answer-is = l .answered ∙ rw (refusal-is (omega arith) (rw (← a .counted) (omega arith)), a .no-refusal, a .counted, long) refl
+
+    pub page-printed : {written next : ℕ} → answer ≡ Listed written next → PagePrinted text s q rows start (record { written = written; next = next })
+    page-printed e = let i = answer-is in record { written = cc; next = cc }
+
+    pub never-refused : {number : ℕ} {A : Type 0} → answer ≡ Refused number → A
+    never-refused e = absurd (let i = answer-is in let z : _≡_ {A = ℕ} 0 1 = cc in omega arith)
+
+    pub rows-fit : {written next : ℕ} → answer ≡ Listed written next → 6 * written ≤ 6000
+    unfolding pageRows
+    rows-fit e = omega (arith, page-printed e .written, length-take pageRoom (listed (decisions text s q) rows start))
+
+-- what is not refused is a question
+a-question : (b : Bool) (n m : ℕ) {rows : ℕ} → cond b n 24 ≡ 0 → rows ≡ cond b m 0 → rows ≡ m
+a-question true n m e f = f
+a-question false n m e f = absurd (let z : _≡_ {A = ℕ} 24 0 = e in omega arith)
+
+pub accepted : {text table s : List ℕ} {q : Request} {number rows : ℕ} → number ≡ refusalFor text table s q → number ≤ 0 → rows ≡ cond (isQuestion s) (rowsAsked s) 0 → rows ≤ 262144
+    → Accepted text table s q rows
+unfolding refusalFor
+accepted {text} {table} {s} {q} r h e few =
+    let none : refusalFor text table s q ≡ 0 = omega arith in
+    record { no-refusal = none; counted = a-question (isQuestion s) (requestRefusal text table q) (rowsAsked s) none e; few = few }
+
+-- ---- pages
+
+module _ {text s : List ℕ} {q : Request} {rows start : ℕ} {page : Page} (w : PagePrinted text s q rows start page) (h : start < rows) where
+  abbrev d : ℕ → Decision
+  d = decisions text s q
+
+  pub goes-on : start < page .next
+  goes-on = rw (w .next) (next-past d rows start pageRoom h (omega arith))
+
+  pub goes-within : page .next ≤ rows
+  goes-within = rw (w .next) (next-within d rows start pageRoom (omega arith))
+
+  pub few-written : page .written ≤ 1000
+  unfolding pageRows
+  few-written = omega (arith, w .written, length-take pageRoom (listed d rows start))
+
+  -- the rows of the page and those from where it goes on are those from its start on
+  pub rows-joined : page .written + length (listed d rows (page .next)) ≡ length (listed d rows start)
+  unfolding pageRows
+  rows-joined =
+      let rest : length (listed d rows (page .next)) ≡ length (listed d rows start) - pageRoom = rw (w .next, next-lists d rows start pageRoom (omega arith)) (length-drop pageRoom (listed d rows start)) in
+      omega (arith, w .written, length-take pageRoom (listed d rows start), rest)
+
+-- from the last row on there is none
+pub all-counted : (d : ℕ → Decision) (rows start : ℕ) {so-far all : ℕ} → so-far + length (listed d rows start) ≡ all → rows ≤ start → so-far ≡ all
+unfolding listed yesOf
+all-counted d rows start e h =
+    let k : rows - start ≡ 0 = omega arith in
+    let none : length (listed d rows start) ≡ 0 = rw k in
+    omega arith
