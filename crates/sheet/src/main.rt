@@ -74,7 +74,10 @@ fn print_byte(n: u8, end: &[u8; 1]) {
 fn print_row(page: &[u8], at: usize)
     requires { ⌜ at + 6 ≤ length (now page) ⌝ }
 {
-    print_number(number4(page[at], page[at + 1], page[at + 2], page[at + 3]), b" ");
+    print_number(
+        number4(page[at], page[at + 1], page[at + 2], page[at + 3]),
+        b" ",
+    );
     print_byte(page[at + 4], b" ");
     print_byte(page[at + 5], b"\n");
 }
@@ -108,7 +111,17 @@ fn print_page<'a>(
     ensures { λ r. ⌜ PagePrinted (now (text .entry)) (now (question .entry)) (request (now (subject .entry)) (now (action .entry)) (now (resource .entry))) rows start r ⌝ }
 {
     let mut page = [0u8; 6000];
-    match sheet(text, table, question, subject, action, resource, start, &mut page, 0) {
+    match sheet(
+        text,
+        table,
+        question,
+        subject,
+        action,
+        resource,
+        start,
+        &mut page,
+        0,
+    ) {
         // never: a sheet that is accepted is refused on no page
         Answer::Refused(_) => Page {
             written: 0,
@@ -137,7 +150,16 @@ fn print_pages<'a>(
     let mut listed = 0;
     let mut start = 0;
     while start < rows {
-        let page = print_page(text, table, question, subject, action, resource, rows, start);
+        let page = print_page(
+            text,
+            table,
+            question,
+            subject,
+            action,
+            resource,
+            rows,
+            start,
+        );
         listed += page.written;
         start = page.next;
     }
@@ -145,17 +167,41 @@ fn print_pages<'a>(
 }
 
 // The number of the refusal that the sheet gets, and 0 where it gets none.
-fn refusal<'a>(text: &'a [u8], table: &[u8], question: &'a [u8], subject: &[u8], action: &'a [u8], resource: &[u8]) -> u8
+fn refusal<'a>(
+    text: &'a [u8],
+    table: &[u8],
+    question: &'a [u8],
+    subject: &[u8],
+    action: &'a [u8],
+    resource: &[u8],
+) -> u8
     ensures { λ r. ⌜ r ≡ refusalFor (now (text .entry)) (now (table .entry)) (now (question .entry)) (request (now (subject .entry)) (now (action .entry)) (now (resource .entry))) ⌝ }
 {
     let mut row = [0u8; 6];
-    match sheet(text, table, question, subject, action, resource, 0, &mut row, 0) {
+    match sheet(
+        text,
+        table,
+        question,
+        subject,
+        action,
+        resource,
+        0,
+        &mut row,
+        0,
+    ) {
         Answer::Refused(number) => number,
         Answer::Listed(_, _) => 0,
     }
 }
 
-fn print_sheet<'a>(text: &'a [u8], table: &[u8], question: &'a [u8], subject: &[u8], action: &'a [u8], resource: &[u8]) {
+fn print_sheet<'a>(
+    text: &'a [u8],
+    table: &[u8],
+    question: &'a [u8],
+    subject: &[u8],
+    action: &'a [u8],
+    resource: &[u8],
+) {
     let number = refusal(text, table, question, subject, action, resource);
     if 0 < number {
         print_refusal(number, 0, 0);
@@ -197,6 +243,11 @@ fn main() {
     let r = read_file(b"request.txt", &mut request);
     match compile(&text[..n], &mut table) {
         Compiled::Refused(number, line, column) => print_refusal(number, line, column),
-        Compiled::Policies(_, _) => print_request(&text[..n], &table, &question[..q], &request[..r]),
+        Compiled::Policies(_, _) => print_request(
+            &text[..n],
+            &table,
+            &question[..q],
+            &request[..r],
+        ),
     }
 }

@@ -27,12 +27,11 @@ loop-less : tie.Need-loop-less Inv-loop μ-loop
 loop-less c = omega (arith, goes-on (c .before .print-page .ensures) (c .before .before .loop-test .taken), c .before .before .loop-test .taken)
 
 loop-again : tie.Need-loop-again Inv-loop μ-loop
-loop-again c =
-    (
-      omega (arith, few-written (c .before .print-page .ensures) (c .before .before .loop-test .taken), goes-on (c .before .print-page .ensures) (c .before .before .loop-test .taken)),
-      omega (arith, goes-within (c .before .print-page .ensures) (c .before .before .loop-test .taken)),
-      omega (arith, rows-joined (c .before .print-page .ensures) (c .before .before .loop-test .taken), c .before .before .before .loop .inv .2),
-    )
+loop-again c = (
+  omega (arith, few-written (c .before .print-page .ensures) (c .before .before .loop-test .taken), goes-on (c .before .print-page .ensures) (c .before .before .loop-test .taken)),
+  omega (arith, goes-within (c .before .print-page .ensures) (c .before .before .loop-test .taken)),
+  omega (arith, rows-joined (c .before .print-page .ensures) (c .before .before .loop-test .taken), c .before .before .before .loop .inv .2),
+)
 
 returns : tie.Need-returns Inv-loop μ-loop
 returns c = all-counted _ _ _ (c .before .loop .inv .2) (c .loop-test .left)
