@@ -7,19 +7,15 @@ use native.Mathlib.Omega.{arith}
 use borrow.Author.Tests.{leb-true, ltb-true, ltb-false, le-leb, lt-ltb, le-ltb, eqb-true, eqb-false}
 use lib.Dec.{eqb, leb, ltb}
 use lib.ListN.{length, getD, set, replicate, length-set, length-replicate, getD-replicate, List·getD-eq-default}
-use lib.Seq.{getD-set-same, getD-set-other, ext-getD}
+use lib.Seq.{getD-set-same, getD-set-other}
 use Rattle.grammar.specs.Policies.{Policy}
-use Rattle.table.specs.declared.Entry.{Entry}
 use Rattle.bags.specs.declared.sections.Sections.{Sections}
 use Rattle.questions.proofs.PlaceLaws.{set-cases}
-use Rattle.stored.specs.ReadBack.{policyOf, policiesAt}
-use Rattle.stored.specs.Ready.{Last}
 use Rattle.views.specs.Rows.{rowView}
 use Rattle.meaning.specs.Targets.{Request}
 use Rattle.meaning.specs.Decisions.{satisfied, Numbered}
-use Rattle.pages.specs.Rows.{Picked}
 use Rattle.marks.specs.Marks.{Alike, Steady, ownOf, Depths, Says, RowSays, satBy, Marked, Carried, Chosen, Met}
-use Rattle.marks.proofs.Numbering.{numbered-some, numbered-few, numbered-one, Left, fewer-left, last-numbered, one-left}
+use Rattle.marks.proofs.Numbering.{numbered-some, numbered-one}
 
 -- ---- depths, found from the last policy to the first
 
