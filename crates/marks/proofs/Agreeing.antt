@@ -92,8 +92,11 @@ module _ (t : List ℕ) (u v : View) where
       let k = m + length (treeEntries m b) in
       let parts = each-left ((treeEntries e a ++ treeEntries m b) ++ treeEntries k c) _ h in
       let front = each-left (treeEntries e a ++ treeEntries m b) _ parts in
-      rw (verdict-agrees a p e (each-left (treeEntries e a) _ front), verdict-agrees b q m (each-right (treeEntries e a) _ front),
-      verdict-agrees c r k (each-right (treeEntries e a ++ treeEntries m b) _ parts))
+      rw (
+        verdict-agrees a p e (each-left (treeEntries e a) _ front),
+        verdict-agrees b q m (each-right (treeEntries e a) _ front),
+        verdict-agrees c r k (each-right (treeEntries e a ++ treeEntries m b) _ parts),
+      )
 
   condition-agrees : (c : Option Tree) → ConditionPlaced t c → (e : ℕ) → Each (Shows t u v) (conditionEntries e c) → conditionHolds t u c ≡ conditionHolds t v c
   unfolding conditionHolds conditionEntries

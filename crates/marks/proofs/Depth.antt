@@ -148,7 +148,7 @@ last-steady {t} {table} {end} {x} r is last s n heads but =
     let stands : Stands table (x .second) (end - 1) (conditionEntries (x .second) (policyOf table end x .condition)) = rw is (rw is at (condition-stands (policyOf table end x) stored)) in
     record {
       same = λ p q u v a own.
-        policy-agrees t (rowView s p n heads u) (rowView s p n heads v) q (policyOf table end x) (last .placed) (x .second)
-        (each-stands (x .second) (end - 1) _ stands
-        (λ i l h. entry-shows t s n heads but _ (entryAt table i) (depth-covers t table s n heads but (end - 1 - x .second) (x .second) 0 i l (omega arith)) p u v a own));
+          policy-agrees t (rowView s p n heads u) (rowView s p n heads v) q (policyOf table end x) (last .placed) (x .second)
+          (each-stands (x .second) (end - 1) _ stands
+          (λ i l h. entry-shows t s n heads but _ (entryAt table i) (depth-covers t table s n heads but (end - 1 - x .second) (x .second) 0 i l (omega arith)) p u v a own));
     }

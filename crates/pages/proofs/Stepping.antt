@@ -106,9 +106,9 @@ pub pick-set : (grid : List (List ℕ)) (choices values : List ℕ) (j v : ℕ) 
 pick-set grid choices values j v hc h p = record {
   six = length-set values j _ ∙ p .six;
   picked = λ i l.
-    set-cases values j (getD (getD grid j []) v 0) 0 (omega (arith, p .six)) (λ x. x ≡ getD (getD grid i []) (getD (set choices j v) i 0) 0) i
-    (λ e. rw (e, getD-set-same choices j v 0 (omega arith)))
-    (λ n. rw (getD-set-other choices j i v 0 n) (p .picked i l));
+      set-cases values j (getD (getD grid j []) v 0) 0 (omega (arith, p .six)) (λ x. x ≡ getD (getD grid i []) (getD (set choices j v) i 0) 0) i
+      (λ e. rw (e, getD-set-same choices j v 0 (omega arith)))
+      (λ n. rw (getD-set-other choices j i v 0 n) (p .picked i l));
 }
 
 module _ (grid : List (List ℕ)) (lasts before : List ℕ) (column : ℕ) (choices values : List ℕ) (p : Picked grid choices values) (at : MovedAt lasts before column choices) where

@@ -99,8 +99,8 @@ module _ {text s : List ℕ} {p : Sections} {n : ℕ} {starts : List ℕ} {grid 
       six = v .six;
       alike = record {
         alike = λ j h.
-          let l = m .moved .within in
-          v .picked j (omega arith) ∙ ap (λ (c : ℕ). getD (getD grid j []) c 0) (sym (m .moved .kept j h)) ∙ sym (m .values-are .picked j (omega arith));
+            let l = m .moved .within in
+            v .picked j (omega arith) ∙ ap (λ (c : ℕ). getD (getD grid j []) c 0) (sym (m .moved .kept j h)) ∙ sym (m .values-are .picked j (omega arith));
       };
       marked = rw many (d .marked);
       long = d .long;
@@ -163,7 +163,7 @@ module _ {s : List ℕ} {p : Sections} {all start n : ℕ} {starts ends : List �
     shows : rowView s p n starts values ≡ look (bagOfRow s p (columnsIn s p) (firstIn p) (choicesAt (countsOf (columnsIn s p) s (firstIn p)) row))
     shows =
         (λ i root path.
-          row-shows s p n (firstIn p) (asked .question .last) most columns chosen-row chooses starts values grid (laid .starts-are) (laid .grid-is) values-chosen root path i)
+        row-shows s p n (firstIn p) (asked .question .last) most columns chosen-row chooses starts values grid (laid .starts-are) (laid .grid-is) values-chosen root path i)
         ∙ ap (λ (n : ℕ). look (bagOfRow s p n (firstIn p) (choicesAt (countsOf n s (firstIn p)) row))) (laid .many)
 
     -- the row's decision

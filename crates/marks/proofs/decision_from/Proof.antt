@@ -51,9 +51,10 @@ element-copy-out-choice : tie.Need-element-copy-out-choice Inv-loop μ-loop
 element-copy-out-choice c = omega (arith, c .own-column .ensures, c .before .before .before .before .before .before .before .before .before .before .before .before .pre .1 .1 .1 .1 .1 .1 .0 (c .before .before .before .before .before .loop .number - 1))
 
 met-requires : tie.Need-met-requires Inv-loop μ-loop
-met-requires c κs = let o = one-left (c .before .before .before .before .before .before .before .loop .inv .0) (last-there (c .before .before .before .before .before .before .before .loop .inv .0 .ready) (c .before .before .before .before .before .before .loop-test .taken) (c .before .before .before .before .before .entry-at .ensures)) in
-    ((omega (arith, c .before .before .before .before .before .before .before .loop .inv .0 .few), c .before .before .before .before .before .before .before .before .before .before .before .before .before .before .pre .1 .1 .1 .1 .1 .1 .1 .1 .0 .small (c .before .before .own-column .result) (omega (arith, c .before .before .own-column .ensures, c .before .before .before .before .before .before .before .before .before .before .before .before .before .before .pre .1 .1 .1 .1 .1 .1 .0 (c .before .before .before .before .before .before .before .loop .number - 1))), c .before .before .before .before .before .before .before .loop .inv .2 .long),
-    (last-there (c .before .before .before .before .before .before .before .loop .inv .0 .ready) (c .before .before .before .before .before .before .loop-test .taken) (c .before .before .before .before .before .entry-at .ensures), (c .before .before .before .before .before .before .before .before .before .before .before .before .before .before .pre .1 .1 .0, (c .before .before .before .before .before .before .before .before .before .before .before .before .before .before .pre .1 .1 .1 .0, c .before .before .before .before .before .before .before .before .before .before .before .before .before .before .pre .1 .1 .1 .1 .0))))
+met-requires c κs = let o = one-left (c .before .before .before .before .before .before .before .loop .inv .0) (last-there (c .before .before .before .before .before .before .before .loop .inv .0 .ready) (c .before .before .before .before .before .before .loop-test .taken) (c .before .before .before .before .before .entry-at .ensures)) in (
+  (omega (arith, c .before .before .before .before .before .before .before .loop .inv .0 .few), c .before .before .before .before .before .before .before .before .before .before .before .before .before .before .pre .1 .1 .1 .1 .1 .1 .1 .1 .0 .small (c .before .before .own-column .result) (omega (arith, c .before .before .own-column .ensures, c .before .before .before .before .before .before .before .before .before .before .before .before .before .before .pre .1 .1 .1 .1 .1 .1 .0 (c .before .before .before .before .before .before .before .loop .number - 1))), c .before .before .before .before .before .before .before .loop .inv .2 .long),
+  (last-there (c .before .before .before .before .before .before .before .loop .inv .0 .ready) (c .before .before .before .before .before .before .loop-test .taken) (c .before .before .before .before .before .entry-at .ensures), (c .before .before .before .before .before .before .before .before .before .before .before .before .before .before .pre .1 .1 .0, (c .before .before .before .before .before .before .before .before .before .before .before .before .before .before .pre .1 .1 .1 .0, c .before .before .before .before .before .before .before .before .before .before .before .before .before .before .pre .1 .1 .1 .1 .0))),
+)
 
 loop-less : tie.Need-loop-less Inv-loop μ-loop
 loop-less c = let l = last-there (c .before .before .before .before .before .before .before .before .before .before .before .loop .inv .0 .ready) (c .before .before .before .before .before .before .before .before .before .before .loop-test .taken) (c .before .before .before .before .before .before .before .before .before .entry-at .ensures) in let b = l .begins in let e = l .ends in omega arith
@@ -82,8 +83,8 @@ loop-again c = let start = c .before .before .before .before .before .before .be
     let chosen = start .pre .1 .1 .1 .1 .1 .1 .1 .1 .0 in
     let here : satBy t s p n heads grid q values (getD deeps (number - 1) 0 - 1) policy (getD (start .args .choices .now) (c .before .before .before .before .before .before .own-column .result) 0) ≡ satisfied t (rowView s p n heads values) q policy = rw (c .before .before .before .before .before .before .own-column .ensures) (sat-here t s p n heads grid q (start .args .choices .now) values (getD deeps (number - 1) 0 - 1) policy own chosen) in
     let is = c .before .before .before .met .ensures (satBy t s p n heads grid q values (getD deeps (number - 1) 0 - 1) policy) here
-        (mark-holds t s p n heads grid q ps deeps values (start .args .from) number policy some there (start .args .lows .now) (at-loop .loop .marks) (chosen .picked .six) own
-        (start .pre .1 .1 .1 .1 .1 .1 .1 .0) (at-loop .loop .inv .2)) in (
+    (mark-holds t s p n heads grid q ps deeps values (start .args .from) number policy some there (start .args .lows .now) (at-loop .loop .marks) (chosen .picked .six) own
+    (start .pre .1 .1 .1 .1 .1 .1 .1 .0) (at-loop .loop .inv .2)) in (
       fewer-left left last,
       met-one last (left .count) (rowView s p n heads values) q (at-loop .loop .forbid) (at-loop .loop .permit) (c .before .number-if .result) (c .number-if2 .result) _
           (ap (λ (b : Bool). not (ltb 0 (at-loop .loop .forbid) && eqb (c .before .before .before .before .before .before .before .before .before .entry-at .result .kind) 34) && b) (is .is ∙ here)) (c .before .number-if .ensures) (c .number-if2 .ensures)

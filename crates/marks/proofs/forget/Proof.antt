@@ -24,9 +24,9 @@ loop-again c = (
   simp length-set (c .before .loop .inv .0),
   omega arith,
   λ j.
-    set-cases (c .before .loop .marks) (c .before .before .before .args .at + c .before .loop .c) 0 0 (omega arith)
-    (λ x. x ≡ cond (leb (c .before .before .before .args .at) j && ltb j (c .before .before .before .args .at + (c .before .loop .c + 1))) 0 (getD (c .before .before .before .args .marks .now) j 0)) j
-    (clear-here (c .before .before .before .args .at) j _ (c .before .loop .c)) (λ d. c .before .loop .inv .2 j ∙ clear-other (c .before .before .before .args .at) j _ (c .before .loop .c) d),
+      set-cases (c .before .loop .marks) (c .before .before .before .args .at + c .before .loop .c) 0 0 (omega arith)
+      (λ x. x ≡ cond (leb (c .before .before .before .args .at) j && ltb j (c .before .before .before .args .at + (c .before .loop .c + 1))) 0 (getD (c .before .before .before .args .marks .now) j 0)) j
+      (clear-here (c .before .before .before .args .at) j _ (c .before .loop .c)) (λ d. c .before .loop .inv .2 j ∙ clear-other (c .before .before .before .args .at) j _ (c .before .loop .c) d),
 )
 
 returns : tie.Need-returns Inv-loop μ-loop

@@ -12,9 +12,9 @@ returns c = λ sat here old. met-marked _ _ _ (c .before .before .before .before
 returns-2 : tie.Need-returns-2
 unfolding countsOf
 returns-2 c = λ sat here old.
-      rw (c .mark-of .ensures)
-      (met-anew _ _ (c .before .before .before .before .forget .last .1 .0) (c .before .before .before .before .before .before .before .before .before .before .before .before .args .i) (c .before .before .before .before .forget .ensures .0) (c .before .before .before .before .forget .ensures .1) (c .before .before .before .before .before .before .before .before .before .before .before .before .args .choice) sat old (c .before .before .before .before .before .before .before .before .before .before .before .before .pre .0 .0) (c .before .before .before .before .before .before .before .before .before .before .before .before .pre .0 .1) (c .before .counts .result)
-      (c .before .counts .ensures ∙ sym here))
+    rw (c .mark-of .ensures)
+    (met-anew _ _ (c .before .before .before .before .forget .last .1 .0) (c .before .before .before .before .before .before .before .before .before .before .before .before .args .i) (c .before .before .before .before .forget .ensures .0) (c .before .before .before .before .forget .ensures .1) (c .before .before .before .before .before .before .before .before .before .before .before .before .args .choice) sat old (c .before .before .before .before .before .before .before .before .before .before .before .before .pre .0 .0) (c .before .before .before .before .before .before .before .before .before .before .before .before .pre .0 .1) (c .before .counts .result)
+    (c .before .counts .ensures ∙ sym here))
 
 pub met-spec : {M : Type 1} → statement M
 met-spec =

@@ -31,8 +31,8 @@ loop-again c = (
   omega arith,
   omega arith,
   rw (c .deeper-of .ensures, c .before .column-of .ensures, c .before .before .entry-at .ensures)
-  (depth-on (c .before .before .before .before .before .before .before .before .args .text .now) (c .before .before .before .before .before .before .before .before .args .table .now) (c .before .before .before .before .before .before .before .before .args .s .now) (c .before .before .before .before .before .before .before .before .args .n) (c .before .before .before .before .before .before .before .before .args .heads .now) (c .before .before .before .before .before .before .before .before .args .but) (c .before .before .before .before .before .before .before .before .args .end - c .before .before .before .before .loop .at)
-  (c .before .before .before .before .before .before .before .before .args .end - (c .before .before .before .before .loop .at + 1)) (c .before .before .before .before .loop .at) (c .before .before .before .before .loop .deepest) (omega arith) ∙ c .before .before .before .before .loop .inv .2),
+      (depth-on (c .before .before .before .before .before .before .before .before .args .text .now) (c .before .before .before .before .before .before .before .before .args .table .now) (c .before .before .before .before .before .before .before .before .args .s .now) (c .before .before .before .before .before .before .before .before .args .n) (c .before .before .before .before .before .before .before .before .args .heads .now) (c .before .before .before .before .before .before .before .before .args .but) (c .before .before .before .before .before .before .before .before .args .end - c .before .before .before .before .loop .at)
+      (c .before .before .before .before .before .before .before .before .args .end - (c .before .before .before .before .loop .at + 1)) (c .before .before .before .before .loop .at) (c .before .before .before .before .loop .deepest) (omega arith) ∙ c .before .before .before .before .loop .inv .2),
 )
 
 returns : tie.Need-returns Inv-loop μ-loop

@@ -17,9 +17,9 @@ abbrev μ-loop : tie.MeasureT-loop
 
 loop-holds : tie.Need-loop-holds Inv-loop μ-loop
 loop-holds c = let all = c .before .before .before .pre .1 .0 in (
-      all-left (c .before .before .before .pre .0) all (c .before .before .before .pre .1 .1 .0),
-      record { long = refl; few = λ i. omega (arith, zeros-say 64 i); steady = λ m policy h l. absurd (omega (arith, numbered-few h)) },
-    )
+  all-left (c .before .before .before .pre .0) all (c .before .before .before .pre .1 .1 .0),
+  record { long = refl; few = λ i. omega (arith, zeros-say 64 i); steady = λ m policy h l. absurd (omega (arith, numbered-few h)) },
+)
 
 entry-at-requires : tie.Need-entry-at-requires Inv-loop μ-loop
 entry-at-requires c κs = omega (arith, c .before .loop .inv .0 .ready .stored .stands .few)

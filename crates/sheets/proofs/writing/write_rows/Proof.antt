@@ -75,9 +75,13 @@ loop-holds c = (
 row-decision-requires : tie.Need-row-decision-requires Inv-loop μ-loop
 row-decision-requires c κs = let asked = c .before .before .before .before .before .before .before .before .before .before .before .before .before .before .before .before .before .before .before .before .before .before .pre .asked in
     let laid = c .before .before .before .before .before .before .before .before .before .before .before .before .before .before .before .before .before .before .before .before .before .before .pre .laid in
-    let st = c .before .before .before .before .before .before .before .loop .inv .5 in
-    (stands-there asked laid (c .before .before .before .before .before .before .loop-test .taken) st, (c .before .before .before .before .before .before .before .before .before .before .before .before .before .before .before .before .before .before .before .before .before .before .pre .decidable,
-    (record { small = choices-small _ _ _ (st .choices-are) (ends-few asked laid); picked = st .values-are }, c .before .before .before .before .before .before .before .loop .inv .7)))
+    let st = c .before .before .before .before .before .before .before .loop .inv .5 in (
+      stands-there asked laid (c .before .before .before .before .before .before .loop-test .taken) st,
+      (
+        c .before .before .before .before .before .before .before .before .before .before .before .before .before .before .before .before .before .before .before .before .before .before .pre .decidable,
+        (record { small = choices-small _ _ _ (st .choices-are) (ends-few asked laid); picked = st .values-are }, c .before .before .before .before .before .before .before .loop .inv .7),
+      ),
+    )
 
 step-requires : tie.Need-step-requires Inv-loop μ-loop
 step-requires c κs = placed-there (ends-few (c .before .before .before .before .before .before .before .before .before .before .before .before .before .before .before .before .before .before .before .before .before .before .before .before .before .before .pre .asked) (c .before .before .before .before .before .before .before .before .before .before .before .before .before .before .before .before .before .before .before .before .before .before .before .before .before .before .pre .laid)) (c .before .before .before .before .before .before .before .before .before .before .before .loop .inv .5)
@@ -103,15 +107,15 @@ loop-again c = let l = c .before .before .before .before .before .before .before
 
 loop-again-2 : tie.Need-loop-again-2 Inv-loop μ-loop
 loop-again-2 c = let inv = c .before .before .before .before .before .before .before .before .before .before .before .before .before .before .loop .inv in (
-      inv .0,
-      omega arith,
-      omega arith,
-      inv .3,
-      inv .4,
-      next-row (c .before .before),
-      turn-no _ _ _ _ _ _ _ (c .before .before .before .before .before .before .before .before .before .before .before .before .before .loop-test .taken) (inv .6) (sym (answer (c .before)) ∙ c .if1 .left),
-      next-kept (c .before .before),
-    )
+  inv .0,
+  omega arith,
+  omega arith,
+  inv .3,
+  inv .4,
+  next-row (c .before .before),
+  turn-no _ _ _ _ _ _ _ (c .before .before .before .before .before .before .before .before .before .before .before .before .before .loop-test .taken) (inv .6) (sym (answer (c .before)) ∙ c .if1 .left),
+  next-kept (c .before .before),
+)
 
 returns-2 : tie.Need-returns-2 Inv-loop μ-loop
 returns-2 c = turn-none _ _ _ _ _ _ _ (omega arith) (c .before .loop .inv .6)
