@@ -1,26 +1,26 @@
 -- A policy depends on the attributes that the entries of its condition name, and on nothing else of a row. Assumes nothing.
 use mathlib.Core.Path.{_≡_, refl, ap}
-use mathlib.Core.Bool.{Bool, true, cond, _&&_}
-use mathlib.Core.List.{List, [], _∷_, _++_}
+use mathlib.Core.Bool.{true, cond}
+use mathlib.Core.List.{List, _∷_, _++_}
 use mathlib.Core.Option.{Option, none, some}
 use Prim.Native.Nat.{ℕ, _+_, _≤_}
 use native.Mathlib.Omega.{arith}
 use borrow.Author.Tests.{le-leb}
-use lib.Dec.{eqb, leb}
+use lib.Dec.{eqb}
 use lib.ListN.{length}
 use Rattle.slices.specs.Ascii.{bytes}
 use Rattle.slices.specs.Same.{same as alike}
 use Rattle.grammar.specs.Policies.{Span, Root, Root.Principal, Root.Resource, Root.Env, Root.Action, Operand, attribute, literal, Tree, constant, compare, like, among, within, contains, has, not, brackets, both, either, choice, Policy}
-use Rattle.placing.specs.Placed.{Each, none-left, and-each, Lies, pathAt, OperandPlaced, an-attribute, a-literal, TreePlaced, a-constant, a-comparison, a-likeness, in-list, in-attribute, a-call, a-presence, a-negation, in-brackets, a-conjunction, a-disjunction, a-choice, ConditionPlaced, no-condition, a-condition, PolicyPlaced}
+use Rattle.placing.specs.Placed.{Each, none-left, and-each, Lies, pathAt, OperandPlaced, an-attribute, TreePlaced, a-comparison, a-likeness, in-list, in-attribute, a-call, a-presence, a-negation, in-brackets, a-conjunction, a-disjunction, a-choice, ConditionPlaced, a-condition, PolicyPlaced}
 use Rattle.table.specs.declared.Entry.{Entry}
 use Rattle.table.specs.Entries.{placed, rootKind, hasKind, operandEntry, treeEntries, conditionEntries}
 use Rattle.stored.specs.ReadBack.{spanOf}
 use Rattle.stored.proofs.Standing.{each-left, each-right}
 use Rattle.views.specs.Meaning.{Datum, text, absent, View}
 use Rattle.meaning.specs.Values.{rootByte, withAction, attributeValue, operandValue}
-use Rattle.meaning.specs.Conditions.{verdict, negated, isYes}
+use Rattle.meaning.specs.Conditions.{verdict, isYes}
 use Rattle.meaning.specs.Targets.{Request}
-use Rattle.meaning.specs.Decisions.{targetMatches, conditionHolds, satisfied}
+use Rattle.meaning.specs.Decisions.{conditionHolds, satisfied}
 use Rattle.marks.specs.Columns.{rootBy, isAttribute}
 
 -- two views show the same for the attribute of an entry
@@ -92,8 +92,11 @@ module _ (t : List ℕ) (u v : View) where
       let k = m + length (treeEntries m b) in
       let parts = each-left ((treeEntries e a ++ treeEntries m b) ++ treeEntries k c) _ h in
       let front = each-left (treeEntries e a ++ treeEntries m b) _ parts in
-      rw (verdict-agrees a p e (each-left (treeEntries e a) _ front), verdict-agrees b q m (each-right (treeEntries e a) _ front),
-      verdict-agrees c r k (each-right (treeEntries e a ++ treeEntries m b) _ parts))
+      rw (
+        verdict-agrees a p e (each-left (treeEntries e a) _ front),
+        verdict-agrees b q m (each-right (treeEntries e a) _ front),
+        verdict-agrees c r k (each-right (treeEntries e a ++ treeEntries m b) _ parts),
+      )
 
   condition-agrees : (c : Option Tree) → ConditionPlaced t c → (e : ℕ) → Each (Shows t u v) (conditionEntries e c) → conditionHolds t u c ≡ conditionHolds t v c
   unfolding conditionHolds conditionEntries

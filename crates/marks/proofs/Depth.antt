@@ -1,6 +1,5 @@
 -- The columns that the entries of a policy's condition name lie before its depth, but for one: so the policy is steady. Assumes nothing.
-use mathlib.Core.Path.{_≡_, refl, sym, ap, _∙_, subst}
-use mathlib.Core.Logic.{_⊎_, inl, inr}
+use mathlib.Core.Path.{_≡_, refl, sym, _∙_, subst}
 use mathlib.Core.Bool.{Bool, true, false, cond, not, _&&_}
 use mathlib.Core.List.{List, [], _∷_, _++_}
 use Prim.Native.Nat.{ℕ, zero, suc, _+_, _-_, _≤_, _<_}
@@ -17,7 +16,7 @@ use Rattle.table.proofs.Counting.{policies-append}
 use Rattle.stored.specs.Stored.{Stands, StoredPolicies, StoredPolicy}
 use Rattle.stored.specs.ReadBack.{spanOf, policyOf, policiesAt}
 use Rattle.stored.specs.Ready.{ReadyPolicies, Last}
-use Rattle.stored.proofs.Standing.{stands-left, stands-right, stands-head, stands-tail, stands-before, stands-last}
+use Rattle.stored.proofs.Standing.{stands-right, stands-head, stands-tail, stands-before, stands-last}
 use Rattle.views.specs.Rows.{rowView}
 use Rattle.marks.specs.Columns.{naming, rootBy, isAttribute, columnOf, deeper, depthFrom}
 use Rattle.marks.specs.Marks.{Alike, Steady}
@@ -149,7 +148,7 @@ last-steady {t} {table} {end} {x} r is last s n heads but =
     let stands : Stands table (x .second) (end - 1) (conditionEntries (x .second) (policyOf table end x .condition)) = rw is (rw is at (condition-stands (policyOf table end x) stored)) in
     record {
       same = λ p q u v a own.
-        policy-agrees t (rowView s p n heads u) (rowView s p n heads v) q (policyOf table end x) (last .placed) (x .second)
-        (each-stands (x .second) (end - 1) _ stands
-        (λ i l h. entry-shows t s n heads but _ (entryAt table i) (depth-covers t table s n heads but (end - 1 - x .second) (x .second) 0 i l (omega arith)) p u v a own));
+          policy-agrees t (rowView s p n heads u) (rowView s p n heads v) q (policyOf table end x) (last .placed) (x .second)
+          (each-stands (x .second) (end - 1) _ stands
+          (λ i l h. entry-shows t s n heads but _ (entryAt table i) (depth-covers t table s n heads but (end - 1 - x .second) (x .second) 0 i l (omega arith)) p u v a own));
     }

@@ -7,19 +7,15 @@ use native.Mathlib.Omega.{arith}
 use borrow.Author.Tests.{leb-true, ltb-true, ltb-false, le-leb, lt-ltb, le-ltb, eqb-true, eqb-false}
 use lib.Dec.{eqb, leb, ltb}
 use lib.ListN.{length, getD, set, replicate, length-set, length-replicate, getD-replicate, List·getD-eq-default}
-use lib.Seq.{getD-set-same, getD-set-other, ext-getD}
+use lib.Seq.{getD-set-same, getD-set-other}
 use Rattle.grammar.specs.Policies.{Policy}
-use Rattle.table.specs.declared.Entry.{Entry}
 use Rattle.bags.specs.declared.sections.Sections.{Sections}
 use Rattle.questions.proofs.PlaceLaws.{set-cases}
-use Rattle.stored.specs.ReadBack.{policyOf, policiesAt}
-use Rattle.stored.specs.Ready.{Last}
 use Rattle.views.specs.Rows.{rowView}
 use Rattle.meaning.specs.Targets.{Request}
 use Rattle.meaning.specs.Decisions.{satisfied, Numbered}
-use Rattle.pages.specs.Rows.{Picked}
 use Rattle.marks.specs.Marks.{Alike, Steady, ownOf, Depths, Says, RowSays, satBy, Marked, Carried, Chosen, Met}
-use Rattle.marks.proofs.Numbering.{numbered-some, numbered-few, numbered-one, Left, fewer-left, last-numbered, one-left}
+use Rattle.marks.proofs.Numbering.{numbered-some, numbered-one}
 
 -- ---- depths, found from the last policy to the first
 
@@ -36,12 +32,12 @@ module _ (t s : List ℕ) (n : ℕ) (heads : List ℕ) (ps : List Policy) (buts 
     long = length-set lows (number - 1) low ∙ f .long;
     few = λ i. set-cases lows (number - 1) low 0 fits (λ x. x ≤ 6) i (λ e. small) (λ d. f .few i);
     steady = λ m policy′ h l.
-      set-cases lows (number - 1) low 0 fits (λ x. Steady t s n heads policy′ (ownOf buts m) x) (m - 1)
-      (λ e.
+        set-cases lows (number - 1) low 0 fits (λ x. Steady t s n heads policy′ (ownOf buts m) x) (m - 1)
+        (λ e.
         let k : m ≡ number = let z = numbered-some h in omega arith in
         let same : policy ≡ policy′ = numbered-one here (subst (λ (k : ℕ). Numbered k policy′ ps) k h) in
         rw (← same, k) st)
-      (λ d. f .steady m policy′ h (let k : m ≡ number → ⊥ = λ e. d (ap (λ (x : ℕ). x - 1) e) in omega arith));
+        (λ d. f .steady m policy′ h (let k : m ≡ number → ⊥ = λ e. d (ap (λ (x : ℕ). x - 1) e) in omega arith));
   }
     where
       fits : number - 1 < length lows
@@ -121,9 +117,9 @@ module _ (stale : Bool) (before mid : List ℕ) (i : ℕ) (forgot : (j : ℕ) �
       is = is;
       says = record {
         says = λ c l.
-          set-cases mid (8 * i + choice) (cond hit 2 1) 0 fits (λ m. Says m (sat c)) (8 * i + c)
-          (λ e. let k : c ≡ choice = omega arith in rw (k, ← is) (says-yes hit))
-          (λ d. forgot-says sat old .says c l);
+            set-cases mid (8 * i + choice) (cond hit 2 1) 0 fits (λ m. Says m (sat c)) (8 * i + c)
+            (λ e. let k : c ≡ choice = omega arith in rw (k, ← is) (says-yes hit))
+            (λ d. forgot-says sat old .says c l);
       };
       others = λ i′ c n l. getD-set-other mid (8 * i + choice) (8 * i′ + c) (cond hit 2 1) 0 (λ e. n (omega arith)) ∙ forgot-others i′ c n l;
       long = length-set mid (8 * i + choice) (cond hit 2 1) ∙ long;
@@ -174,8 +170,8 @@ module _ (t s : List ℕ) (p : Sections) (n : ℕ) (heads : List ℕ) (grid : Li
         let r = k .marked .right number policy here (omega arith) (omega arith) in
         record {
           says = λ c h.
-            subst (Says (getD marks (8 * (number - 1) + c) 0))
-            (sat-alike (k .before) values own (getD lows (number - 1) 0) from policy (k .six) six small (d .steady number policy here) (ltb-false from (getD lows (number - 1) 0) fresh) (k .alike) c) (r .says c h);
+              subst (Says (getD marks (8 * (number - 1) + c) 0))
+              (sat-alike (k .before) values own (getD lows (number - 1) 0) from policy (k .six) six small (d .steady number policy here) (ltb-false from (getD lows (number - 1) 0) fresh) (k .alike) c) (r .says c h);
         }
 
     module _ {choice : ℕ} {marks after : List ℕ} {r : Bool} (met : Met (satBy t s p n heads grid q values own policy) (number - 1) choice marks r after) where

@@ -1,9 +1,8 @@
 -- An attribute of a row is what its first column that names it chooses, or what the base has: two rows that choose alike there show the same. Assumes nothing.
-use mathlib.Core.Path.{_≡_, refl, sym, ap, _∙_}
+use mathlib.Core.Path.{_≡_, refl, ap}
 use mathlib.Core.Bool.{Bool, true, false, cond, _&&_, false≢true}
 use mathlib.Core.List.{List, map}
 use Prim.Native.Nat.{ℕ, zero, suc, _+_, _-_, _≤_, _<_}
-use native.Mathlib.Numerals.{add-one}
 use native.Mathlib.Omega.{arith}
 use borrow.Author.Tests.{leb-true}
 use lib.Dec.{eqb, leb}
@@ -14,7 +13,7 @@ use Rattle.bags.specs.Reading.{byte}
 use Rattle.bags.specs.declared.sections.Sections.{Sections}
 use Rattle.lookups.specs.Values.{valueAt}
 use Rattle.questions.specs.Columns.{columnPath}
-use Rattle.views.specs.Meaning.{Datum, View, Chosen, columnsFirst}
+use Rattle.views.specs.Meaning.{Datum, View, columnsFirst}
 use Rattle.views.specs.Values.{chosenMeant, datumIn}
 use Rattle.views.specs.Rows.{chosenAt, chosenOf, rowView}
 use Rattle.placing.specs.Placed.{pathAt}

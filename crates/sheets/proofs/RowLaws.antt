@@ -99,8 +99,8 @@ module _ {text s : List ℕ} {p : Sections} {n : ℕ} {starts : List ℕ} {grid 
       six = v .six;
       alike = record {
         alike = λ j h.
-          let l = m .moved .within in
-          v .picked j (omega arith) ∙ ap (λ (c : ℕ). getD (getD grid j []) c 0) (sym (m .moved .kept j h)) ∙ sym (m .values-are .picked j (omega arith));
+            let l = m .moved .within in
+            v .picked j (omega arith) ∙ ap (λ (c : ℕ). getD (getD grid j []) c 0) (sym (m .moved .kept j h)) ∙ sym (m .values-are .picked j (omega arith));
       };
       marked = rw many (d .marked);
       long = d .long;

@@ -1,12 +1,12 @@
 -- `marks::decision_from` meets its contract: the policies left and the lowest numbers known decide what all policies decide, the marks of those met are right
 -- for this row, and those of the policies left for the row before. Assumes nothing.
-use mathlib.Core.Path.{_≡_, ap, sym, _∙_}
+use mathlib.Core.Path.{_≡_, ap, _∙_}
 use mathlib.Core.Bool.{Bool, not, _&&_}
 use Prim.Native.Nat.{_-_, _<_}
 use native.Mathlib.Omega.{arith}
 use borrow.Author.Needs.{needs}
 use lib.Dec.{eqb, ltb}
-use lib.ListN.{length, getD}
+use lib.ListN.{getD}
 use Rattle.stored.specs.ReadBack.{policyOf, policiesAt}
 use Rattle.views.specs.Rows.{rowView}
 use Rattle.meaning.specs.Decisions.{satisfied, policiesDecide}
@@ -18,13 +18,6 @@ use Rattle.marks.proofs.Numbering.{Left, all-left, none-there, fewer-le
 use Rattle.marks.proofs.Marking.{sat-here, mark-holds, left-carried, met-right}
 use Rattle.marks.proofs.decision_from.Statement.{statement}
 use Rattle.marks.proofs.decision_from.Tie as tie
-use Rattle.marks.proofs.decision_from.Reads as reads
-use Rattle.marks.proofs.decision_from.Lts as lts
-use Rattle.deciding.proofs.row.by_numbers.Reads as by-numbers-reads
-use Rattle.deciding.proofs.row.number_if.Reads as number-if-reads
-use Rattle.marks.proofs.met.Reads as met-reads
-use Rattle.marks.proofs.own_column.Reads as own-column-reads
-use Rattle.table.proofs.entry_at.Reads as entry-at-reads
 
 abbrev Inv-loop : tie.InvT-loop
 Inv-loop from deeps lows marks₀ grid choices text table policies entries s p n heads values subject subject-type action resource resource-type end₀ number₀ forbid₀ permit₀ marks end number forbid permit = Left text table entries end number
@@ -38,9 +31,6 @@ abbrev μ-loop : tie.MeasureT-loop
 
 loop-holds : tie.Need-loop-holds Inv-loop μ-loop
 loop-holds c = (all-left (c .before .before .before .before .before .before .pre .0) (c .before .before .before .before .before .before .pre .1 .0) (c .before .before .before .before .before .before .pre .1 .1 .1 .1 .1 .0), none-known _ _ _ _, c .before .before .before .before .before .before .pre .1 .1 .1 .1 .1 .1 .1 .1 .1, record { right = λ m policy h l u. absurd (omega arith) })
-
-sub-entry-at : tie.Need-sub-entry-at Inv-loop μ-loop
-sub-entry-at c = omega arith
 
 entry-at-requires : tie.Need-entry-at-requires Inv-loop μ-loop
 entry-at-requires c κs = omega (arith, c .before .loop .inv .0 .ready .stored .stands .few)
@@ -57,22 +47,14 @@ cast-stale c = omega (arith, c .before .before .before .before .before .before .
 element-copy-out-own-column : tie.Need-element-copy-out-own-column Inv-loop μ-loop
 element-copy-out-own-column c = let o = one-left (c .before .before .before .loop .inv .0) (last-there (c .before .before .before .loop .inv .0 .ready) (c .before .before .loop-test .taken) (c .before .entry-at .ensures)) in omega (arith, c .before .before .before .loop .inv .0 .few)
 
-own-column-requires : tie.Need-own-column-requires Inv-loop μ-loop
-own-column-requires c κs = search needs
-
 element-copy-out-choice : tie.Need-element-copy-out-choice Inv-loop μ-loop
 element-copy-out-choice c = omega (arith, c .own-column .ensures, c .before .before .before .before .before .before .before .before .before .before .before .before .pre .1 .1 .1 .1 .1 .1 .0 (c .before .before .before .before .before .loop .number - 1))
 
 met-requires : tie.Need-met-requires Inv-loop μ-loop
-met-requires c κs = let o = one-left (c .before .before .before .before .before .before .before .loop .inv .0) (last-there (c .before .before .before .before .before .before .before .loop .inv .0 .ready) (c .before .before .before .before .before .before .loop-test .taken) (c .before .before .before .before .before .entry-at .ensures)) in
-    ((omega (arith, c .before .before .before .before .before .before .before .loop .inv .0 .few), c .before .before .before .before .before .before .before .before .before .before .before .before .before .before .pre .1 .1 .1 .1 .1 .1 .1 .1 .0 .small (c .before .before .own-column .result) (omega (arith, c .before .before .own-column .ensures, c .before .before .before .before .before .before .before .before .before .before .before .before .before .before .pre .1 .1 .1 .1 .1 .1 .0 (c .before .before .before .before .before .before .before .loop .number - 1))), c .before .before .before .before .before .before .before .loop .inv .2 .long),
-    (last-there (c .before .before .before .before .before .before .before .loop .inv .0 .ready) (c .before .before .before .before .before .before .loop-test .taken) (c .before .before .before .before .before .entry-at .ensures), (c .before .before .before .before .before .before .before .before .before .before .before .before .before .before .pre .1 .1 .0, (c .before .before .before .before .before .before .before .before .before .before .before .before .before .before .pre .1 .1 .1 .0, c .before .before .before .before .before .before .before .before .before .before .before .before .before .before .pre .1 .1 .1 .1 .0))))
-
-number-if-requires : tie.Need-number-if-requires Inv-loop μ-loop
-number-if-requires c κs = search needs
-
-number-if-requires-2 : tie.Need-number-if-requires-2 Inv-loop μ-loop
-number-if-requires-2 c κs = search needs
+met-requires c κs = let o = one-left (c .before .before .before .before .before .before .before .loop .inv .0) (last-there (c .before .before .before .before .before .before .before .loop .inv .0 .ready) (c .before .before .before .before .before .before .loop-test .taken) (c .before .before .before .before .before .entry-at .ensures)) in (
+  (omega (arith, c .before .before .before .before .before .before .before .loop .inv .0 .few), c .before .before .before .before .before .before .before .before .before .before .before .before .before .before .pre .1 .1 .1 .1 .1 .1 .1 .1 .0 .small (c .before .before .own-column .result) (omega (arith, c .before .before .own-column .ensures, c .before .before .before .before .before .before .before .before .before .before .before .before .before .before .pre .1 .1 .1 .1 .1 .1 .0 (c .before .before .before .before .before .before .before .loop .number - 1))), c .before .before .before .before .before .before .before .loop .inv .2 .long),
+  (last-there (c .before .before .before .before .before .before .before .loop .inv .0 .ready) (c .before .before .before .before .before .before .loop-test .taken) (c .before .before .before .before .before .entry-at .ensures), (c .before .before .before .before .before .before .before .before .before .before .before .before .before .before .pre .1 .1 .0, (c .before .before .before .before .before .before .before .before .before .before .before .before .before .before .pre .1 .1 .1 .0, c .before .before .before .before .before .before .before .before .before .before .before .before .before .before .pre .1 .1 .1 .1 .0))),
+)
 
 loop-less : tie.Need-loop-less Inv-loop μ-loop
 loop-less c = let l = last-there (c .before .before .before .before .before .before .before .before .before .before .before .loop .inv .0 .ready) (c .before .before .before .before .before .before .before .before .before .before .loop-test .taken) (c .before .before .before .before .before .before .before .before .before .entry-at .ensures) in let b = l .begins in let e = l .ends in omega arith
@@ -101,8 +83,8 @@ loop-again c = let start = c .before .before .before .before .before .before .be
     let chosen = start .pre .1 .1 .1 .1 .1 .1 .1 .1 .0 in
     let here : satBy t s p n heads grid q values (getD deeps (number - 1) 0 - 1) policy (getD (start .args .choices .now) (c .before .before .before .before .before .before .own-column .result) 0) ≡ satisfied t (rowView s p n heads values) q policy = rw (c .before .before .before .before .before .before .own-column .ensures) (sat-here t s p n heads grid q (start .args .choices .now) values (getD deeps (number - 1) 0 - 1) policy own chosen) in
     let is = c .before .before .before .met .ensures (satBy t s p n heads grid q values (getD deeps (number - 1) 0 - 1) policy) here
-        (mark-holds t s p n heads grid q ps deeps values (start .args .from) number policy some there (start .args .lows .now) (at-loop .loop .marks) (chosen .picked .six) own
-        (start .pre .1 .1 .1 .1 .1 .1 .1 .0) (at-loop .loop .inv .2)) in (
+    (mark-holds t s p n heads grid q ps deeps values (start .args .from) number policy some there (start .args .lows .now) (at-loop .loop .marks) (chosen .picked .six) own
+    (start .pre .1 .1 .1 .1 .1 .1 .1 .0) (at-loop .loop .inv .2)) in (
       fewer-left left last,
       met-one last (left .count) (rowView s p n heads values) q (at-loop .loop .forbid) (at-loop .loop .permit) (c .before .number-if .result) (c .number-if2 .result) _
           (ap (λ (b : Bool). not (ltb 0 (at-loop .loop .forbid) && eqb (c .before .before .before .before .before .before .before .before .before .entry-at .result .kind) 34) && b) (is .is ∙ here)) (c .before .number-if .ensures) (c .number-if2 .ensures)
@@ -110,9 +92,6 @@ loop-again c = let start = c .before .before .before .before .before .before .be
       left-carried t s p n heads grid q ps deeps values (start .args .from) number policy some there is (at-loop .loop .inv .2),
       met-right t s p n heads grid q ps deeps values (start .args .from) number policy some there is (start .args .policies) (at-loop .loop .inv .3),
     )
-
-by-numbers-requires : tie.Need-by-numbers-requires Inv-loop μ-loop
-by-numbers-requires c κs = search needs
 
 returns : tie.Need-returns Inv-loop μ-loop
 returns c = let start = c .before .before .before .before .before .before .before .before .before in
@@ -130,18 +109,18 @@ decision-from-spec =
     Inv-loop
     μ-loop
     loop-holds
-    sub-entry-at
+    (λ c. omega arith)
     entry-at-requires
     sub-i
     element-copy-out-stale
     cast-stale
     element-copy-out-own-column
-    own-column-requires
+    (λ c κs. search needs)
     element-copy-out-choice
     met-requires
-    number-if-requires
-    number-if-requires-2
+    (λ c κs. search needs)
+    (λ c κs. search needs)
     loop-less
     loop-again
-    by-numbers-requires
+    (λ c κs. search needs)
     returns)

@@ -9,8 +9,6 @@ use Rattle.questions.proofs.PlaceLaws.{set-cases}
 use Rattle.marks.proofs.Marking.{clear-none, clear-here, clear-other, clear-all, not-cleared}
 use Rattle.marks.proofs.forget.Statement.{statement}
 use Rattle.marks.proofs.forget.Tie as tie
-use Rattle.marks.proofs.forget.Reads as reads
-use Rattle.marks.proofs.forget.Lts as lts
 
 abbrev Inv-loop : tie.InvT-loop
 Inv-loop stale marks₀ at c₀ marks c = (length marks ≡ 512) × (c ≤ 8) × ((j : ℕ) → getD marks j 0 ≡ cond (leb at j && ltb j (at + c)) 0 (getD marks₀ j 0))
@@ -21,26 +19,14 @@ abbrev μ-loop : tie.MeasureT-loop
 loop-holds : tie.Need-loop-holds Inv-loop μ-loop
 loop-holds c = (c .before .pre .1, omega arith, λ j. clear-none (c .before .args .at) j _)
 
-add-marks : tie.Need-add-marks Inv-loop μ-loop
-add-marks c = omega arith
-
-element-write-marks : tie.Need-element-write-marks Inv-loop μ-loop
-element-write-marks c = omega arith
-
-add-c : tie.Need-add-c Inv-loop μ-loop
-add-c c = omega arith
-
-loop-less : tie.Need-loop-less Inv-loop μ-loop
-loop-less c = omega arith
-
 loop-again : tie.Need-loop-again Inv-loop μ-loop
 loop-again c = (
   simp length-set (c .before .loop .inv .0),
   omega arith,
   λ j.
-    set-cases (c .before .loop .marks) (c .before .before .before .args .at + c .before .loop .c) 0 0 (omega arith)
-    (λ x. x ≡ cond (leb (c .before .before .before .args .at) j && ltb j (c .before .before .before .args .at + (c .before .loop .c + 1))) 0 (getD (c .before .before .before .args .marks .now) j 0)) j
-    (clear-here (c .before .before .before .args .at) j _ (c .before .loop .c)) (λ d. c .before .loop .inv .2 j ∙ clear-other (c .before .before .before .args .at) j _ (c .before .loop .c) d),
+      set-cases (c .before .loop .marks) (c .before .before .before .args .at + c .before .loop .c) 0 0 (omega arith)
+      (λ x. x ≡ cond (leb (c .before .before .before .args .at) j && ltb j (c .before .before .before .args .at + (c .before .loop .c + 1))) 0 (getD (c .before .before .before .args .marks .now) j 0)) j
+      (clear-here (c .before .before .before .args .at) j _ (c .before .loop .c)) (λ d. c .before .loop .inv .2 j ∙ clear-other (c .before .before .before .args .at) j _ (c .before .loop .c) d),
 )
 
 returns : tie.Need-returns Inv-loop μ-loop
@@ -56,10 +42,10 @@ forget-spec =
     Inv-loop
     μ-loop
     loop-holds
-    add-marks
-    element-write-marks
-    add-c
-    loop-less
+    (λ c. omega arith)
+    (λ c. omega arith)
+    (λ c. omega arith)
+    (λ c. omega arith)
     loop-again
     returns
     returns-2)

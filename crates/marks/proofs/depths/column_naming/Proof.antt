@@ -7,9 +7,6 @@ use Rattle.marks.specs.Columns.{naming}
 use Rattle.marks.proofs.Naming.{naming-none, naming-here, naming-on}
 use Rattle.marks.proofs.depths.column_naming.Statement.{statement}
 use Rattle.marks.proofs.depths.column_naming.Tie as tie
-use Rattle.marks.proofs.depths.column_naming.Reads as reads
-use Rattle.marks.proofs.depths.column_naming.Lts as lts
-use Rattle.views.proofs.names.Reads as names-reads
 
 abbrev Inv-loop : tie.InvT-loop
 Inv-loop s n heads root path left₀ i₀ left i = (naming left s heads i root (unblanked path) ≡ naming n s heads 0 root (unblanked path)) × (i + left ≡ n)
@@ -38,12 +35,6 @@ cast-result c = omega (arith, c .before .before .before .before .before .before 
 returns : tie.Need-returns Inv-loop μ-loop
 returns c = naming-here (c .before .before .before .before .before .before .before .args .s .now) (c .before .before .before .before .before .before .before .args .heads .now) (c .before .before .before .before .before .before .before .args .root) (unblanked (c .before .before .before .before .before .before .before .args .path .now)) (c .before .before .before .before .loop .left) (c .before .before .before .before .loop .i) (omega arith) (sym (c .before .names .ensures) ∙ c .if1 .taken) ∙ c .before .before .before .before .loop .inv .0
 
-sub-left : tie.Need-sub-left Inv-loop μ-loop
-sub-left c = omega arith
-
-loop-less : tie.Need-loop-less Inv-loop μ-loop
-loop-less c = omega arith
-
 loop-again : tie.Need-loop-again Inv-loop μ-loop
 loop-again c = (naming-on (c .before .before .before .before .before .before .before .args .s .now) (c .before .before .before .before .before .before .before .args .heads .now) (c .before .before .before .before .before .before .before .args .root) (unblanked (c .before .before .before .before .before .before .before .args .path .now)) (c .before .before .before .before .loop .left) (c .before .before .before .before .loop .i) (omega arith) (sym (c .before .names .ensures) ∙ c .if1 .left) ∙ c .before .before .before .before .loop .inv .0, omega arith)
 
@@ -63,7 +54,7 @@ column-naming-spec =
     names-requires
     cast-result
     returns
-    sub-left
-    loop-less
+    (λ c. omega arith)
+    (λ c. omega arith)
     loop-again
     returns-2)

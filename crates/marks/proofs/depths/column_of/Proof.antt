@@ -1,18 +1,10 @@
 -- `marks::depths::column_of` meets its contract. Assumes nothing.
 use mathlib.Core.Path.{_∙_}
-use native.Mathlib.Omega.{arith}
 use Rattle.marks.specs.Columns.{isAttribute}
 use Rattle.marks.proofs.Naming.{column-is, no-column, path-lies}
 use borrow.Author.Needs.{needs}
 use Rattle.marks.proofs.depths.column_of.Statement.{statement}
 use Rattle.marks.proofs.depths.column_of.Tie as tie
-use Rattle.marks.proofs.depths.column_of.Reads as reads
-use Rattle.marks.proofs.depths.column_of.Lts as lts
-use Rattle.marks.proofs.depths.column_naming.Reads as column-naming-reads
-use Rattle.marks.proofs.depths.root_by.Reads as root-by-reads
-
-root-by-requires : tie.Need-root-by-requires
-root-by-requires c κs = search needs
 
 sub-column-naming : tie.Need-sub-column-naming
 unfolding isAttribute
@@ -41,7 +33,7 @@ pub column-of-spec : {M : Type 1} → statement M
 column-of-spec =
     tie.close
     (tie.spec
-    root-by-requires
+    (λ c κs. search needs)
     sub-column-naming
     part-column-naming-start
     part-column-naming-end

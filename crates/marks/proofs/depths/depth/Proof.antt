@@ -7,11 +7,6 @@ use Rattle.marks.specs.Columns.{depthFrom}
 use Rattle.marks.proofs.Depth.{depth-done, depth-on}
 use Rattle.marks.proofs.depths.depth.Statement.{statement}
 use Rattle.marks.proofs.depths.depth.Tie as tie
-use Rattle.marks.proofs.depths.depth.Reads as reads
-use Rattle.marks.proofs.depths.depth.Lts as lts
-use Rattle.marks.proofs.depths.column_of.Reads as column-of-reads
-use Rattle.marks.proofs.depths.deeper_of.Reads as deeper-of-reads
-use Rattle.table.proofs.entry_at.Reads as entry-at-reads
 
 abbrev Inv-loop : tie.InvT-loop
 Inv-loop text table first end s n heads but deepest₀ at₀ deepest at = (first ≤ at) × (at ≤ end) × (depthFrom (end - at) text table s n heads but at deepest ≡ depthFrom (end - first) text table s n heads but first 0)
@@ -28,22 +23,16 @@ entry-at-requires c κs = omega (arith, c .before .before .before .before .befor
 column-of-requires : tie.Need-column-of-requires Inv-loop μ-loop
 column-of-requires c κs = c .before .before .before .before .before .before .pre .0
 
-deeper-of-requires : tie.Need-deeper-of-requires Inv-loop μ-loop
-deeper-of-requires c κs = search needs
-
 add-at : tie.Need-add-at Inv-loop μ-loop
 add-at c = omega (arith, c .before .before .before .before .before .before .before .before .pre .1 .1)
-
-loop-less : tie.Need-loop-less Inv-loop μ-loop
-loop-less c = omega arith
 
 loop-again : tie.Need-loop-again Inv-loop μ-loop
 loop-again c = (
   omega arith,
   omega arith,
   rw (c .deeper-of .ensures, c .before .column-of .ensures, c .before .before .entry-at .ensures)
-  (depth-on (c .before .before .before .before .before .before .before .before .args .text .now) (c .before .before .before .before .before .before .before .before .args .table .now) (c .before .before .before .before .before .before .before .before .args .s .now) (c .before .before .before .before .before .before .before .before .args .n) (c .before .before .before .before .before .before .before .before .args .heads .now) (c .before .before .before .before .before .before .before .before .args .but) (c .before .before .before .before .before .before .before .before .args .end - c .before .before .before .before .loop .at)
-  (c .before .before .before .before .before .before .before .before .args .end - (c .before .before .before .before .loop .at + 1)) (c .before .before .before .before .loop .at) (c .before .before .before .before .loop .deepest) (omega arith) ∙ c .before .before .before .before .loop .inv .2),
+      (depth-on (c .before .before .before .before .before .before .before .before .args .text .now) (c .before .before .before .before .before .before .before .before .args .table .now) (c .before .before .before .before .before .before .before .before .args .s .now) (c .before .before .before .before .before .before .before .before .args .n) (c .before .before .before .before .before .before .before .before .args .heads .now) (c .before .before .before .before .before .before .before .before .args .but) (c .before .before .before .before .before .before .before .before .args .end - c .before .before .before .before .loop .at)
+      (c .before .before .before .before .before .before .before .before .args .end - (c .before .before .before .before .loop .at + 1)) (c .before .before .before .before .loop .at) (c .before .before .before .before .loop .deepest) (omega arith) ∙ c .before .before .before .before .loop .inv .2),
 )
 
 returns : tie.Need-returns Inv-loop μ-loop
@@ -58,8 +47,8 @@ depth-spec =
     loop-holds
     entry-at-requires
     column-of-requires
-    deeper-of-requires
+    (λ c κs. search needs)
     add-at
-    loop-less
+    (λ c. omega arith)
     loop-again
     returns)

@@ -1,7 +1,6 @@
 -- `marks::depths::depths` meets its contract: the depths of the policies met are right. Assumes nothing.
-use mathlib.Core.Path.{_≡_, refl, sym}
+use mathlib.Core.Path.{refl}
 use native.Mathlib.Omega.{arith}
-use lib.ListN.{length}
 use Rattle.stored.specs.ReadBack.{policyOf, policiesAt}
 use Rattle.deciding.proofs.Lowest.{last-there}
 use Rattle.marks.proofs.Depth.{depth-few, last-steady}
@@ -9,10 +8,6 @@ use Rattle.marks.proofs.Numbering.{numbered-few, numbered-some, Left, a
 use Rattle.marks.proofs.Marking.{Found, found-more, zeros-say}
 use Rattle.marks.proofs.depths.depths.Statement.{statement}
 use Rattle.marks.proofs.depths.depths.Tie as tie
-use Rattle.marks.proofs.depths.depths.Reads as reads
-use Rattle.marks.proofs.depths.depths.Lts as lts
-use Rattle.marks.proofs.depths.depth.Reads as depth-reads
-use Rattle.table.proofs.entry_at.Reads as entry-at-reads
 
 abbrev Inv-loop : tie.InvT-loop
 Inv-loop text table policies entries s n heads buts found₀ end₀ number₀ found end number = Left text table entries end number × Found text s n heads (policiesAt table entries) buts number found
@@ -22,12 +17,9 @@ abbrev μ-loop : tie.MeasureT-loop
 
 loop-holds : tie.Need-loop-holds Inv-loop μ-loop
 loop-holds c = let all = c .before .before .before .pre .1 .0 in (
-      all-left (c .before .before .before .pre .0) all (c .before .before .before .pre .1 .1 .0),
-      record { long = refl; few = λ i. omega (arith, zeros-say 64 i); steady = λ m policy h l. absurd (omega (arith, numbered-few h)) },
-    )
-
-sub-entry-at : tie.Need-sub-entry-at Inv-loop μ-loop
-sub-entry-at c = omega arith
+  all-left (c .before .before .before .pre .0) all (c .before .before .before .pre .1 .1 .0),
+  record { long = refl; few = λ i. omega (arith, zeros-say 64 i); steady = λ m policy h l. absurd (omega (arith, numbered-few h)) },
+)
 
 entry-at-requires : tie.Need-entry-at-requires Inv-loop μ-loop
 entry-at-requires c κs = omega (arith, c .before .loop .inv .0 .ready .stored .stands .few)
@@ -37,9 +29,6 @@ sub-i c = one-left (c .before .before .loop .inv .0) (last-there (c .before .bef
 
 element-copy-out-but : tie.Need-element-copy-out-but Inv-loop μ-loop
 element-copy-out-but c = let o = one-left (c .before .before .loop .inv .0) (last-there (c .before .before .loop .inv .0 .ready) (c .before .loop-test .taken) (c .entry-at .ensures)) in omega (arith, c .before .before .loop .inv .0 .few)
-
-sub-depth : tie.Need-sub-depth Inv-loop μ-loop
-sub-depth c = omega arith
 
 depth-requires : tie.Need-depth-requires Inv-loop μ-loop
 depth-requires c κs = let l = last-there (c .before .before .before .loop .inv .0 .ready) (c .before .before .loop-test .taken) (c .before .entry-at .ensures) in let e = l .ends in (c .before .before .before .before .before .before .before .pre .1 .1 .1, (omega arith, omega (arith, l .few)))
@@ -74,11 +63,11 @@ depths-spec =
     Inv-loop
     μ-loop
     loop-holds
-    sub-entry-at
+    (λ c. omega arith)
     entry-at-requires
     sub-i
     element-copy-out-but
-    sub-depth
+    (λ c. omega arith)
     depth-requires
     array-write-found
     loop-less

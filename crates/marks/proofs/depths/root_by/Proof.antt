@@ -1,7 +1,6 @@
 -- `marks::depths::root_by` meets its contract. Assumes nothing.
 use borrow.Author.Needs.{needs}
 use borrow.Author.Tests.{le-leb, lt-leb}
-use native.Mathlib.Omega.{arith}
 use Rattle.marks.specs.Columns.{rootBy}
 use Rattle.marks.proofs.depths.root_by.Statement.{statement}
 use Rattle.marks.proofs.depths.root_by.Tie as tie

@@ -1,12 +1,8 @@
 -- `sheets::writing::depths_unless` meets its contract. Assumes nothing.
 use mathlib.Core.Path.{sym, _∙_}
 use mathlib.Core.Bool.{false≢true}
-use borrow.Author.Needs.{needs}
 use Rattle.sheets.proofs.writing.depths_unless.Statement.{statement}
 use Rattle.sheets.proofs.writing.depths_unless.Tie as tie
-use Rattle.sheets.proofs.writing.depths_unless.Reads as reads
-use Rattle.sheets.proofs.writing.depths_unless.Lts as lts
-use Rattle.marks.proofs.depths.depths.Reads as depths-reads
 
 returns : tie.Need-returns
 returns c = λ e. absurd (false≢true (sym e ∙ c .if1 .taken))

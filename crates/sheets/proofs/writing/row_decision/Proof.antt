@@ -3,9 +3,6 @@ use mathlib.Core.Path.{sym, _∙_}
 use mathlib.Core.Bool.{false≢true}
 use Rattle.sheets.proofs.writing.row_decision.Statement.{statement}
 use Rattle.sheets.proofs.writing.row_decision.Tie as tie
-use Rattle.sheets.proofs.writing.row_decision.Reads as reads
-use Rattle.sheets.proofs.writing.row_decision.Lts as lts
-use Rattle.marks.proofs.decision_from.Reads as decision-from-reads
 
 returns : tie.Need-returns
 returns c = record { is = simp (c .if1 .taken); others = λ e. absurd (false≢true (sym e ∙ c .if1 .taken)) }

@@ -16,15 +16,6 @@ use mathlib.Core.Bool.{false}
 use mathlib.Core.Path.{_≡_, refl, sym, ap, _∙_}
 use Rattle.sheets.proofs.writing.write_rows.Statement.{statement}
 use Rattle.sheets.proofs.writing.write_rows.Tie as tie
-use Rattle.sheets.proofs.writing.write_rows.Reads as reads
-use Rattle.sheets.proofs.writing.write_rows.Lts as lts
-use Rattle.pages.proofs.listing.is_allowed.Reads as is-allowed-reads
-use Rattle.pages.proofs.listing.put_row.Reads as put-row-reads
-use Rattle.pages.proofs.rows.choices_of.Reads as choices-of-reads
-use Rattle.pages.proofs.rows.step.Reads as step-reads
-use Rattle.sheets.proofs.writing.depths_unless.Reads as depths-unless-reads
-use Rattle.sheets.proofs.writing.row_decision.Reads as row-decision-reads
-use Rattle.views.proofs.chosen.Reads as chosen-reads
 
 abbrev Inv-loop : tie.InvT-loop
 Inv-loop system text table policies entries s p n starts ends subject subject-sort action resource resource-sort all start part₀ grid choices₀ values₀ deeps lows marks₀ from₀ written₀ at₀ row₀ part choices values marks from written at row = (all ≤ 262144) × (row ≤ all) × (start + written ≤ row) × (at ≡ rowSize * written) × (length part ≡ length part₀) × Standing grid ends choices values row
@@ -84,48 +75,22 @@ loop-holds c = (
 row-decision-requires : tie.Need-row-decision-requires Inv-loop μ-loop
 row-decision-requires c κs = let asked = c .before .before .before .before .before .before .before .before .before .before .before .before .before .before .before .before .before .before .before .before .before .before .pre .asked in
     let laid = c .before .before .before .before .before .before .before .before .before .before .before .before .before .before .before .before .before .before .before .before .before .before .pre .laid in
-    let st = c .before .before .before .before .before .before .before .loop .inv .5 in
-    (stands-there asked laid (c .before .before .before .before .before .before .loop-test .taken) st, (c .before .before .before .before .before .before .before .before .before .before .before .before .before .before .before .before .before .before .before .before .before .before .pre .decidable,
-    (record { small = choices-small _ _ _ (st .choices-are) (ends-few asked laid); picked = st .values-are }, c .before .before .before .before .before .before .before .loop .inv .7)))
+    let st = c .before .before .before .before .before .before .before .loop .inv .5 in (
+      stands-there asked laid (c .before .before .before .before .before .before .loop-test .taken) st,
+      (
+        c .before .before .before .before .before .before .before .before .before .before .before .before .before .before .before .before .before .before .before .before .before .before .pre .decidable,
+        (record { small = choices-small _ _ _ (st .choices-are) (ends-few asked laid); picked = st .values-are }, c .before .before .before .before .before .before .before .loop .inv .7),
+      ),
+    )
 
 step-requires : tie.Need-step-requires Inv-loop μ-loop
 step-requires c κs = placed-there (ends-few (c .before .before .before .before .before .before .before .before .before .before .before .before .before .before .before .before .before .before .before .before .before .before .before .before .before .before .pre .asked) (c .before .before .before .before .before .before .before .before .before .before .before .before .before .before .before .before .before .before .before .before .before .before .before .before .before .before .pre .laid)) (c .before .before .before .before .before .before .before .before .before .before .before .loop .inv .5)
 
-add-row : tie.Need-add-row Inv-loop μ-loop
-add-row c = omega arith
-
-is-allowed-requires : tie.Need-is-allowed-requires Inv-loop μ-loop
-is-allowed-requires c κs = search needs
-
-sub-if2 : tie.Need-sub-if2 Inv-loop μ-loop
-sub-if2 c = omega arith
-
-same-length : tie.Need-same-length Inv-loop μ-loop
-same-length c = search needs
-
 returns : tie.Need-returns Inv-loop μ-loop
 returns c = turn-full _ _ _ _ _ _ _ (c .before .before .before .before .before .before .before .before .before .before .before .before .before .before .loop-test .taken) (c .before .before .before .before .before .before .before .before .before .before .before .before .before .before .before .loop .inv .6) (sym (answer (c .before .before)) ∙ c .before .if1 .taken) (omega arith)
 
-sub-put-row : tie.Need-sub-put-row Inv-loop μ-loop
-sub-put-row c = omega arith
-
-part-put-row-start : tie.Need-part-put-row-start Inv-loop μ-loop
-part-put-row-start c = omega arith
-
-part-put-row-end : tie.Need-part-put-row-end Inv-loop μ-loop
-part-put-row-end c = omega arith
-
 put-row-requires : tie.Need-put-row-requires Inv-loop μ-loop
 put-row-requires c κs = (simp (length-take, length-drop) (omega arith), rw (decided (c .before .before .before .before .before .before .before .before)) (policy-fits (c .before .before .before .before .before .before .before .before .before .before .before .before .before .before .before .before .before .before .before .before .before .before .before .before .before .before .before .before .before .before .before .pre .decidable) _ _ _ _))
-
-add-at : tie.Need-add-at Inv-loop μ-loop
-add-at c = omega arith
-
-add-written : tie.Need-add-written Inv-loop μ-loop
-add-written c = omega arith
-
-loop-less : tie.Need-loop-less Inv-loop μ-loop
-loop-less c = omega arith
 
 loop-again : tie.Need-loop-again Inv-loop μ-loop
 loop-again c = let l = c .before .before .before .before .before .before .before .before .before .before .before .before .before .before .before .before .before .before .before in
@@ -140,23 +105,17 @@ loop-again c = let l = c .before .before .before .before .before .before .before
       next-kept (c .before .before .before .before .before .before .before),
     )
 
-loop-less-2 : tie.Need-loop-less-2 Inv-loop μ-loop
-loop-less-2 c = omega arith
-
 loop-again-2 : tie.Need-loop-again-2 Inv-loop μ-loop
 loop-again-2 c = let inv = c .before .before .before .before .before .before .before .before .before .before .before .before .before .before .loop .inv in (
-      inv .0,
-      omega arith,
-      omega arith,
-      inv .3,
-      inv .4,
-      next-row (c .before .before),
-      turn-no _ _ _ _ _ _ _ (c .before .before .before .before .before .before .before .before .before .before .before .before .before .loop-test .taken) (inv .6) (sym (answer (c .before)) ∙ c .if1 .left),
-      next-kept (c .before .before),
-    )
-
-same-length-2 : tie.Need-same-length-2 Inv-loop μ-loop
-same-length-2 c = search needs
+  inv .0,
+  omega arith,
+  omega arith,
+  inv .3,
+  inv .4,
+  next-row (c .before .before),
+  turn-no _ _ _ _ _ _ _ (c .before .before .before .before .before .before .before .before .before .before .before .before .before .loop-test .taken) (inv .6) (sym (answer (c .before)) ∙ c .if1 .left),
+  next-kept (c .before .before),
+)
 
 returns-2 : tie.Need-returns-2 Inv-loop μ-loop
 returns-2 c = turn-none _ _ _ _ _ _ _ (omega arith) (c .before .loop .inv .6)
@@ -174,20 +133,20 @@ write-rows-spec =
     loop-holds
     row-decision-requires
     step-requires
-    add-row
-    is-allowed-requires
-    sub-if2
-    same-length
+    (λ c. omega arith)
+    (λ c κs. search needs)
+    (λ c. omega arith)
+    (λ c. search needs)
     returns
-    sub-put-row
-    part-put-row-start
-    part-put-row-end
+    (λ c. omega arith)
+    (λ c. omega arith)
+    (λ c. omega arith)
     put-row-requires
-    add-at
-    add-written
-    loop-less
+    (λ c. omega arith)
+    (λ c. omega arith)
+    (λ c. omega arith)
     loop-again
-    loop-less-2
+    (λ c. omega arith)
     loop-again-2
-    same-length-2
+    (λ c. search needs)
     returns-2)
