@@ -110,7 +110,7 @@ fn met<'a>(
 }
 
 // What the policies decide whose entries end before number `entries`, in the row. The marks are those of a row that chooses alike in the columns before
-// number `from`, and are then this row's. `grid` has the places of all candidates.
+// number `from`, and are then this row's. `grid`, the places of all candidates, is there for the contract alone.
 pub fn decision_from<'a>(
     from: usize,
     deeps: &[u8; 64],
