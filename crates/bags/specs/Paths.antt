@@ -43,7 +43,7 @@ joined (p ∷ q ∷ ps) = p ++ (code "." ∷ joined (q ∷ ps))
 unfoldable pub isPath : List ℕ → Bool
 isPath p = leb (length p) 64 && every isName (pieces p)
 
--- the same without computing: names joined by dots, 64 bytes at most
+-- what is accepted, without computing: names joined by dots, 64 bytes at most
 pub record Path (p : List ℕ) : Type 0 where
   pub names : List (List ℕ)
   pub all : every isName names ≡ true
