@@ -10,12 +10,12 @@ ghost use Rattle.grammar.specs.Parser.{noLevel, read-condition, read-conjunctio
 ghost use Rattle.table.specs.Entries.{treeEntries};
 ghost use Rattle.parts.specs.Answers.{Ready, Done};
 ghost use Rattle.conditions.specs.Joining.{ReadyAt, Joins, wordAfter};
+use leaves::read_operator;
+use leaves::read_rooted;
 use parts::answers::Answer;
 use parts::answers::turned_away;
 use parts::lists::is_literal;
 use parts::lists::literal_entry;
-use parts::operators::read_operator;
-use parts::operators::read_rooted;
 use parts::paths::is_root;
 use table::Entry;
 use table::append;

@@ -4,6 +4,4 @@ pub mod Sorts
 pub mod Roots
 pub mod Ways
 pub mod Literals
-pub mod Wildcards
 pub mod Simple
-pub mod Types

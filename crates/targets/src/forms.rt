@@ -5,7 +5,7 @@ ghost use lib.ListN.{length};
 ghost use Rattle.grammar.specs.Rules.{principalTypes, resourceTypes};
 ghost use Rattle.parts.specs.Names.{typesOf};
 ghost use Rattle.meaning.specs.Targets.{kindOf, typeIn, isTyped, isSystem, isAction};
-use parts::targets::type_number;
+use heads::type_number;
 use slices::same;
 
 // Whether the subject is the system.

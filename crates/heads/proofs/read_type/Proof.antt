@@ -1,0 +1,109 @@
+-- `heads::read_type` meets its contract: no name, no type, or its entry. Assumes nothing.
+use mathlib.Core.Path.{_≡_, _∙_, sym, ap}
+use Prim.Native.Nat.{ℕ}
+use native.Mathlib.Omega.{arith}
+use lib.ListN.{length}
+use borrow.Author.Needs.{needs}
+use Rattle.reading.proofs.Stream.{next-on, next-off}
+use Rattle.reading.specs.Lexemes.{lexeme}
+use Rattle.grammar.specs.Parser.{noType, read-type}
+use Rattle.grammar.specs.Policies.{typed}
+use Rattle.grammar.specs.Rules.{isType, typeOf}
+use Rattle.table.specs.Entries.{partEntry}
+use Rattle.parts.specs.Answers.{turnedAway}
+use Rattle.parts.specs.Names.{typesOf}
+use Rattle.parts.proofs.Standing.{number-small, past, turned-as, turned}
+use Rattle.heads.proofs.Types.{no-type-name, is-type, no-type, ten-for-type, nine-for-type}
+use Rattle.parts.proofs.Writing.{one-done, turned-done}
+use Rattle.heads.proofs.read_type.Statement.{statement}
+use Rattle.heads.proofs.read_type.Tie as tie
+
+turned-away-requires : tie.Need-turned-away-requires
+turned-away-requires c κs =
+    let start = c .before .before .before .before .before in
+    start .pre .lies .order
+
+returns : tie.Need-returns
+unfolding read-type
+returns c =
+    let start = c .before .before .before .before .before .before in
+    let s = start .args .text .now in
+    let t = start .args .t in
+    turned-done (turned-as (next-off s t (isType (typesOf (start .args .resource))) _ _ (no-type-name _ s t (c .before .if1 .taken))) (turned s t noType (c .turned-away .ensures ∙ ap (λ (n : ℕ). turnedAway (length s) n t) (sym (ten-for-type s t (c .before .if1 .taken))))))
+
+sub-type-number : tie.Need-sub-type-number
+sub-type-number c =
+    let start = c .before .before .before .before .before in
+    start .pre .lies .order
+
+part-type-number-start : tie.Need-part-type-number-start
+part-type-number-start c =
+    let start = c .before .before .before .before .before in
+    start .pre .lies .order
+
+part-type-number-end : tie.Need-part-type-number-end
+part-type-number-end c =
+    let start = c .before .before .before .before .before in
+    start .pre .lies .high
+
+turned-away-requires-2 : tie.Need-turned-away-requires-2
+turned-away-requires-2 c κs =
+    let start = c .before .before .before .before .before .before .before .before in
+    start .pre .lies .order
+
+returns-2 : tie.Need-returns-2
+unfolding read-type
+returns-2 c =
+    let at-if1 = c .before .before .before .before in
+    let start = at-if1 .before .before .before .before .before in
+    let s = start .args .text .now in
+    let t = start .args .t in
+    turned-done (turned-as (next-off s t (isType (typesOf (start .args .resource))) _ _ (no-type _ s t (at-if1 .if1 .left) (sym (c .before .before .type-number .ensures) ∙ c .before .if2 .taken))) (turned s t noType (c .turned-away2 .ensures ∙ ap (λ (n : ℕ). turnedAway (length s) n t) (sym (nine-for-type s t (at-if1 .if1 .left))))))
+
+next-token-requires : tie.Need-next-token-requires
+next-token-requires c κs =
+    let start = c .before .before .before .before .before .before .before .before in
+    (start .pre .table, start .pre .lies .high)
+
+append-requires : tie.Need-append-requires
+append-requires c κs =
+    let start = c .before .before .before .before .before .before .before .before .before .before in
+    omega (arith, number-small (start .pre))
+
+add-t17 : tie.Need-add-t17
+add-t17 c =
+    let start = c .before .before .before .before .before .before .before .before .before .before .before .before .before in
+    omega (arith, number-small (start .pre))
+
+returns-3 : tie.Need-returns-3
+unfolding read-type partEntry
+returns-3 c =
+    let at-next-token = c .before .before .before .before in
+    let at-if2 = at-next-token .before in
+    let at-type-number = at-if2 .before in
+    let at-if1 = at-type-number .before .before in
+    let start = at-if1 .before .before .before .before .before in
+    let s = start .args .text .now in
+    let t = start .args .t in
+    let types = typesOf (start .args .resource) in
+    let some : t .kind ≡ 0 → ⊥ = λ (z : t .kind ≡ 0). (let k = at-if1 .if1 .left in omega arith) in
+    one-done (typed (typeOf types (lexeme s t))) (rw (at-type-number .type-number .ensures)) (next-on s t (isType types) _ _ _ some (start .pre .lies .high) (at-next-token .next-token .ensures .0) (is-type types s t (at-if1 .if1 .left) (λ z. at-if2 .if2 .left (at-type-number .type-number .ensures ∙ z))))
+    (past t (start .pre .lies) some (at-next-token .next-token .ensures .1)) (c .before .before .append .ensures)
+
+pub read-type-spec : {M : Type 1} → statement M
+read-type-spec =
+    tie.close
+    (tie.spec
+    turned-away-requires
+    returns
+    sub-type-number
+    part-type-number-start
+    part-type-number-end
+    (λ c κs. search needs)
+    turned-away-requires-2
+    returns-2
+    next-token-requires
+    append-requires
+    add-t17
+    (λ c. search needs)
+    returns-3)

@@ -1,0 +1,215 @@
+// The readers of the parts of a policy's target.
+ghost use mathlib.Core.Path.{_≡_};
+ghost use mathlib.Core.List.{[], _∷_};
+ghost use mathlib.Core.Bool.{cond};
+ghost use Prim.Native.Nat.{_+_, _-_};
+ghost use Rattle.slices.specs.Same.{same};
+ghost use Rattle.reading.specs.Lexemes.{stream};
+ghost use Rattle.grammar.specs.Rules.{typeAmong, principalTypes, resourceTypes};
+ghost use Rattle.grammar.specs.Parser.{read-type, read-principal, read-action, read-resource};
+ghost use Rattle.table.specs.Entries.{partEntry, actionEntries};
+ghost use Rattle.parts.specs.Answers.{Ready, Done};
+ghost use Rattle.parts.specs.Names.{typesOf};
+use parts::answers::Answer;
+use parts::answers::counted;
+use parts::answers::turned_away;
+use parts::lists::read_list;
+use slices::same as equal;
+use table::Entry;
+use table::append;
+use tokens::kinds;
+use tokens::reader::Token;
+use tokens::reader::next_token;
+
+// The number if the name is this type's, else the other number.
+fn number_if(name: &[u8], sort: &[u8], number: usize, other: usize) -> usize
+    ensures { λ r. ⌜ r ≡ cond (same (now (name .entry)) (now (sort .entry))) number other ⌝ }
+{
+    if equal(name, sort) { number } else { other }
+}
+
+// The number of a type among those of the principal, and among those of the resource; 0 where the name is none of them.
+fn principal_type(name: &[u8]) -> usize
+    ensures { λ r. ⌜ r ≡ typeAmong principalTypes 1 (now (name .entry)) ⌝ }
+{
+    let n = number_if(name, b"tool", 2, 0);
+    number_if(name, b"person", 1, n)
+}
+
+fn resource_type(name: &[u8]) -> usize
+    ensures { λ r. ⌜ r ≡ typeAmong resourceTypes 1 (now (name .entry)) ⌝ }
+{
+    let n = number_if(name, b"record", 4, 0);
+    let n = number_if(name, b"parameter", 3, n);
+    let n = number_if(name, b"shaft", 2, n);
+    number_if(name, b"controller", 1, n)
+}
+
+pub fn type_number(resource: bool, name: &[u8]) -> usize
+    ensures { λ r. ⌜ r ≡ typeAmong (typesOf resource) 1 (now (name .entry)) ⌝ }
+{
+    if resource {
+        resource_type(name)
+    } else {
+        principal_type(name)
+    }
+}
+
+// After `is`.
+fn read_type(
+    classes: &[u8; 256],
+    text: &[u8],
+    table: &mut [u8],
+    seen: &[u8],
+    resource: bool,
+    t: Token,
+    number: usize,
+    same: bool,
+) -> Answer
+    requires { ⌜ Ready (now classes) (now text) number t ⌝ }
+    ensures { λ r. ⌜ Done (λ e p. partEntry p ∷ []) (now (text .entry)) (now (seen .entry)) (t .start) number same (now (table .entry)) (now (table .exit))
+        (read-type (typesOf resource) (stream (now (text .entry)) t)) r ⌝ }
+{
+    if t.kind != kinds::NAME {
+        return Answer::Refused(turned_away(text, t, 10));
+    }
+    let start = t.start;
+    let end = t.end;
+    let sort = type_number(resource, &text[start..end]);
+    if sort == 0 {
+        return Answer::Refused(turned_away(text, t, 9));
+    }
+    let next = next_token(classes, text, t.end);
+    let ok = append(
+        table,
+        seen,
+        number,
+        same,
+        Entry {
+            kind: 30,
+            first: sort,
+            second: 0,
+        },
+    );
+    Answer::Read(next, number + 1, ok)
+}
+
+// After principal.
+pub fn read_principal(
+    classes: &[u8; 256],
+    text: &[u8],
+    table: &mut [u8],
+    seen: &[u8],
+    t: Token,
+    number: usize,
+    same: bool,
+) -> Answer
+    requires { ⌜ Ready (now classes) (now text) (number + 1) t ⌝ }
+    ensures { λ r. ⌜ Done (λ e p. partEntry p ∷ []) (now (text .entry)) (now (seen .entry)) (t .start - 1) number same (now (table .entry)) (now (table .exit))
+        (read-principal (stream (now (text .entry)) t)) r ⌝ }
+{
+    if t.kind == kinds::IS {
+        let next = next_token(classes, text, t.end);
+        return read_type(classes, text, table, seen, false, next, number, same);
+    }
+    let ok = append(
+        table,
+        seen,
+        number,
+        same,
+        Entry {
+            kind: 29,
+            first: 0,
+            second: 0,
+        },
+    );
+    Answer::Read(t, number + 1, ok)
+}
+
+// After action.
+pub fn read_action(
+    classes: &[u8; 256],
+    text: &[u8],
+    table: &mut [u8],
+    seen: &[u8],
+    t: Token,
+    number: usize,
+    same: bool,
+) -> Answer
+    requires { ⌜ Ready (now classes) (now text) (number + 1) t ⌝ }
+    ensures { λ r. ⌜ Done (λ e. actionEntries) (now (text .entry)) (now (seen .entry)) (t .start - 1) number same (now (table .entry)) (now (table .exit))
+        (read-action (stream (now (text .entry)) t)) r ⌝ }
+{
+    if t.kind == kinds::IN {
+        let square = next_token(classes, text, t.end);
+        if square.kind != b'[' {
+            return Answer::Refused(turned_away(text, square, 10));
+        }
+        let first = next_token(classes, text, square.end);
+        let list = read_list(classes, text, table, seen, true, first, number, same);
+        return counted(table, seen, list, 33, number);
+    }
+    let ok = append(
+        table,
+        seen,
+        number,
+        same,
+        Entry {
+            kind: 32,
+            first: 0,
+            second: 0,
+        },
+    );
+    Answer::Read(t, number + 1, ok)
+}
+
+// After resource.
+pub fn read_resource(
+    classes: &[u8; 256],
+    text: &[u8],
+    table: &mut [u8],
+    seen: &[u8],
+    t: Token,
+    number: usize,
+    same: bool,
+) -> Answer
+    requires { ⌜ Ready (now classes) (now text) (number + 1) t ⌝ }
+    ensures { λ r. ⌜ Done (λ e p. partEntry p ∷ []) (now (text .entry)) (now (seen .entry)) (t .start - 1) number same (now (table .entry)) (now (table .exit))
+        (read-resource (stream (now (text .entry)) t)) r ⌝ }
+{
+    if t.kind == kinds::IS {
+        let next = next_token(classes, text, t.end);
+        return read_type(classes, text, table, seen, true, next, number, same);
+    }
+    if t.kind == kinds::EQUAL {
+        let s = next_token(classes, text, t.end);
+        if s.kind != kinds::STRING {
+            return Answer::Refused(turned_away(text, s, 10));
+        }
+        let next = next_token(classes, text, s.end);
+        let ok = append(
+            table,
+            seen,
+            number,
+            same,
+            Entry {
+                kind: 31,
+                first: s.start,
+                second: s.end,
+            },
+        );
+        return Answer::Read(next, number + 1, ok);
+    }
+    let ok = append(
+        table,
+        seen,
+        number,
+        same,
+        Entry {
+            kind: 29,
+            first: 0,
+            second: 0,
+        },
+    );
+    Answer::Read(t, number + 1, ok)
+}

@@ -1,0 +1,347 @@
+// The readers of conditions that hold no other: what follows a left operand, and what follows a root.
+pub mod likes;
+
+ghost use mathlib.Core.Path.{_≡_};
+ghost use mathlib.Core.List.{[]};
+ghost use Prim.Native.Nat.{_+_, _-_, _<_, _^_};
+ghost use lib.ListN.{length};
+ghost use Rattle.tokens.specs.Tokens.{Reads};
+ghost use Rattle.reading.specs.Lexemes.{lexeme, stream};
+ghost use Rattle.reading.specs.Reader.{mapped};
+ghost use Rattle.grammar.specs.Policies.{Span, span, Root, Comparator, Operand, compare, attribute, Which};
+ghost use Rattle.grammar.specs.Parser as parser;
+ghost use Rattle.grammar.specs.Parser.{read-operand, read-bare, read-in, read-pattern, read-operator, read-call, read-rest, read-rooted, bare, spannedBy};
+ghost use Rattle.table.specs.Entries.{operandEntry, treeEntries, comparatorKind, whichKind};
+ghost use Rattle.parts.specs.Answers.{Ready, Done, callAfter};
+ghost use Rattle.parts.specs.Names.{rootFrom, comparing};
+use crate::likes::is_pattern;
+use parts::answers::Answer;
+use parts::answers::closed;
+use parts::answers::counted;
+use parts::answers::expected;
+use parts::answers::turned_away;
+use parts::lists::read_list;
+use parts::operands::read_attribute;
+use parts::operands::read_operand;
+use parts::paths::Path;
+use parts::paths::Way;
+use parts::paths::has_kind;
+use parts::paths::is_root;
+use parts::paths::read_placed;
+use parts::paths::read_way;
+use parts::paths::root_kind;
+use table::Entry;
+use table::append;
+use tokens::kinds;
+use tokens::reader::Token;
+use tokens::reader::next_token;
+
+// The kind of the entry of a comparator, 0 for any other token.
+fn comparator_kind(kind: u8) -> u8
+    ensures { λ r. ⌜ r ≡ comparing kind ⌝ }
+{
+    match kind {
+        kinds::EQUAL => 13,
+        kinds::NOT_EQUAL => 14,
+        b'>' => 15,
+        kinds::AT_LEAST => 16,
+        b'<' => 17,
+        kinds::AT_MOST => 18,
+        _ => 0,
+    }
+}
+
+// The number by which a token is refused that follows an attribute as left operand.
+fn no_operator(t: Token) -> u8
+    ensures { λ r. ⌜ r ≡ bare (lexeme [] t) ⌝ }
+{
+    let k = t.kind;
+    if (k == kinds::AND)
+        | (k == kinds::OR)
+        | (k == b')')
+        | (k == b'}')
+        | (k == kinds::THEN)
+        | (k == kinds::ELSE)
+    {
+        8
+    } else {
+        10
+    }
+}
+
+// After a comparator.
+fn read_compared(
+    classes: &[u8; 256],
+    text: &[u8],
+    table: &mut [u8],
+    seen: &[u8],
+    left: Entry,
+    kind: u8,
+    t: Token,
+    number: usize,
+    same: bool,
+) -> Answer
+    requires { ⌜ Ready (now classes) (now text) (number + 2) t ⌝ }
+    ensures { λ r. ⌜ ((a : Operand) → operandEntry a ≡ left → (c : Comparator) → comparatorKind c ≡ kind → Done treeEntries (now (text .entry)) (now (seen .entry)) (t .start - 2) number same
+        (now (table .entry)) (now (table .exit)) (mapped (compare c a) read-operand (stream (now (text .entry)) t)) r) ⌝ }
+{
+    let ok = append(table, seen, number, same, left);
+    let right = read_operand(classes, text, table, seen, t, number + 1, ok);
+    closed(
+        table,
+        seen,
+        right,
+        Entry {
+            kind,
+            first: 0,
+            second: 0,
+        },
+    )
+}
+
+// After `like`.
+fn read_pattern(
+    classes: &[u8; 256],
+    text: &[u8],
+    table: &mut [u8],
+    seen: &[u8],
+    left: Entry,
+    t: Token,
+    number: usize,
+    same: bool,
+) -> Answer
+    requires { ⌜ Ready (now classes) (now text) (number + 2) t ⌝ }
+    ensures { λ r. ⌜ ((a : Operand) → operandEntry a ≡ left → Done treeEntries (now (text .entry)) (now (seen .entry)) (t .start - 2) number same
+        (now (table .entry)) (now (table .exit)) (read-pattern a (stream (now (text .entry)) t)) r) ⌝ }
+{
+    if t.kind != kinds::STRING {
+        return Answer::Refused(turned_away(text, t, 10));
+    }
+    if !is_pattern(text, t) {
+        return Answer::Refused(turned_away(text, t, 13));
+    }
+    let next = next_token(classes, text, t.end);
+    let ok = append(table, seen, number, same, left);
+    let last = number + 1;
+    let ok = append(
+        table,
+        seen,
+        last,
+        ok,
+        Entry {
+            kind: 19,
+            first: t.start,
+            second: t.end,
+        },
+    );
+    Answer::Read(next, last + 1, ok)
+}
+
+// After `in`.
+fn read_in(
+    classes: &[u8; 256],
+    text: &[u8],
+    table: &mut [u8],
+    seen: &[u8],
+    left: Entry,
+    t: Token,
+    number: usize,
+    same: bool,
+) -> Answer
+    requires { ⌜ Ready (now classes) (now text) (number + 2) t ⌝ }
+    ensures { λ r. ⌜ ((a : Operand) → operandEntry a ≡ left → Done treeEntries (now (text .entry)) (now (seen .entry)) (t .start - 2) number same
+        (now (table .entry)) (now (table .exit)) (read-in a (stream (now (text .entry)) t)) r) ⌝ }
+{
+    let ok = append(table, seen, number, same, left);
+    if t.kind == b'[' {
+        let first = next_token(classes, text, t.end);
+        let list = read_list(classes, text, table, seen, false, first, number + 1, ok);
+        return counted(table, seen, list, 20, number + 1);
+    }
+    if is_root(t) {
+        let dot = next_token(classes, text, t.end);
+        let right = read_attribute(classes, text, table, seen, t.kind, dot, number + 1, ok);
+        return closed(
+            table,
+            seen,
+            right,
+            Entry {
+                kind: 21,
+                first: 0,
+                second: 0,
+            },
+        );
+    }
+    Answer::Refused(turned_away(text, t, 10))
+}
+
+// After a left operand that no operator follows.
+fn read_bare(
+    text: &[u8],
+    table: &mut [u8],
+    seen: &[u8],
+    left: Entry,
+    t: Token,
+    number: usize,
+    same: bool,
+) -> Answer
+    requires { ⌜ Reads (now text) (number + 1) t × (length (now text) < 2 ^ 60) ⌝ }
+    ensures { λ r. ⌜ ((a : Operand) → operandEntry a ≡ left → Done treeEntries (now (text .entry)) (now (seen .entry)) (t .start - 1) number same
+        (now (table .entry)) (now (table .exit)) (read-bare a (stream (now (text .entry)) t)) r) ⌝ }
+{
+    if left.kind <= 4 {
+        return Answer::Refused(turned_away(text, t, no_operator(t)));
+    }
+    if left.kind <= 10 {
+        return Answer::Refused(turned_away(text, t, 10));
+    }
+    let ok = append(table, seen, number, same, left);
+    Answer::Read(t, number + 1, ok)
+}
+
+// After the left operand whose entry is `left`.
+pub fn read_operator(
+    classes: &[u8; 256],
+    text: &[u8],
+    table: &mut [u8],
+    seen: &[u8],
+    left: Entry,
+    t: Token,
+    number: usize,
+    same: bool,
+) -> Answer
+    requires { ⌜ Ready (now classes) (now text) (number + 1) t ⌝ }
+    ensures { λ r. ⌜ ((a : Operand) → operandEntry a ≡ left → Done treeEntries (now (text .entry)) (now (seen .entry)) (t .start - 1) number same
+        (now (table .entry)) (now (table .exit)) (read-operator a (stream (now (text .entry)) t)) r) ⌝ }
+{
+    let comparator = comparator_kind(t.kind);
+    if comparator != 0 {
+        let next = next_token(classes, text, t.end);
+        return read_compared(
+            classes,
+            text,
+            table,
+            seen,
+            left,
+            comparator,
+            next,
+            number,
+            same,
+        );
+    }
+    if t.kind == kinds::LIKE {
+        let next = next_token(classes, text, t.end);
+        return read_pattern(classes, text, table, seen, left, next, number, same);
+    }
+    if t.kind == kinds::IN {
+        let next = next_token(classes, text, t.end);
+        return read_in(classes, text, table, seen, left, next, number, same);
+    }
+    read_bare(text, table, seen, left, t, number, same)
+}
+
+// After containsAll or containsAny, whose entry has this kind; `left` is the attribute's entry.
+fn read_call(
+    classes: &[u8; 256],
+    text: &[u8],
+    table: &mut [u8],
+    seen: &[u8],
+    kind: u8,
+    left: Entry,
+    t: Token,
+    number: usize,
+    same: bool,
+) -> Answer
+    requires { ⌜ Ready (now classes) (now text) (number + 1) t ⌝ }
+    ensures { λ r. ⌜ ((w : Which) → whichKind w ≡ kind → (root : Root) (p : Span) → operandEntry (attribute root p) ≡ left → Done treeEntries (now (text .entry)) (now (seen .entry)) (t .start - 1) number same
+        (now (table .entry)) (now (table .exit)) (read-call w root p (stream (now (text .entry)) t)) r) ⌝ }
+{
+    if t.kind != b'(' {
+        return Answer::Refused(turned_away(text, t, 10));
+    }
+    let square = next_token(classes, text, t.end);
+    if square.kind != b'[' {
+        return Answer::Refused(turned_away(text, square, 10));
+    }
+    let first = next_token(classes, text, square.end);
+    let ok = append(table, seen, number, same, left);
+    let list = read_list(classes, text, table, seen, false, first, number + 1, ok);
+    let call = counted(table, seen, list, kind, number + 1);
+    expected(classes, text, call, b')')
+}
+
+// After an attribute as left operand, or after the word of the call that it begins.
+fn read_rest(
+    classes: &[u8; 256],
+    text: &[u8],
+    table: &mut [u8],
+    seen: &[u8],
+    root: u8,
+    path: Path,
+    number: usize,
+    same: bool,
+) -> Answer
+    requires { ⌜ Ready (now classes) (now text) (number + 1) (path .next) ⌝ }
+    ensures { λ r. ⌜ ((way : parser.Way) → spannedBy way ≡ span (path .start) (path .end) → callAfter way ≡ path .call → Done treeEntries (now (text .entry)) (now (seen .entry))
+        (path .next .start - 1) number same (now (table .entry)) (now (table .exit)) (read-rest (rootFrom root) way (stream (now (text .entry)) (path .next))) r) ⌝ }
+{
+    let left = Entry {
+        kind: root_kind(root),
+        first: path.start,
+        second: path.end,
+    };
+    if path.call == 0 {
+        return read_operator(classes, text, table, seen, left, path.next, number, same);
+    }
+    read_call(
+        classes,
+        text,
+        table,
+        seen,
+        path.call,
+        left,
+        path.next,
+        number,
+        same,
+    )
+}
+
+// After a root: a left operand, or `has` and a path.
+pub fn read_rooted(
+    classes: &[u8; 256],
+    text: &[u8],
+    table: &mut [u8],
+    seen: &[u8],
+    root: u8,
+    t: Token,
+    number: usize,
+    same: bool,
+) -> Answer
+    requires { ⌜ Ready (now classes) (now text) (number + 1) t ⌝ }
+    ensures { λ r. ⌜ Done treeEntries (now (text .entry)) (now (seen .entry)) (t .start - 1) number same (now (table .entry)) (now (table .exit))
+        (read-rooted (rootFrom root) (stream (now (text .entry)) t)) r ⌝ }
+{
+    if t.kind == b'.' {
+        let name = next_token(classes, text, t.end);
+        let way = read_way(classes, text, root, true, name);
+        return match way {
+            Way::Lost(f) => Answer::Refused(f),
+            Way::Found(path) => read_rest(classes, text, table, seen, root, path, number, same),
+        };
+    }
+    if t.kind == kinds::HAS {
+        let name = next_token(classes, text, t.end);
+        return read_placed(
+            classes,
+            text,
+            table,
+            seen,
+            root,
+            has_kind(root),
+            name,
+            number,
+            same,
+        );
+    }
+    Answer::Refused(turned_away(text, t, 10))
+}
