@@ -64,14 +64,12 @@ pub record Computed : Type 0 where
       (gets "permit(principal,action,resource);forbid(principal,action,resource);" ≡ Forbidden 2)
       × (outcomeOf (Forbidden 2) ≡ 2)
       × (policyOf (Forbidden 2) ≡ 2)
-
   -- a kind mismatch and a list beside a comparator are false, `!=` too
   pub mismatches :
       (found three "principal.a != 1" ≡ No)
       × (found three "principal.l != \"x\"" ≡ No)
       × (found three "principal.b >= true" ≡ No)
       × (found three "principal.b != false" ≡ Yes)
-
   -- `in` a list and an attribute, containsAll, containsAny, `has`, `like`, the action's name
   pub operators :
       (found three "principal.b in [1, true]" ≡ Yes)
@@ -80,7 +78,6 @@ pub record Computed : Type 0 where
       × (found three "principal.l.containsAny([\"y\", 1])" ≡ Yes)
       × (found three "principal has b && !(principal has c)" ≡ Yes)
       × (found three "principal.a like \"shaft:*\"" ≡ Yes)
-
   -- targets: `is` by what stands before the first colon, `==` the whole string, the action list
   pub targets :
       (gets "permit(principal is tool,action,resource);permit(principal is person,action in [\"teach\"],resource is shaft);" ≡ Allowed 2)

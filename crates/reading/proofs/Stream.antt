@@ -38,10 +38,10 @@ module _ (text : List ℕ) where
           → choose b (λ _. []) (λ _. lexeme text (tokenAt text at) ∷ tokensUpTo (length text) text (tokenAt text at .end)) ≡ choose b (λ _. []) (λ _. lexeme text (tokenAt text at) ∷ tokensUpTo (suc (length text)) text (tokenAt text at .end))
       go true e = refl
       go false e =
-        let r = reads text at h in
-        let s = r .some (eqb-false _ _ e) in
-        let low = r .low in
-        ap (λ (l : List Lexeme). lexeme text (tokenAt text at) ∷ l) (enough (length text) (suc (length text)) (tokenAt text at .end) (r .high) (omega arith) (omega arith))
+          let r = reads text at h in
+          let s = r .some (eqb-false _ _ e) in
+          let low = r .low in
+          ap (λ (l : List Lexeme). lexeme text (tokenAt text at) ∷ l) (enough (length text) (suc (length text)) (tokenAt text at .end) (r .high) (omega arith) (omega arith))
 
   module _ (t : Token) where
     pub stream-end : t .kind ≡ 0 → stream text t ≡ []
