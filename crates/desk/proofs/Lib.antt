@@ -1,0 +1,6 @@
+pub mod RefusalNumbers
+pub mod TextsPromised
+pub mod RequestsPromised
+pub mod SheetsPromised
+pub mod Promised
+pub mod Cases
