@@ -4,3 +4,4 @@ pub mod RequestsPromised
 pub mod SheetsPromised
 pub mod Promised
 pub mod Cases
+pub mod Grounded

@@ -1,6 +1,5 @@
 -- The desk's page of promises holds: specs/Promises.antt, record by record. Assumes nothing.
-use mathlib.Core.Path.{_≡_, sym, _∙_}
-use Prim.Native.Nat.{ℕ}
+use mathlib.Core.Path.{sym, _∙_}
 use Rattle.slices.proofs.Parts.{one-part}
 use Rattle.compiling.specs.Promise.{BeginsExactly}
 use Rattle.compiling.proofs.Promised.{begins-exactly}

@@ -1,17 +1,15 @@
 -- What the desk promises of rule texts: when a text is accepted, what it gets, and which refusal it gets otherwise. Assumes nothing.
-use mathlib.Core.Path.{_≡_, refl, sym, ap, ap₂, _∙_}
+use mathlib.Core.Path.{_≡_, refl, ap₂}
 use mathlib.Core.Logic.{_↔_}
 use mathlib.Core.Bool.{Bool, true, false}
-use mathlib.Core.List.{List, [], _++_}
+use mathlib.Core.List.{List, _++_}
 use Prim.Native.Nat.{ℕ, _≤_, _<_}
 use native.Mathlib.Omega.{arith}
 use borrow.Author.Tests.{ltb-true, ltb-false, le-ltb}
 use lib.Dec.{ltb}
 use lib.ListN.{length, drop}
 use Rattle.reading.specs.Lexemes.{choose, tokensOf}
-use Rattle.reading.specs.Reader.{took}
 use Rattle.grammar.specs.Policies.{Policy}
-use Rattle.grammar.specs.Grammar.{RuleText, sizes}
 use Rattle.grammar.specs.Promise as grammar
 use Rattle.grammar.specs.Promise.{Unambiguous}
 use Rattle.grammar.proofs.Exactly as grammar-proofs
@@ -20,7 +18,7 @@ use Rattle.compiling.specs.Promise.{AcceptedExactly, UnfitExactly, RefusedThere
 use Rattle.compiling.specs.declared.Compiled.{Compiled}
 use Rattle.compiling.specs.declared.Compiled.the-variants.{Policies, Refused}
 use Rattle.compiling.proofs.Promised.{accepted, unfit, refused-there, nothing-changed, zeros-elsewhere}
-use Rattle.desk.specs.Answers.{compiledAs, compileSays, compileLeaves}
+use Rattle.desk.specs.Answers.{compileSays, compileLeaves}
 use Rattle.desk.specs.Promises.{Says, Belongs}
 use Rattle.desk.proofs.RefusalNumbers.{token-number}
 

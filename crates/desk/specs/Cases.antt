@@ -6,7 +6,6 @@ use Prim.Native.String.{String}
 use lib.ListN.{length}
 use Rattle.slices.specs.Ascii.{bytes}
 use Rattle.compiling.specs.Promise.{bytesFor}
-use Rattle.meaning.specs.Targets.{Request}
 use Rattle.desk.specs.Answers.{compileSays, decideSays}
 use Rattle.desk.specs.declared.DeskCompiled.{DeskCompiled}
 use Rattle.desk.specs.declared.DeskDecision.{DeskDecision}

@@ -7,7 +7,6 @@ use mathlib.Core.Bool.{Bool, true, false}
 use mathlib.Core.List.{List, [], _∷_, _++_, List·Memᴰ}
 use Prim.Native.Nat.{ℕ, _+_, _*_, _≤_, _<_}
 use lib.ListN.{length, getD, take, drop}
-use lib.Ieee.{Float}
 use denote.Ref.{RefT, now}
 use Rattle.slices.specs.Parts.{IsPart}
 use Rattle.reading.specs.Lexemes.{tokensOf}
@@ -17,7 +16,6 @@ use Rattle.compiling.specs.Outcome.{mostBytes, roomFor, compiledBytes}
 use Rattle.compiling.specs.Promise.{RefusedThere, Begun}
 use Rattle.bags.specs.Sections.{isBag}
 use Rattle.questions.specs.Questions.{isQuestion}
-use Rattle.views.specs.Meaning.{View}
 use Rattle.meaning.specs.Targets.{Request, isSystem}
 use Rattle.meaning.specs.Decisions.{Some, Names, outcomeOf, policyOf}
 use Rattle.deciding.specs.Answers.{viewOf}
