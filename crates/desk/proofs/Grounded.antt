@@ -1,14 +1,8 @@
 -- What the desk's promises rest on: each ground with its proof in the crate that has it. Assumes nothing.
 use mathlib.Core.Path.{_≡_}
 use mathlib.Core.Bool.{true}
-use mathlib.Core.List.{List, []}
+use mathlib.Core.List.{List}
 use Prim.Native.Nat.{ℕ}
-use Rattle.reading.specs.Lexemes.{tokensOf}
-use Rattle.reading.specs.Reader.{took}
-use Rattle.grammar.specs.Policies.{Policy}
-use Rattle.grammar.specs.Parser.{read-text}
-use Rattle.grammar.specs.Promise.{AcceptedExactly}
-use Rattle.grammar.proofs.Exactly.{accepted-exactly}
 use Rattle.tokens.proofs.Longest.{longest-token, one-token}
 use Rattle.numbers.proofs.Rounded.{rounded-once}
 use Rattle.numbers.proofs.Spelled.{written-value}
@@ -25,13 +19,8 @@ use Rattle.lookups.proofs.BagLaws.{impossible-path, impossible-root}
 use Rattle.views.proofs.RowBag.{row-view}
 use Rattle.views.proofs.RowLaws.{row-shows, has-is-presence}
 use Rattle.desk.specs.Answers.{lookupSays}
-use Rattle.desk.specs.Promises.{Says}
 use Rattle.desk.specs.Grounds.{notThere, Grounds}
-
--- a text that says policies is read as these
-read-as : (text : List ℕ) (ps : List Policy) → Says text ps → read-text (tokensOf text) ≡ took ps []
-unfolding AcceptedExactly
-read-as text ps s = accepted-exactly (tokensOf text) ps .1 (s .belongs)
+use Rattle.desk.proofs.TextsPromised.{read-as}
 
 not-there : (bag : List ℕ) (root : ℕ) (path : List ℕ) → isBag bag ≡ true → lookIn absent (bagOf bag root) path ≡ absent → lookupSays bag root path ≡ notThere
 unfolding lookupSays

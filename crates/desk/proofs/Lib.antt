@@ -1,4 +1,5 @@
 pub mod RefusalNumbers
+pub mod RefusedTokens
 pub mod TextsPromised
 pub mod RequestsPromised
 pub mod SheetsPromised

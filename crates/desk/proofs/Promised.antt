@@ -29,6 +29,7 @@ demand-two = record {
   one-reading = texts.one-reading;
   yes-exactly = requests.yes-exactly;
   named-rightly = requests.named-rightly;
+  outcome-rightly = requests.outcome-rightly;
   system-names-none = requests.system-names-none;
 }
 
@@ -36,11 +37,15 @@ pub demand-three : DemandThree
 unfolding ListsExactly OneRow Ascends FirstSlowest
 demand-three = record {
   decided-alike = sheets-desk.decided-alike;
+  listed-alike = sheets-desk.listed-alike;
+  system-rows = sheets-desk.system-rows;
   lists-exactly = sheets.lists-exactly;
   only-combinations = sheets-desk.only-combinations;
   one-row = sheets.one-row;
-  ascends = λ text question q. sheets.ascends text question q 0;
+  ascends = sheets.ascends;
   first-slowest = sheets.slowest-first;
+  from-start = sheets-desk.from-start;
+  page-rightly = sheets-desk.page-rightly;
   pages-joined = sheets-desk.pages-joined;
   goes-on = sheets-desk.goes-on;
   others-stay = sheets-desk.others-stay;
@@ -51,6 +56,7 @@ unfolding BeginsExactly
 refusals = record {
   too-long = texts.too-long;
   no-room = texts.no-room;
+  token-exactly = texts.token-exactly;
   decide-exactly = requests.decide-exactly;
   lookup-exactly = requests.lookup-exactly;
   sheet-exactly = sheets-desk.sheet-exactly;

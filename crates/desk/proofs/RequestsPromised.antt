@@ -3,25 +3,31 @@ use mathlib.Core.Path.{_≡_, refl, sym, fun-ext}
 use mathlib.Core.Logic.{_⊎_, inl, inr, ⊎-elim, _↔_}
 use mathlib.Core.Bool.{Bool, true, false, cond}
 use mathlib.Core.List.{List, [], _∷_, List·Memᴰ, List·Memᴰ·head, List·Memᴰ·tail}
-use Prim.Native.Nat.{ℕ}
+use Prim.Native.Nat.{ℕ, zero, suc, _<_}
 use native.Mathlib.Omega.{arith}
 use borrow.Author.Tests.{eqb-true}
 use lib.Dec.{eqb}
 use lib.Ieee.{Float}
 use Rattle.tokens.specs.Bytes.{oneOf}
 use Rattle.grammar.specs.Policies.{Policy}
+use Rattle.compiling.specs.Outcome.{said}
 use Rattle.compiling.specs.Promise.{BeginsExactly}
 use Rattle.compiling.proofs.Promised.{begins-exactly}
 use Rattle.bags.specs.Sections.{isBag}
 use Rattle.views.specs.Meaning.{View}
 use Rattle.meaning.specs.Targets.{Request, isSystem}
-use Rattle.meaning.specs.Decisions.{Names, the-system as nobody, decisionOf, outcomeOf, policyOf}
+use Rattle.meaning.specs.Decisions.{Numbered, first, later, Some, Names, the-system as nobody, a-forbid, a-permit, none-named, byNumbers, policiesDecide, decisionOf, outcomeOf, policyOf, isAllowed}
+use Rattle.meaning.specs.Decisions as meaning
+use Rattle.meaning.specs.declared.Decision.{Decision}
+use Rattle.meaning.specs.declared.Decision.the-variants.{Allowed, Forbidden, Nothing}
+use Rattle.meaning.proofs.Deciding as meaning-proofs
 use Rattle.deciding.specs.Answers.{policiesOf, viewOf, answerOf, saidOf, saysYes}
 use Rattle.deciding.specs.Promise as deciding
 use Rattle.deciding.specs.Promise.{never-the-system, bad-subject, bad-action, bad-resource, no-bag, no-table, none-where-all-is-right}
 use Rattle.deciding.specs.declared.Answer.{Answer}
 use Rattle.deciding.specs.declared.Answer.the-variants.{Decided}
 use Rattle.deciding.proofs.Answering.{the-system}
+use Rattle.deciding.proofs.HeldLaws.{policies-said}
 use Rattle.deciding.proofs.Promised as deciding-proofs
 use Rattle.tokens.proofs.TokenLaws.{never, or-cases}
 use Rattle.lookups.specs.Lookups as lookups
@@ -30,15 +36,80 @@ use Rattle.lookups.specs.Values.{nought, absent}
 use Rattle.lookups.specs.declared.Answer.the-variants.{Found, Refused}
 use Rattle.lookups.proofs.Answers.{refused, refused-length}
 use Rattle.desk.specs.Answers.{decidedAs, decideSays, foundAs, lookupSays}
-use Rattle.desk.specs.Promises.{Says, Yes, allowed, system, Granted}
+use Rattle.desk.specs.Promises.{Says, Yes, allowed, system, Granted, OutcomeIs, by-permit, by-forbid, by-none, by-system}
 use Rattle.desk.specs.declared.DeskValue.{DeskValue}
-use Rattle.desk.proofs.TextsPromised.{one-reading}
+use Rattle.desk.proofs.TextsPromised.{read-as, one-reading}
 
 -- ---- a number is one of a list
 
 pub among : (n : ℕ) (l : List ℕ) → oneOf l n ≡ true → List·Memᴰ n l
 among n [] e = absurd (never e)
 among n (m ∷ l) e = ⊎-elim (λ (h : eqb n m ≡ true). List·Memᴰ·head (eqb-true n m h)) (λ (h : oneOf l n ≡ true). List·Memᴰ·tail (among n l h)) (or-cases _ _ e)
+
+-- ---- a decision's outcome and policy
+
+-- what the policies can decide: the number of a permit, or of a forbid, or nothing
+data Sorted : Decision → Type 0 where
+  a-permit-there : {n : ℕ} → Sorted (Allowed (suc n))
+  a-forbid-there : {n : ℕ} → Sorted (Forbidden (suc n))
+  none-there : Sorted Nothing
+
+sorted : (forbid permit : ℕ) → Sorted (byNumbers forbid permit)
+unfolding byNumbers
+sorted zero zero = none-there
+sorted zero (suc permit) = a-permit-there
+sorted (suc forbid) permit = a-forbid-there
+
+-- the outcome by what is known of the policy named
+one-if-allowed : {d : Decision} → Sorted d → isAllowed d ≡ true → outcomeOf d ≡ 1
+unfolding isAllowed outcomeOf
+one-if-allowed a-permit-there y = refl
+one-if-allowed a-forbid-there y = absurd (never y)
+one-if-allowed none-there y = absurd (never y)
+
+two-if-named : {d : Decision} → Sorted d → (isAllowed d ≡ true → ⊥) → 0 < policyOf d → outcomeOf d ≡ 2
+unfolding isAllowed outcomeOf policyOf
+two-if-named a-permit-there y n = absurd (y refl)
+two-if-named a-forbid-there y n = refl
+two-if-named none-there y n = absurd (omega arith)
+
+three-if-none : {d : Decision} → Sorted d → policyOf d ≡ 0 → outcomeOf d ≡ 3
+unfolding outcomeOf policyOf
+three-if-none a-permit-there n = absurd (omega arith)
+three-if-none a-forbid-there n = absurd (omega arith)
+three-if-none none-there n = refl
+
+from-one : {n : ℕ} {p : Policy} {ps : List Policy} → Numbered n p ps → 0 < n
+from-one first = omega arith
+from-one (later h) = omega arith
+
+module _ (text bag : List ℕ) (q : Request) (ps : List Policy) where
+  abbrev decision : Decision
+  decision = decisionOf text (viewOf bag) q ps
+
+  by-policies : isSystem (q .subject) ≡ false → Sorted decision
+  unfolding decisionOf policiesDecide
+  by-policies s = rw s (sorted _ _)
+
+  four-for-system : isSystem (q .subject) ≡ true → outcomeOf decision ≡ 4
+  unfolding decisionOf outcomeOf
+  four-for-system s = rw s
+
+  allowed-then : isSystem (q .subject) ≡ false → isAllowed decision ≡ true → Some text (viewOf bag) q ps false → ⊥
+  unfolding meaning.YesExactly
+  allowed-then s y = ⊎-elim (λ t. absurd (meaning-proofs.never s t)) (λ w. w .1) (meaning-proofs.yes-exactly text (viewOf bag) q ps .0 y)
+
+  permit-allowed : Some text (viewOf bag) q ps true → (Some text (viewOf bag) q ps false → ⊥) → isAllowed decision ≡ true
+  unfolding meaning.YesExactly
+  permit-allowed p f = meaning-proofs.yes-exactly text (viewOf bag) q ps .1 (inr (p, f))
+
+  outcome-named : (n : ℕ) → policyOf decision ≡ n → Names text (viewOf bag) q ps n → OutcomeIs text bag q ps (outcomeOf decision) n
+  outcome-named n e (nobody s) = rw (four-for-system s) (by-system s)
+  outcome-named n e (a-forbid s l) =
+      let named : 0 < policyOf decision = rw e (from-one (l .bites .numbered)) in
+      rw (two-if-named (by-policies s) (λ y. allowed-then s y (record { number = n; bites = l .bites })) named) (by-forbid s l)
+  outcome-named n e (a-permit s f l) = rw (one-if-allowed (by-policies s) (permit-allowed (record { number = n; bites = l .bites }) f)) (by-permit s f l)
+  outcome-named n e (none-named s f g) = rw (three-if-none (by-policies s) e) (by-none s f g)
 
 -- ---- deciding
 
@@ -144,6 +215,13 @@ module _ (text table bag : List ℕ) (q : Request) where
   decided-by e (no-bag s t u v w) = absurd (omega arith)
   decided-by e (no-table s t u v w b) = absurd (omega arith)
   decided-by e (none-where-all-is-right s t u v w b) = rw (s, t, u, v, w, begins-exactly text table .1 b)
+
+  pub outcome-rightly : (ps : List Policy) → decideSays text table bag q .refusal ≡ 0 → Says text ps
+      → OutcomeIs text bag q ps (decideSays text table bag q .outcome) (decideSays text table bag q .policy)
+  unfolding decideSays saidOf said meaning.NamedRightly
+  outcome-rightly ps e says =
+      rw (decided-by e (decide-exactly (decideSays text table bag q .refusal) .0 refl), policies-said text ps (read-as text ps says))
+      (outcome-named text bag q ps (policyOf (decisionOf text (viewOf bag) q ps)) refl (meaning-proofs.named-rightly text (viewOf bag) q ps))
 
   -- what is decided depends on the attributes alone
   pub decided-over : decideSays text table bag q .refusal ≡ 0 → (view : View) → ((root : ℕ) (path : List ℕ) → viewOf bag root path ≡ view root path)

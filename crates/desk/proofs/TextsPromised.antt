@@ -1,15 +1,17 @@
 -- What the desk promises of rule texts: when a text is accepted, what it gets, and which refusal it gets otherwise. Assumes nothing.
-use mathlib.Core.Path.{_≡_, refl, ap₂}
+use mathlib.Core.Path.{_≡_, refl, ap₂, _∙_}
 use mathlib.Core.Logic.{_↔_}
 use mathlib.Core.Bool.{Bool, true, false}
-use mathlib.Core.List.{List, _++_}
+use mathlib.Core.List.{List, [], _++_}
 use Prim.Native.Nat.{ℕ, _≤_, _<_}
 use native.Mathlib.Omega.{arith}
 use borrow.Author.Tests.{ltb-true, ltb-false, le-ltb}
 use lib.Dec.{ltb}
 use lib.ListN.{length, drop}
 use Rattle.reading.specs.Lexemes.{choose, tokensOf}
+use Rattle.reading.specs.Reader.{took}
 use Rattle.grammar.specs.Policies.{Policy}
+use Rattle.grammar.specs.Parser.{read-text}
 use Rattle.grammar.specs.Promise as grammar
 use Rattle.grammar.specs.Promise.{Unambiguous}
 use Rattle.grammar.proofs.Exactly as grammar-proofs
@@ -21,11 +23,17 @@ use Rattle.compiling.proofs.Promised.{accepted, unfit, refused-there, nothing-c
 use Rattle.desk.specs.Answers.{compileSays, compileLeaves}
 use Rattle.desk.specs.Promises.{Says, Belongs}
 use Rattle.desk.proofs.RefusalNumbers.{token-number}
+use Rattle.desk.proofs.RefusedTokens.{not-refused, one-refusal}
 
 -- a text says one list of policies
 pub one-reading : (text : List ℕ) (ps qs : List Policy) → Says text ps → Says text qs → ps ≡ qs
 unfolding Unambiguous
 one-reading text ps qs a b = grammar-proofs.one-reading (tokensOf text) ps qs (a .belongs) (b .belongs)
+
+-- it is read as these
+pub read-as : (text : List ℕ) (ps : List Policy) → Says text ps → read-text (tokensOf text) ≡ took ps []
+unfolding grammar.AcceptedExactly
+read-as text ps s = grammar-proofs.accepted-exactly (tokensOf text) ps .1 (s .belongs)
 
 module _ (text table : List ℕ) where
   -- what compiling answers, and why
@@ -130,12 +138,11 @@ module _ (text table : List ℕ) where
       → (compileSays text table .policies ≡ length ps)
       × (compileSays text table .bytes ≡ length (compiledBytes ps))
       × (compileLeaves text table ≡ compiledBytes ps ++ drop (length (compiledBytes ps)) table)
-  unfolding compileSays saidOf tableAfter tableBy choose said grammar.AcceptedExactly
+  unfolding compileSays saidOf tableAfter tableBy choose said
   compiled ps n s =
       let h = roomy told n in
       let e = says-accepted ps s h in
-      let r = grammar-proofs.accepted-exactly (tokensOf text) ps .1 (s .belongs) in
-      (rw e, rw e, rw (le-ltb _ _ (s .short), le-ltb _ _ h, r))
+      (rw e, rw e, rw (le-ltb _ _ (s .short), le-ltb _ _ h, read-as text ps s))
 
   -- ---- the refusals by size, and the zeros
 
@@ -160,6 +167,23 @@ module _ (text table : List ℕ) where
   pub no-room : (compileSays text table .refusal ≡ 2) ↔ ((length text ≤ mostBytes) × (length table < roomFor text))
   unfolding compileSays saidOf
   no-room = (no-room-then told, λ h. rw (no-room-answer (h .0) (h .1)))
+
+  -- ---- the refusals by token
+
+  token-answer : {number line column : ℕ} → length text ≤ mostBytes → roomFor text ≤ length table → RefusedThere text number line column → {c : Compiled} → Told c → c ≡ Refused number line column
+  token-answer l h r (told-accepted ps s k e) = absurd (not-refused (tokensOf text) (r .rest) ps (s .belongs) (r .rightly))
+  token-answer l h r (told-long k e) = absurd (omega arith)
+  token-answer l h r (told-no-room k m e) = absurd (omega arith)
+  token-answer l h r (told-broken n k c x y z e) = let q = one-refusal z r in e ∙ (λ i. Refused (q .0 i) (q .1 i) (q .2 i))
+
+  refused-as : {number line column : ℕ} → compiledOf text (length table) ≡ Refused number line column
+      → compileSays text table ≡ record { refusal = number; line = line; column = column; policies = 0; bytes = 0 }
+  unfolding compileSays saidOf
+  refused-as e = rw e
+
+  pub token-exactly : (number line column : ℕ) → length text ≤ mostBytes → roomFor text ≤ length table → 2 < number
+      → (compileSays text table ≡ record { refusal = number; line = line; column = column; policies = 0; bytes = 0 }) ↔ RefusedThere text number line column
+  token-exactly number line column l h m = (λ e. rw e at (placed) m, λ r. refused-as (token-answer l h r told))
 
   pub compile-zeros : (compileSays text table .refusal ≡ 0 → ⊥) → (compileSays text table .policies ≡ 0) × (compileSays text table .bytes ≡ 0)
   unfolding compileSays ZerosElsewhere
