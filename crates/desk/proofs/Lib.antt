@@ -1,0 +1,8 @@
+pub mod RefusalNumbers
+pub mod RefusedTokens
+pub mod TextsPromised
+pub mod RequestsPromised
+pub mod SheetsPromised
+pub mod Promised
+pub mod Cases
+pub mod Grounded

@@ -1,0 +1,79 @@
+-- The desk's page of promises holds: specs/Promises.antt, record by record. Assumes nothing.
+use mathlib.Core.Path.{sym, _∙_}
+use Rattle.slices.proofs.Parts.{one-part}
+use Rattle.compiling.specs.Promise.{BeginsExactly}
+use Rattle.compiling.proofs.Promised.{begins-exactly}
+use Rattle.sheets.specs.Promise.{ListsExactly, OneRow, Ascends, FirstSlowest}
+use Rattle.sheets.proofs.Promised as sheets
+use Rattle.desk.specs.Promises.{DemandOne, DemandTwo, DemandThree, Refusals, OneResult}
+use Rattle.desk.proofs.TextsPromised as texts
+use Rattle.desk.proofs.RequestsPromised as requests
+use Rattle.desk.proofs.SheetsPromised as sheets-desk
+
+pub demand-one : DemandOne
+demand-one = record {
+  compile-refusals = texts.compile-refusals;
+  decide-refusals = requests.decide-refusals;
+  lookup-refusals = requests.lookup-refusals;
+  sheet-refusals = sheets-desk.sheet-refusals;
+  placed = texts.placed;
+  no-place = texts.no-place;
+  table-stays = texts.table-stays;
+  sheet-stays = sheets-desk.sheet-stays;
+}
+
+pub demand-two : DemandTwo
+demand-two = record {
+  accepted-exactly = texts.accepted-exactly;
+  compiled = texts.compiled;
+  one-reading = texts.one-reading;
+  yes-exactly = requests.yes-exactly;
+  named-rightly = requests.named-rightly;
+  outcome-rightly = requests.outcome-rightly;
+  system-names-none = requests.system-names-none;
+}
+
+pub demand-three : DemandThree
+unfolding ListsExactly OneRow Ascends FirstSlowest
+demand-three = record {
+  decided-alike = sheets-desk.decided-alike;
+  listed-alike = sheets-desk.listed-alike;
+  system-rows = sheets-desk.system-rows;
+  lists-exactly = sheets.lists-exactly;
+  only-combinations = sheets-desk.only-combinations;
+  one-row = sheets.one-row;
+  ascends = sheets.ascends;
+  first-slowest = sheets.slowest-first;
+  from-start = sheets-desk.from-start;
+  page-rightly = sheets-desk.page-rightly;
+  pages-joined = sheets-desk.pages-joined;
+  goes-on = sheets-desk.goes-on;
+  others-stay = sheets-desk.others-stay;
+}
+
+pub refusals : Refusals
+unfolding BeginsExactly
+refusals = record {
+  too-long = texts.too-long;
+  no-room = texts.no-room;
+  token-exactly = texts.token-exactly;
+  decide-exactly = requests.decide-exactly;
+  lookup-exactly = requests.lookup-exactly;
+  sheet-exactly = sheets-desk.sheet-exactly;
+  begins-exactly = begins-exactly;
+  compile-zeros = texts.compile-zeros;
+  decide-zeros = requests.decide-zeros;
+  lookup-zeros = requests.lookup-zeros;
+  string-empty = requests.string-empty;
+  sheet-zeros = sheets-desk.sheet-zeros;
+}
+
+pub one-result : OneResult
+one-result = record {
+  of-compile = λ text before after after′ r r′ a b. (a .answered ∙ sym (b .answered), a .table ∙ sym (b .table));
+  of-begins = λ text table r r′ a b. a ∙ sym b;
+  of-decide = λ text table bag q r r′ a b. a ∙ sym b;
+  of-lookup = λ bag root path r r′ a b. a ∙ sym b;
+  of-string = λ bag root path r r′ a b. let p = one-part a b in (p .0, λ i. (p .1 i, p .2 i));
+  of-sheet = λ text table question q start before at after after′ r r′ a b. (a .answered ∙ sym (b .answered), a .sheet ∙ sym (b .sheet));
+}

@@ -1,0 +1,100 @@
+-- The numbers that a refused text can get for a token: 3 to 16, since no token of a text has a kind below 3. Assumes nothing.
+use mathlib.Core.Path.{_≡_, refl}
+use mathlib.Core.Logic.{⊎-elim}
+use mathlib.Core.Bool.{Bool, true, false, cond, _&&_}
+use mathlib.Core.List.{List, [], _∷_}
+use Prim.Native.Nat.{ℕ, zero, suc, _≤_}
+use native.Mathlib.Omega.{arith}
+use borrow.Author.Tests.{eqb-false, leb-true, ltb-true}
+use lib.Dec.{eqb, leb, ltb}
+use lib.ListN.{length}
+use Rattle.tokens.specs.Kinds as kinds
+use Rattle.tokens.specs.Words.{wordKind, reserved}
+use Rattle.tokens.specs.Tokens.{tokenAt}
+use Rattle.tokens.specs.Forms.{marks, Form, a-word, a-string, a-number, a-mark, Stands, end-of-text, a-token, too-long, a-colon, bad-byte, unended, bad-inside}
+use Rattle.tokens.specs.declared.reader.Token.{Token}
+use Rattle.tokens.proofs.TokenLaws.{every}
+use Rattle.tokens.proofs.FormLaws.{mark-passes}
+use Rattle.tokens.proofs.KindLaws.{kind-among}
+use Rattle.tokens.proofs.ReadLaws.{reads}
+use Rattle.tokens.proofs.Longest.{longest-token}
+use Rattle.reading.specs.Lexemes.{Lexeme, lexeme, is, choose, following, tokensUpTo, tokensFrom, tokensOf}
+use Rattle.grammar.specs.Rules.{isEffect, isReserved, mostLiterals}
+use Rattle.grammar.specs.Numbers.{atName, atType, atPattern, afterPolicy, atCondition, afterLeft, afterAction, oneMore, endsBare, deepens, numberOf, numberAt}
+use Rattle.placing.specs.Placed.{Each, none-left, and-each}
+use Rattle.stored.proofs.Standing.{each-right}
+use Rattle.compiling.specs.Promise.{RefusedThere}
+
+-- ---- the kinds of a text's tokens
+
+form-kind : {kind : ℕ} {l : List ℕ} → Form kind l → 3 ≤ kind
+unfolding every marks
+form-kind (a-word {b} {rest} h a) =
+    ⊎-elim (λ (e : wordKind (b ∷ rest) ≡ kinds.name). omega arith) (λ (h : 201 ≤ wordKind (b ∷ rest)). omega arith) (kind-among reserved 201 (b ∷ rest))
+form-kind (a-string a) = omega arith
+form-kind (a-number n) = omega arith
+form-kind (a-mark {kind} m) = leb-true 3 kind (mark-passes (λ kind l. leb 3 kind) m refl)
+
+stands-kind : {start : ℕ} {l : List ℕ} {t : Token} → Stands start l t → (t .kind ≡ 0 → ⊥) → 3 ≤ t .kind
+stands-kind end-of-text n = absurd (n refl)
+stands-kind (a-token f h) n = form-kind (f .form)
+stands-kind (too-long f h) n = omega arith
+stands-kind (a-colon f) n = omega arith
+stands-kind (bad-byte f c q) n = omega arith
+stands-kind (unended f a) n = omega arith
+stands-kind (bad-inside l f a o) n = omega arith
+
+-- a token that has a kind from 3 on
+record Kinded (x : Lexeme) : Type 0 where
+  low : 3 ≤ x .kind
+
+kinded : (text : List ℕ) (n at : ℕ) → at ≤ length text → Each Kinded (tokensUpTo n text at)
+unfolding tokensUpTo following choose
+kinded text zero at h = none-left
+kinded text (suc n) at h = go (eqb (tokenAt text at .kind) 0) refl (kinded text n (tokenAt text at .end) (reads text at h .high))
+  where
+    go : (b : Bool) → eqb (tokenAt text at .kind) 0 ≡ b → Each Kinded (tokensUpTo n text (tokenAt text at .end))
+        → Each Kinded (choose b (λ _. []) (λ _. lexeme text (tokenAt text at) ∷ tokensUpTo n text (tokenAt text at .end)))
+    go true e r = none-left
+    go false e r = and-each (record { low = stands-kind (longest-token text at h .stands) (eqb-false _ _ e) }) r
+
+all-kinded : (text : List ℕ) → Each Kinded (tokensOf text)
+unfolding tokensFrom
+all-kinded text = kinded text (suc (length text)) 0 (omega arith)
+
+-- ---- the numbers
+
+abbrev Between : ℕ → Type 0
+Between n = (3 ≤ n) × (n ≤ 16)
+
+-- the rows of the table of numbers that go by what stands before a token
+rows : (a b c d e f g h i : Bool) → Between (cond a 7 (cond b 8 (cond c 9 (cond d 11 (cond e 12 (cond f 13 (cond g 14 (cond h 15 (cond i 16 10)))))))))
+rows true b c d e f g h i = (omega arith, omega arith)
+rows false true c d e f g h i = (omega arith, omega arith)
+rows false false true d e f g h i = (omega arith, omega arith)
+rows false false false true e f g h i = (omega arith, omega arith)
+rows false false false false true f g h i = (omega arith, omega arith)
+rows false false false false false true g h i = (omega arith, omega arith)
+rows false false false false false false true h i = (omega arith, omega arith)
+rows false false false false false false false true i = (omega arith, omega arith)
+rows false false false false false false false false true = (omega arith, omega arith)
+rows false false false false false false false false false = (omega arith, omega arith)
+
+-- before them a token that is none has its kind
+own-kind : (kind n : ℕ) (b : Bool) → ltb kind 7 ≡ b → 3 ≤ kind → Between n → Between (cond b kind n)
+own-kind kind n true e l h = let k : suc kind ≤ 7 = ltb-true kind 7 e in (l, omega arith)
+own-kind kind n false e l h = h
+
+number-between : (c r : List Lexeme) → Each Kinded r → Between (numberAt c r)
+unfolding numberAt numberOf
+number-between c [] h = (omega arith, omega arith)
+number-between c (x ∷ r) (and-each k h) =
+    own-kind (x .kind) _ (ltb (x .kind) 7) refl (k .low)
+    (rows (atName c && isReserved x) (afterLeft c && endsBare x) (atType c && is kinds.name x) (atName c && is kinds.name x && afterAction c) (atCondition c && deepens x)
+    (atPattern c && is kinds.string x) (oneMore mostLiterals c x) (afterPolicy c && isEffect x) (atName c && is kinds.name x))
+
+-- a refused token's number
+pub token-number : {text : List ℕ} {number line column : ℕ} → RefusedThere text number line column → Between number
+token-number {text} r =
+    let p = r .rightly in
+    rw (r .number-is) (number-between _ (r .rest) (each-right (p .before) (r .rest) (rw (p .split) at (all-kinded text))))

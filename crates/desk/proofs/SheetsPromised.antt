@@ -1,0 +1,178 @@
+-- What the desk promises of sheets: the list, its pages, the refusals. Assumes nothing.
+use mathlib.Core.Path.{_≡_, refl, sym, ap, _∙_, subst}
+use mathlib.Core.Logic.{_↔_}
+use mathlib.Core.Bool.{true}
+use mathlib.Core.List.{List, [], _∷_, _++_, List·Memᴰ}
+use Prim.Native.Nat.{ℕ, zero, suc, _+_, _*_, _≤_, _<_, zero-le}
+use native.Mathlib.Omega.{arith}
+use lib.ListN.{length, getD, take, drop}
+use lib.Seq.{take-at, drop-at, length-take-le}
+use Rattle.tokens.proofs.TokenLaws.{never}
+use Rattle.questions.specs.Questions.{isQuestion}
+use Rattle.meaning.specs.Targets.{Request, isSystem}
+use Rattle.meaning.specs.Decisions.{decisionOf, outcomeOf, policyOf, isAllowed}
+use Rattle.meaning.specs.declared.Decision.{Decision}
+use Rattle.meaning.specs.declared.Decision.the-variants.{Allowed, Forbidden, Nothing, System}
+use Rattle.pages.specs.Rows.{Combination, rowOf, choicesAt}
+use Rattle.pages.specs.Listing.{pageRows, nextRow, rowSize, roomIn, bytesOf, over}
+use Rattle.pages.proofs.Listed.{lists-yes}
+use Rattle.pages.proofs.Progress.{bytes-length}
+use Rattle.sheets.specs.Sheets.{decisionBy, decisions, rowsAsked, refusalOf, unless, answerOf, sheetAfter, saidOf, saidTo}
+use Rattle.sheets.specs.Promise as sheets
+use Rattle.sheets.specs.Promise.{countsAsked, listedFrom, ListedRightly, Called, no-call, call, PagesJoined, GoesOn, OthersStay, NothingChanged, no-room, no-question, above, never-the-system, bad-subject, bad-action, bad-resource, not-compiled, none-wrong}
+use Rattle.sheets.specs.declared.Answer.the-variants.{Listed, Refused}
+use Rattle.sheets.proofs.Promised as sheets-proofs
+use Rattle.desk.specs.Answers.{sheetSays, sheetLeaves, decideSays, viewOfRow}
+use Rattle.desk.specs.Promises.{Yes, allowed, system, writtenBy, pageOf, Pages, no-page, page, Shows}
+use Rattle.desk.specs.declared.DeskDecision.{DeskDecision}
+use Rattle.desk.proofs.RequestsPromised.{among, decided-over}
+
+-- ---- the list
+
+pub decided-alike : (text table question : List ℕ) (q : Request) (row : ℕ) (bag : List ℕ) → isQuestion question ≡ true → decideSays text table bag q .refusal ≡ 0
+    → Shows bag question row → (decideSays text table bag q .outcome ≡ outcomeOf (decisions text question q row)) × (decideSays text table bag q .policy ≡ policyOf (decisions text question q row))
+unfolding decisionBy
+decided-alike text table question q row bag form e shows = decided-over text table bag q e (viewOfRow question row) shows
+
+-- a decision is yes by its outcome
+no-yes : {r : DeskDecision} → (r .outcome ≡ 1 → ⊥) → (r .outcome ≡ 4 → ⊥) → Yes r → ⊥
+no-yes f g (allowed e) = f e
+no-yes f g (system e) = g e
+
+yes-by-outcome : (d : Decision) {r : DeskDecision} → r .outcome ≡ outcomeOf d → (isAllowed d ≡ true) ↔ Yes r
+unfolding isAllowed outcomeOf
+yes-by-outcome (Allowed n) e = (λ y. allowed e, λ y. refl)
+yes-by-outcome (Forbidden n) e = (λ y. absurd (never y), λ y. absurd (no-yes (λ z. omega arith) (λ z. omega arith) y))
+yes-by-outcome Nothing e = (λ y. absurd (never y), λ y. absurd (no-yes (λ z. omega arith) (λ z. omega arith) y))
+yes-by-outcome System e = (λ y. system e, λ y. refl)
+
+pub listed-alike : (text table question : List ℕ) (q : Request) (row : ℕ) (bag : List ℕ) → isQuestion question ≡ true → decideSays text table bag q .refusal ≡ 0
+    → Shows bag question row → row < rowsAsked question → List·Memᴰ row (listedFrom text question q 0) ↔ Yes (decideSays text table bag q)
+listed-alike text table question q row bag form e shows below =
+    let both = lists-yes (decisions text question q) (rowsAsked question) 0 row in
+    let yes = yes-by-outcome (decisions text question q row) (decided-alike text table question q row bag form e shows .0) in
+    (λ m. yes .0 (both .0 m .2), λ y. both .1 (zero-le, below, yes .1 y))
+
+pub system-rows : (text question : List ℕ) (q : Request) (row : ℕ) → isSystem (q .subject) ≡ true
+    → (outcomeOf (decisions text question q row) ≡ 4) × (policyOf (decisions text question q row) ≡ 0)
+unfolding decisionBy decisionOf outcomeOf policyOf
+system-rows text question q row s = rw s (refl, refl)
+
+pub only-combinations : (text question : List ℕ) (q : Request) (row : ℕ) → isQuestion question ≡ true → List·Memᴰ row (listedFrom text question q 0)
+    → Combination (countsAsked question) (choicesAt (countsAsked question) row) × (rowOf (countsAsked question) (choicesAt (countsAsked question) row) ≡ row)
+unfolding ListedRightly
+only-combinations text question q row form m = let l = sheets-proofs.listed-rightly text question q 0 row form .0 m in (l .combination, l .its-row)
+
+pub from-start : (text question : List ℕ) (q : Request) (start row : ℕ) → List·Memᴰ row (listedFrom text question q start) ↔ ((start ≤ row) × List·Memᴰ row (listedFrom text question q 0))
+from-start text question q start row =
+    let here = lists-yes (decisions text question q) (rowsAsked question) start row in
+    let all = lists-yes (decisions text question q) (rowsAsked question) 0 row in
+    (λ m. let h = here .0 m in (h .0, all .1 (zero-le, h .1, h .2)), λ h. let k = all .0 (h .1) in here .1 (h .0, k .1, k .2))
+
+-- ---- the pages
+
+called : {text table question : List ℕ} {q : Request} {start last : ℕ} {bytes : List ℕ} → Pages text table question q start bytes last → Called text table question q start bytes last
+unfolding sheetSays
+called no-page = no-call
+called (page sheet at e more) = call (record { answered = refl; sheet = refl }) e (called more)
+
+pub pages-joined : (text table question : List ℕ) (q : Request) (start : ℕ) (bytes : List ℕ) → Pages text table question q start bytes (rowsAsked question)
+    → bytes ≡ bytesOf (decisions text question q) (listedFrom text question q start)
+unfolding PagesJoined
+pages-joined text table question q start bytes p = sheets-proofs.pages-joined text table question q start bytes (called p)
+
+-- the refusal's number that is answered
+number-given : (n w o : ℕ) → saidOf (unless n (Listed w o) Refused) .refusal ≡ n
+unfolding saidOf unless
+number-given zero w o = refl
+number-given (suc n) w o = refl
+
+module _ (text table question : List ℕ) (q : Request) (start : ℕ) (sheet : List ℕ) (at : ℕ) where
+  pub goes-on : sheetSays text table question q start sheet at .refusal ≡ 0
+      → (start < rowsAsked question → start < sheetSays text table question q start sheet at .next) × (sheetSays text table question q start sheet at .next ≤ rowsAsked question)
+  unfolding sheetSays GoesOn
+  goes-on = sheets-proofs.goes-on text table question q start at sheet
+
+  pub others-stay : sheetSays text table question q start sheet at .refusal ≡ 0
+      → (take at (sheetLeaves text table question q start sheet at) ≡ take at sheet)
+      × (drop (at + rowSize * sheetSays text table question q start sheet at .written) (sheetLeaves text table question q start sheet at)
+      ≡ drop (at + rowSize * sheetSays text table question q start sheet at .written) sheet)
+  unfolding sheetSays OthersStay
+  others-stay = sheets-proofs.others-stay text table question q start at sheet
+
+  -- ---- the refusals
+
+  pub sheet-exactly : (number : ℕ) → (sheetSays text table question q start sheet at .refusal ≡ number) ↔ sheets.Refusal text table question q start sheet at number
+  unfolding sheetSays sheets.RefusedRightly sheets.OneRefusal
+  sheet-exactly number =
+      let rightly = sheets-proofs.refused-rightly text table question q start sheet at in
+      (λ e. subst (sheets.Refusal text table question q start sheet at) e rightly, sheets-proofs.one-refusal text table question q start sheet at (saidTo text table question q start sheet at .refusal) number rightly)
+
+  number-is : {n : ℕ} → sheets.Refusal text table question q start sheet at n → List·Memᴰ n (0 ∷ 20 ∷ 21 ∷ 22 ∷ 23 ∷ 24 ∷ 25 ∷ 26 ∷ [])
+  number-is (no-room h) = among 25 _ refl
+  number-is (no-question h e) = among 24 _ refl
+  number-is (above h e l) = among 26 _ refl
+  number-is (never-the-system w e) = among 0 _ refl
+  number-is (bad-subject w e f) = among 21 _ refl
+  number-is (bad-action w e f g) = among 22 _ refl
+  number-is (bad-resource w e f g h) = among 23 _ refl
+  number-is (not-compiled w f n) = among 20 _ refl
+  number-is (none-wrong w f b) = among 0 _ refl
+
+  pub sheet-refusals : List·Memᴰ (sheetSays text table question q start sheet at .refusal) (0 ∷ 20 ∷ 21 ∷ 22 ∷ 23 ∷ 24 ∷ 25 ∷ 26 ∷ [])
+  sheet-refusals = number-is (sheet-exactly (sheetSays text table question q start sheet at .refusal) .0 refl)
+
+  pub sheet-stays : (sheetSays text table question q start sheet at .refusal ≡ 0 → ⊥) → sheetLeaves text table question q start sheet at ≡ sheet
+  unfolding sheetSays NothingChanged
+  sheet-stays n = sheets-proofs.nothing-changed text table question q start sheet at n .0
+
+  pub sheet-zeros : (sheetSays text table question q start sheet at .refusal ≡ 0 → ⊥)
+      → (sheetSays text table question q start sheet at .written ≡ 0) × (sheetSays text table question q start sheet at .next ≡ 0)
+  unfolding sheetSays NothingChanged
+  sheet-zeros n = let z = sheets-proofs.nothing-changed text table question q start sheet at n in (z .1, z .2)
+
+  -- ---- a page
+
+  room-by : {n : ℕ} → n ≡ 0 → sheets.Refusal text table question q start sheet at n → at + rowSize ≤ length sheet
+  room-by z (no-room h) = absurd (omega arith)
+  room-by z (no-question h e) = absurd (omega arith)
+  room-by z (above h e l) = absurd (omega arith)
+  room-by z (never-the-system w e) = w .room
+  room-by z (bad-subject w e f) = absurd (omega arith)
+  room-by z (bad-action w e f g) = absurd (omega arith)
+  room-by z (bad-resource w e f g h) = absurd (omega arith)
+  room-by z (not-compiled w f n) = absurd (omega arith)
+  room-by z (none-wrong w f b) = w .room
+
+  module _ (e : sheetSays text table question q start sheet at .refusal ≡ 0) where
+    abbrev rows : List ℕ
+    rows = pageOf text question q start sheet at
+
+    none-given : refusalOf text table question q start sheet at ≡ 0
+    unfolding sheetSays answerOf
+    none-given = sym (number-given (refusalOf text table question q start sheet at) _ _) ∙ e
+
+    written-is : sheetSays text table question q start sheet at .written ≡ length rows
+    unfolding sheetSays answerOf unless saidOf pageRows
+    written-is = rw none-given
+
+    next-is : sheetSays text table question q start sheet at .next ≡ getD (listedFrom text question q start) (roomIn (drop at sheet)) (rowsAsked question)
+    unfolding sheetSays answerOf unless saidOf nextRow
+    next-is = rw none-given
+
+    leaves-is : sheetLeaves text table question q start sheet at ≡ take at sheet ++ over (bytesOf (decisions text question q) rows) (drop at sheet)
+    unfolding sheetAfter unless pageRows
+    leaves-is = rw none-given
+
+    bytes-are : writtenBy text table question q start sheet at ≡ bytesOf (decisions text question q) rows
+    bytes-are =
+        let bytes = bytesOf (decisions text question q) rows in
+        let room = room-by e (sheet-exactly (sheetSays text table question q start sheet at .refusal) .0 refl) in
+        let front : length (take at sheet) ≡ at = length-take-le at sheet (omega arith) in
+        let long : length bytes ≡ rowSize * sheetSays text table question q start sheet at .written = bytes-length (decisions text question q) rows ∙ ap (λ (n : ℕ). rowSize * n) (sym written-is) in
+        rw (leaves-is, drop-at (take at sheet) (over bytes (drop at sheet)) at front) (take-at bytes (drop (length bytes) (drop at sheet)) (rowSize * sheetSays text table question q start sheet at .written) long)
+
+    pub page-rightly : (sheetSays text table question q start sheet at .written ≡ length (pageOf text question q start sheet at))
+        × (writtenBy text table question q start sheet at ≡ bytesOf (decisions text question q) (pageOf text question q start sheet at))
+        × (sheetSays text table question q start sheet at .next ≡ getD (listedFrom text question q start) (roomIn (drop at sheet)) (rowsAsked question))
+    page-rightly = (written-is, bytes-are, next-is)

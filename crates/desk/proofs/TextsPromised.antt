@@ -1,0 +1,190 @@
+-- What the desk promises of rule texts: when a text is accepted, what it gets, and which refusal it gets otherwise. Assumes nothing.
+use mathlib.Core.Path.{_≡_, refl, ap₂, _∙_}
+use mathlib.Core.Logic.{_↔_}
+use mathlib.Core.Bool.{Bool, true, false}
+use mathlib.Core.List.{List, [], _++_}
+use Prim.Native.Nat.{ℕ, _≤_, _<_}
+use native.Mathlib.Omega.{arith}
+use borrow.Author.Tests.{ltb-true, ltb-false, le-ltb}
+use lib.Dec.{ltb}
+use lib.ListN.{length, drop}
+use Rattle.reading.specs.Lexemes.{choose, tokensOf}
+use Rattle.reading.specs.Reader.{took}
+use Rattle.grammar.specs.Policies.{Policy}
+use Rattle.grammar.specs.Parser.{read-text}
+use Rattle.grammar.specs.Promise as grammar
+use Rattle.grammar.specs.Promise.{Unambiguous}
+use Rattle.grammar.proofs.Exactly as grammar-proofs
+use Rattle.compiling.specs.Outcome.{mostBytes, roomFor, compiledBytes, said, compiledOf, saidOf, tableBy, tableAfter}
+use Rattle.compiling.specs.Promise.{AcceptedExactly, UnfitExactly, RefusedThere, RefusedRightly, NothingChanged, ZerosElsewhere}
+use Rattle.compiling.specs.declared.Compiled.{Compiled}
+use Rattle.compiling.specs.declared.Compiled.the-variants.{Policies, Refused}
+use Rattle.compiling.proofs.Promised.{accepted, unfit, refused-there, nothing-changed, zeros-elsewhere}
+use Rattle.desk.specs.Answers.{compileSays, compileLeaves}
+use Rattle.desk.specs.Promises.{Says, Belongs}
+use Rattle.desk.proofs.RefusalNumbers.{token-number}
+use Rattle.desk.proofs.RefusedTokens.{not-refused, one-refusal}
+
+-- a text says one list of policies
+pub one-reading : (text : List ℕ) (ps qs : List Policy) → Says text ps → Says text qs → ps ≡ qs
+unfolding Unambiguous
+one-reading text ps qs a b = grammar-proofs.one-reading (tokensOf text) ps qs (a .belongs) (b .belongs)
+
+-- it is read as these
+pub read-as : (text : List ℕ) (ps : List Policy) → Says text ps → read-text (tokensOf text) ≡ took ps []
+unfolding grammar.AcceptedExactly
+read-as text ps s = grammar-proofs.accepted-exactly (tokensOf text) ps .1 (s .belongs)
+
+module _ (text table : List ℕ) where
+  -- what compiling answers, and why
+  data Told (c : Compiled) : Type 0 where
+    told-accepted : (ps : List Policy) → Says text ps → roomFor text ≤ length table → c ≡ Policies (length ps) (length (compiledBytes ps)) → Told c
+    told-long : mostBytes < length text → c ≡ Refused 1 0 0 → Told c
+    told-no-room : length text ≤ mostBytes → length table < roomFor text → c ≡ Refused 2 0 0 → Told c
+    told-broken : (number line column : ℕ) → length text ≤ mostBytes → roomFor text ≤ length table → RefusedThere text number line column → c ≡ Refused number line column → Told c
+
+  by-tokens : length text ≤ mostBytes → roomFor text ≤ length table → (c : Compiled) → compiledOf text (length table) ≡ c → Told c
+  unfolding AcceptedExactly RefusedRightly
+  by-tokens l h (Policies policies bytes) e =
+      let b = accepted text (length table) policies bytes l h .0 e in
+      told-accepted (b .value) (record { short = l; belongs = b .belongs }) h (ap₂ Policies (b .many) (b .used))
+  by-tokens l h (Refused number line column) e = told-broken number line column l h (refused-there text (length table) number line column l h e) refl
+
+  long-answer : mostBytes < length text → compiledOf text (length table) ≡ Refused 1 0 0
+  unfolding UnfitExactly
+  long-answer h = unfit text (length table) .0 .1 (λ l. omega arith)
+
+  no-room-answer : length text ≤ mostBytes → length table < roomFor text → compiledOf text (length table) ≡ Refused 2 0 0
+  unfolding UnfitExactly
+  no-room-answer l h = unfit text (length table) .1 .1 (l, λ m. omega arith)
+
+  told : Told (compiledOf text (length table))
+  told = go (ltb mostBytes (length text)) refl (ltb (length table) (roomFor text)) refl
+    where
+      go : (a : Bool) → ltb mostBytes (length text) ≡ a → (b : Bool) → ltb (length table) (roomFor text) ≡ b → Told (compiledOf text (length table))
+      go true x b y = told-long (ltb-true _ _ x) (long-answer (ltb-true _ _ x))
+      go false x true y = told-no-room (ltb-false _ _ x) (ltb-true _ _ y) (no-room-answer (ltb-false _ _ x) (ltb-true _ _ y))
+      go false x false y = by-tokens (ltb-false _ _ x) (ltb-false _ _ y) (compiledOf text (length table)) refl
+
+  -- ---- demand 1
+
+  number-few : {c : Compiled} → Told c → saidOf c .refusal ≤ 16
+  unfolding saidOf
+  number-few (told-accepted ps s h e) = rw e (omega arith)
+  number-few (told-long l e) = rw e (omega arith)
+  number-few (told-no-room l h e) = rw e (omega arith)
+  number-few (told-broken number line column l h r e) = rw e (token-number r .1)
+
+  pub compile-refusals : compileSays text table .refusal ≤ 16
+  unfolding compileSays
+  compile-refusals = number-few told
+
+  its-place : {c : Compiled} → Told c → 2 < saidOf c .refusal → RefusedThere text (saidOf c .refusal) (saidOf c .line) (saidOf c .column)
+  unfolding saidOf
+  its-place (told-accepted ps s h e) = rw e (λ n. absurd (omega arith))
+  its-place (told-long l e) = rw e (λ n. absurd (omega arith))
+  its-place (told-no-room l h e) = rw e (λ n. absurd (omega arith))
+  its-place (told-broken number line column l h r e) = rw e (λ n. r)
+
+  pub placed : 2 < compileSays text table .refusal → RefusedThere text (compileSays text table .refusal) (compileSays text table .line) (compileSays text table .column)
+  unfolding compileSays
+  placed = its-place told
+
+  without-place : {c : Compiled} → Told c → saidOf c .refusal ≤ 2 → (saidOf c .line ≡ 0) × (saidOf c .column ≡ 0)
+  unfolding saidOf
+  without-place (told-accepted ps s h e) = rw e (λ n. (refl, refl))
+  without-place (told-long l e) = rw e (λ n. (refl, refl))
+  without-place (told-no-room l h e) = rw e (λ n. (refl, refl))
+  without-place (told-broken number line column l h r e) = rw e (λ n. absurd (let k = token-number r .0 in omega arith))
+
+  pub no-place : compileSays text table .refusal ≤ 2 → (compileSays text table .line ≡ 0) × (compileSays text table .column ≡ 0)
+  unfolding compileSays
+  no-place = without-place told
+
+  pub table-stays : (compileSays text table .refusal ≡ 0 → ⊥) → compileLeaves text table ≡ table
+  unfolding compileSays saidOf NothingChanged
+  table-stays = go (compiledOf text (length table)) refl
+    where
+      go : (c : Compiled) → compiledOf text (length table) ≡ c → (saidOf c .refusal ≡ 0 → ⊥) → tableAfter text table ≡ table
+      go (Policies policies bytes) e n = absurd (n refl)
+      go (Refused number line column) e n = nothing-changed text table number line column e
+
+  -- ---- demand 2
+
+  accepted-says : {c : Compiled} → Told c → saidOf c .refusal ≡ 0 → Belongs text
+  unfolding saidOf
+  accepted-says (told-accepted ps s h e) = rw e (λ n. record { policies = ps; says = s })
+  accepted-says (told-long l e) = rw e (λ n. absurd (omega arith))
+  accepted-says (told-no-room l h e) = rw e (λ n. absurd (omega arith))
+  accepted-says (told-broken number line column l h r e) = rw e (λ n. absurd (let k = token-number r .0 in omega arith))
+
+  says-accepted : (ps : List Policy) → Says text ps → roomFor text ≤ length table → compiledOf text (length table) ≡ Policies (length ps) (length (compiledBytes ps))
+  unfolding AcceptedExactly
+  says-accepted ps s h =
+      accepted text (length table) (length ps) (length (compiledBytes ps)) (s .short) h .1 (record { value = ps; belongs = s .belongs; many = refl; used = refl })
+
+  pub accepted-exactly : roomFor text ≤ length table → (compileSays text table .refusal ≡ 0) ↔ Belongs text
+  unfolding compileSays saidOf
+  accepted-exactly h = (accepted-says told, λ b. rw (says-accepted (b .policies) (b .says) h))
+
+  roomy : {c : Compiled} → Told c → saidOf c .refusal ≡ 0 → roomFor text ≤ length table
+  unfolding saidOf
+  roomy (told-accepted ps s h e) = λ n. h
+  roomy (told-long l e) = rw e (λ n. absurd (omega arith))
+  roomy (told-no-room l h e) = rw e (λ n. absurd (omega arith))
+  roomy (told-broken number line column l h r e) = λ n. h
+
+  pub compiled : (ps : List Policy) → compileSays text table .refusal ≡ 0 → Says text ps
+      → (compileSays text table .policies ≡ length ps)
+      × (compileSays text table .bytes ≡ length (compiledBytes ps))
+      × (compileLeaves text table ≡ compiledBytes ps ++ drop (length (compiledBytes ps)) table)
+  unfolding compileSays saidOf tableAfter tableBy choose said
+  compiled ps n s =
+      let h = roomy told n in
+      let e = says-accepted ps s h in
+      (rw e, rw e, rw (le-ltb _ _ (s .short), le-ltb _ _ h, read-as text ps s))
+
+  -- ---- the refusals by size, and the zeros
+
+  long-then : {c : Compiled} → Told c → saidOf c .refusal ≡ 1 → mostBytes < length text
+  unfolding saidOf
+  long-then (told-accepted ps s h e) = rw e (λ n. absurd (omega arith))
+  long-then (told-long l e) = λ n. l
+  long-then (told-no-room l h e) = rw e (λ n. absurd (omega arith))
+  long-then (told-broken number line column l h r e) = rw e (λ n. absurd (let k = token-number r .0 in omega arith))
+
+  pub too-long : (compileSays text table .refusal ≡ 1) ↔ (mostBytes < length text)
+  unfolding compileSays saidOf
+  too-long = (long-then told, λ h. rw (long-answer h))
+
+  no-room-then : {c : Compiled} → Told c → saidOf c .refusal ≡ 2 → (length text ≤ mostBytes) × (length table < roomFor text)
+  unfolding saidOf
+  no-room-then (told-accepted ps s h e) = rw e (λ n. absurd (omega arith))
+  no-room-then (told-long l e) = rw e (λ n. absurd (omega arith))
+  no-room-then (told-no-room l h e) = λ n. (l, h)
+  no-room-then (told-broken number line column l h r e) = rw e (λ n. absurd (let k = token-number r .0 in omega arith))
+
+  pub no-room : (compileSays text table .refusal ≡ 2) ↔ ((length text ≤ mostBytes) × (length table < roomFor text))
+  unfolding compileSays saidOf
+  no-room = (no-room-then told, λ h. rw (no-room-answer (h .0) (h .1)))
+
+  -- ---- the refusals by token
+
+  token-answer : {number line column : ℕ} → length text ≤ mostBytes → roomFor text ≤ length table → RefusedThere text number line column → {c : Compiled} → Told c → c ≡ Refused number line column
+  token-answer l h r (told-accepted ps s k e) = absurd (not-refused (tokensOf text) (r .rest) ps (s .belongs) (r .rightly))
+  token-answer l h r (told-long k e) = absurd (omega arith)
+  token-answer l h r (told-no-room k m e) = absurd (omega arith)
+  token-answer l h r (told-broken n k c x y z e) = let q = one-refusal z r in e ∙ (λ i. Refused (q .0 i) (q .1 i) (q .2 i))
+
+  refused-as : {number line column : ℕ} → compiledOf text (length table) ≡ Refused number line column
+      → compileSays text table ≡ record { refusal = number; line = line; column = column; policies = 0; bytes = 0 }
+  unfolding compileSays saidOf
+  refused-as e = rw e
+
+  pub token-exactly : (number line column : ℕ) → length text ≤ mostBytes → roomFor text ≤ length table → 2 < number
+      → (compileSays text table ≡ record { refusal = number; line = line; column = column; policies = 0; bytes = 0 }) ↔ RefusedThere text number line column
+  token-exactly number line column l h m = (λ e. rw e at (placed) m, λ r. refused-as (token-answer l h r told))
+
+  pub compile-zeros : (compileSays text table .refusal ≡ 0 → ⊥) → (compileSays text table .policies ≡ 0) × (compileSays text table .bytes ≡ 0)
+  unfolding compileSays ZerosElsewhere
+  compile-zeros = zeros-elsewhere (compiledOf text (length table))

@@ -1,0 +1,65 @@
+-- What each call of the desk answers and leaves, as functions of what it is lent: document 01's numbers and values for each case. Definitions only.
+use mathlib.Core.Bool.{Bool}
+use mathlib.Core.List.{List}
+use Prim.Native.Nat.{ℕ}
+use lib.ListN.{length}
+use Rattle.compiling.specs.Outcome as compiling
+use Rattle.meaning.specs.Targets.{Request}
+use Rattle.deciding.specs.Answers as deciding
+use Rattle.lookups.specs.Lookups as lookups
+use Rattle.views.specs.Meaning.{View, look}
+use Rattle.views.specs.Rows.{bagOfRow}
+use Rattle.pages.specs.Rows.{choicesAt}
+use Rattle.sheets.specs.Sheets as sheets
+use Rattle.desk.specs.declared.DeskCompiled.{DeskCompiled}
+use Rattle.desk.specs.declared.DeskDecision.{DeskDecision}
+use Rattle.desk.specs.declared.DeskValue.{DeskValue}
+use Rattle.desk.specs.declared.DeskPage.{DeskPage}
+
+-- ---- compile(text, table)
+
+abbrev pub compiledAs : compiling.Said → DeskCompiled
+compiledAs s = record { refusal = s .refusal; line = s .line; column = s .column; policies = s .policies; bytes = s .bytes }
+
+unfoldable pub compileSays : List ℕ → List ℕ → DeskCompiled
+compileSays text table = compiledAs (compiling.saidOf (compiling.compiledOf text (length table)))
+
+abbrev pub compileLeaves : List ℕ → List ℕ → List ℕ
+compileLeaves text table = compiling.tableAfter text table
+
+-- ---- begins(text, table)
+
+abbrev pub beginsSays : List ℕ → List ℕ → Bool
+beginsSays text table = compiling.beginsOf text table
+
+-- ---- decide(text, table, bag, subject, action, resource)
+
+abbrev pub decidedAs : deciding.Said → DeskDecision
+decidedAs s = record { refusal = s .refusal; outcome = s .outcome; policy = s .policy }
+
+unfoldable pub decideSays : List ℕ → List ℕ → List ℕ → Request → DeskDecision
+decideSays text table bag q = decidedAs (deciding.saidOf (deciding.answerOf text table bag q))
+
+-- ---- lookup(bag, root, path), string(bag, root, path)
+
+abbrev pub foundAs : lookups.Said → DeskValue
+foundAs s = record { refusal = s .refusal; kind = s .kind; number = s .number; place = s .place }
+
+unfoldable pub lookupSays : List ℕ → ℕ → List ℕ → DeskValue
+lookupSays bag root path = foundAs (lookups.said (lookups.lookupOf bag root path))
+
+-- ---- sheet(text, table, question, subject, action, resource, start, sheet, at)
+
+abbrev pub listedAs : sheets.Said → DeskPage
+listedAs s = record { refusal = s .refusal; written = s .written; next = s .next }
+
+unfoldable pub sheetSays : List ℕ → List ℕ → List ℕ → Request → ℕ → List ℕ → ℕ → DeskPage
+sheetSays text table question q start sheet at = listedAs (sheets.saidTo text table question q start sheet at)
+
+abbrev pub sheetLeaves : List ℕ → List ℕ → List ℕ → Request → ℕ → List ℕ → ℕ → List ℕ
+sheetLeaves text table question q start sheet at = sheets.sheetAfter text table question q start sheet at
+
+-- the attributes of a row: the base with each column's attribute set to its choice or removed
+abbrev pub viewOfRow : List ℕ → ℕ → View
+viewOfRow question row = look (bagOfRow question (sheets.sectionsIn question) (sheets.columnsIn question (sheets.sectionsIn question)) (sheets.firstIn (sheets.sectionsIn question))
+    (choicesAt (sheets.countsIn question (sheets.sectionsIn question)) row))

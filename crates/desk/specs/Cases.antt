@@ -1,0 +1,59 @@
+-- Document 01's checked examples A to L as one statement over the desk's answers. Definitions only.
+use mathlib.Core.Path.{_≡_}
+use mathlib.Core.List.{List, [], _∷_, _++_}
+use Prim.Native.Nat.{ℕ, zero, suc, _*_}
+use Prim.Native.String.{String}
+use lib.ListN.{length}
+use Rattle.slices.specs.Ascii.{bytes}
+use Rattle.compiling.specs.Promise.{bytesFor}
+use Rattle.desk.specs.Answers.{compileSays, decideSays}
+use Rattle.desk.specs.declared.DeskCompiled.{DeskCompiled}
+use Rattle.desk.specs.declared.DeskDecision.{DeskDecision}
+
+-- a table of n bytes
+abbrev pub blank : ℕ → List ℕ
+blank zero = []
+blank (suc n) = 0 ∷ blank n
+
+-- what compiling answers where just enough table is lent
+abbrev pub compiled : List ℕ → DeskCompiled
+compiled text = compileSays text (blank (8 * length text))
+
+abbrev pub refusedAt : ℕ → ℕ → ℕ → DeskCompiled
+refusedAt number line column = record { refusal = number; line = line; column = column; policies = 0; bytes = 0 }
+
+-- document 01's P, and P with a condition
+abbrev pub P : List ℕ
+P = bytes "permit(principal,action,resource)"
+
+abbrev pub P-when : String → List ℕ
+P-when condition = P ++ bytes "when{" ++ bytes condition ++ bytes "};"
+
+-- what is decided where person:K7 wants to teach shaft:A and no attribute is known, over a text and its compiled bytes
+abbrev pub decided : List ℕ → DeskDecision
+decided text =
+    decideSays text (bytesFor text) (0 ∷ 0 ∷ 0 ∷ []) (record { subject = bytes "person:K7"; action = bytes "teach"; resource = bytes "shaft:A" })
+
+abbrev pub outcome : ℕ → ℕ → DeskDecision
+outcome number policy = record { refusal = 0; outcome = number; policy = policy }
+
+-- a condition is true: it makes policy 1 decide; or it is false: nothing is satisfied
+abbrev pub Holds : String → Type 0
+Holds condition = decided (P-when condition) ≡ outcome 1 1
+
+abbrev pub Fails : String → Type 0
+Fails condition = decided (P-when condition) ≡ outcome 3 0
+
+pub record CasesAtoL : Type 0 where
+  pub A : (compiled [] .refusal ≡ 0) × (compiled [] .policies ≡ 0)
+  pub B : (compiled (P ++ bytes ";") .refusal ≡ 0) × (compiled (P ++ bytes ";") .policies ≡ 1)
+  pub C : compiled P ≡ refusedAt 10 1 34
+  pub D : compiled (P-when "principal.a") ≡ refusedAt 8 1 50
+  pub E : compiled (P-when "principal.if==1") ≡ refusedAt 7 1 49
+  pub F : compiled (P-when "action.kind==\"x\"") ≡ refusedAt 11 1 46
+  pub G : Holds "true || false && false"
+  pub H : Fails "if true then true else true && false"
+  pub I : Fails "principal.a != \"x\"" × Holds "!(principal.a != \"x\")"
+  pub J : Holds "\"shaft:A1\" like \"shaft:*\"" × Holds "\"shaft:\" like \"shaft:*\"" × Fails "\"shaft:b:A1\" like \"shaft:*\""
+  pub K : Holds "\"A1A1\" like \"*A1\""
+  pub L : decided (P ++ bytes ";forbid(principal,action,resource);") ≡ outcome 2 2

@@ -1,0 +1,73 @@
+-- What the desk's promises rest on, on one page: theorems of the crates below that no other page of specs/ states. proofs/Grounded.antt cites the proof of each. Definitions only.
+-- That a look-up has one answer, and that a string's bytes are one part of the bag, is in `OneResult` (Promises.antt).
+use mathlib.Core.Path.{_≡_}
+use mathlib.Core.Bool.{true, false, cond}
+use mathlib.Core.List.{List, []}
+use Prim.Native.Nat.{ℕ, _^_, _≤_, _<_}
+use lib.Dec.{ltb}
+use lib.Ieee.{binary64, ofInt, div}
+use lib.ListN.{length, getD}
+use lib.IntN.{pos}
+use Rattle.slices.specs.Decides.{Decides}
+use Rattle.tokens.specs.Forms.{StandsAt}
+use Rattle.tokens.specs.Tokens.{tokenAt}
+use Rattle.tokens.specs.declared.reader.Token.{Token}
+use Rattle.numbers.specs.Literals.{Literal, WellFormed, written, signed, quotient, allDigits, places, numberIn}
+use Rattle.patterns.specs.Like.{Matches}
+use Rattle.patterns.specs.Likes.{likes}
+use Rattle.grammar.specs.Policies.{Policy}
+use Rattle.placing.specs.Placed.{PoliciesPlaced}
+use Rattle.table.specs.Entries.{policiesEntries}
+use Rattle.table.specs.Layout.{Begins}
+use Rattle.stored.specs.ReadBack.{policiesAt}
+use Rattle.compiling.specs.Outcome.{compiledBytes}
+use Rattle.bags.specs.Paths.{isPath}
+use Rattle.bags.specs.Sections.{sectionsOf, isBag}
+use Rattle.bags.specs.declared.sections.Sections.{Sections}
+use Rattle.bags.specs.declared.sections.Divided.the-variants.{In}
+use Rattle.lookups.specs.Values.{nought}
+use Rattle.questions.specs.Questions.{Question, headOf, cell}
+use Rattle.views.specs.Meaning.{Datum, Bag, Chosen, present, look, hasPath, rowBag, columnsFirst}
+use Rattle.views.specs.Rows.{rowView, bagOfRow, Chooses}
+use Rattle.sheets.specs.Sheets.{columnsIn, firstIn}
+use Rattle.desk.specs.Answers.{lookupSays}
+use Rattle.desk.specs.Promises.{Says}
+use Rattle.desk.specs.declared.DeskValue.{DeskValue}
+
+-- what a look-up says of an attribute that is not there
+abbrev pub notThere : DeskValue
+notThere = record { refusal = 0; kind = 0; number = nought; place = 0 }
+
+-- the places that code holds for a row of a question: where its columns start, where each candidate's kind byte stands, and where the chosen ones' do; six columns, eight candidates
+pub record Held (question : List ℕ) (p : Sections) (choices heads : List ℕ) (grid : List (List ℕ)) (values : List ℕ) : Type 0 where
+  pub is-question : Question question p
+  pub chooses : Chooses (columnsIn question p) question (firstIn p) choices
+  pub heads-are : (i : ℕ) → i < 6 → getD heads i 0 ≡ cond (ltb i (columnsIn question p)) (headOf question (firstIn p) i) 0
+  pub grid-is : (i j : ℕ) → i < 6 → j < 8 → getD (getD grid i []) j 0 ≡ cell question (firstIn p) (columnsIn question p) i j
+  pub values-are : (i : ℕ) → i < 6 → getD values i 0 ≡ cond (ltb i (columnsIn question p)) (getD (getD grid i []) (getD choices i 0) 0) 0
+
+pub record Grounds : Type 0 where
+  -- The longest possible token is read, and at each place of a text stands one token, or one refusal.
+  pub longest-token : (text : List ℕ) (at : ℕ) → at ≤ length text → StandsAt text at (tokenAt text at)
+  pub one-token : (text : List ℕ) (at : ℕ) (t u : Token) → StandsAt text at t → StandsAt text at u → t ≡ u
+  -- A number literal of digits N with k after the point: its value is N divided by ten to the k, rounded once to binary64, negated under a minus.
+  pub written-value : (l : Literal) → WellFormed l → numberIn (written l) ≡ signed (l .negative) (quotient (allDigits l) (places l))
+  -- the one division of two whole numbers is that quotient
+  pub rounded-once : (n k : ℕ) → n ≤ 10 ^ 15 → k ≤ 15 → div binary64 (ofInt binary64 (pos n)) (ofInt binary64 (pos (10 ^ k))) ≡ quotient n k
+  -- `like` matches as document 01 says.
+  pub likes-decides : (pattern s : List ℕ) → Decides (Matches pattern s) (likes pattern s)
+  -- The strings, numbers and paths of a text's policies lie in the text and have their forms and sizes there.
+  pub policies-placed : (text : List ℕ) (ps : List Policy) → Says text ps → PoliciesPlaced text ps
+  -- A table that begins with a text's compiled bytes says the text's policies.
+  pub compiled-says : (text table : List ℕ) (ps : List Policy) → Says text ps → Begins (compiledBytes ps) table → policiesAt table (length (policiesEntries 0 ps)) ≡ ps
+  -- An impossible path or a root byte other than 1 to 3 is absent: kind 0, number and place 0.
+  pub impossible-path : (bag : List ℕ) (root : ℕ) (path : List ℕ) → isBag bag ≡ true → isPath path ≡ false → lookupSays bag root path ≡ notThere
+  pub impossible-root : (bag : List ℕ) (root : ℕ) (path : List ℕ) → isBag bag ≡ true → (root ≡ 1 → ⊥) → (root ≡ 2 → ⊥) → (root ≡ 3 → ⊥) → lookupSays bag root path ≡ notThere
+  -- The base with each column's attribute set to its choice or removed shows the choices where columns are named, and else the base.
+  pub row-view : (base : Bag) (columns : List (Chosen Datum)) (root : ℕ) (path : List ℕ) → look (rowBag base columns) root path ≡ columnsFirst columns (look base) root path
+  -- So does what code shows of a row, by the places that it holds.
+  pub row-shows : (question : List ℕ) (p : Sections) (choices heads : List ℕ) (grid : List (List ℕ)) (values : List ℕ) (root : ℕ) (path : List ℕ) → Held question p choices heads grid values
+      → rowView question p (columnsIn question p) heads values root path ≡ look (bagOfRow question p (columnsIn question p) (firstIn p) choices) root path
+  -- `has`: an entry with exactly that path, in a bag (a row without columns) and in a row.
+  pub has-is-presence : (s : List ℕ) (p : Sections) (n at : ℕ) (choices : List ℕ) (root : ℕ) (path : List ℕ) → sectionsOf s ≡ In p
+      → present (look (bagOfRow s p n at choices) root path) ≡ hasPath (bagOfRow s p n at choices root) path
