@@ -1,5 +1,5 @@
 -- What each call of the desk answers and leaves, as functions of what it is lent: document 01's numbers and values for each case. Definitions only.
-use mathlib.Core.Bool.{Bool}
+use mathlib.Core.Bool.{Bool, cond}
 use mathlib.Core.List.{List}
 use Prim.Native.Nat.{ℕ}
 use lib.ListN.{length}
@@ -7,6 +7,7 @@ use Rattle.compiling.specs.Outcome as compiling
 use Rattle.meaning.specs.Targets.{Request}
 use Rattle.deciding.specs.Answers as deciding
 use Rattle.lookups.specs.Lookups as lookups
+use Rattle.questions.specs.Questions.{isQuestion}
 use Rattle.views.specs.Meaning.{View, look}
 use Rattle.views.specs.Rows.{bagOfRow}
 use Rattle.pages.specs.Rows.{choicesAt}
@@ -14,6 +15,7 @@ use Rattle.sheets.specs.Sheets as sheets
 use Rattle.desk.specs.declared.DeskCompiled.{DeskCompiled}
 use Rattle.desk.specs.declared.DeskDecision.{DeskDecision}
 use Rattle.desk.specs.declared.DeskValue.{DeskValue}
+use Rattle.desk.specs.declared.DeskString.{DeskString}
 use Rattle.desk.specs.declared.DeskPage.{DeskPage}
 
 -- ---- compile(text, table)
@@ -48,6 +50,9 @@ foundAs s = record { refusal = s .refusal; kind = s .kind; number = s .number; p
 unfoldable pub lookupSays : List ℕ → ℕ → List ℕ → DeskValue
 lookupSays bag root path = foundAs (lookups.said (lookups.lookupOf bag root path))
 
+unfoldable pub stringSays : List ℕ → ℕ → List ℕ → DeskString
+stringSays bag root path = record { start = lookups.startOf (lookups.lookupOf bag root path); length = lookups.lengthOf bag (lookups.lookupOf bag root path) }
+
 -- ---- sheet(text, table, question, subject, action, resource, start, sheet, at)
 
 abbrev pub listedAs : sheets.Said → DeskPage
@@ -58,6 +63,13 @@ sheetSays text table question q start sheet at = listedAs (sheets.saidTo text ta
 
 abbrev pub sheetLeaves : List ℕ → List ℕ → List ℕ → Request → ℕ → List ℕ → ℕ → List ℕ
 sheetLeaves text table question q start sheet at = sheets.sheetAfter text table question q start sheet at
+
+-- ---- rows(question): how many it has, and 0 where the bytes are no question
+
+unfoldable pub rowsSay : List ℕ → ℕ
+rowsSay question = cond (isQuestion question) (sheets.rowsAsked question) 0
+
+-- ---- what the promises speak of
 
 -- the attributes of a row: the base with each column's attribute set to its choice or removed
 abbrev pub viewOfRow : List ℕ → ℕ → View

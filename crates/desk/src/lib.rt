@@ -1,5 +1,13 @@
 // The desk: every public call in one place, for C and for Rattle. An answer is a struct whose first field is the refusal's number, 0 where nothing is refused; the rest are document 01's
 // numbers and values. No call has a `requires`: a caller is asked nothing that the types do not say. specs/Promises.antt states what is promised of them.
+ghost use mathlib.Core.Path.{_≡_};
+ghost use Rattle.targets.specs.Matching.{request};
+ghost use Rattle.deciding.specs.Answers.{saidOf};
+ghost use Rattle.deciding.specs.declared.Answer.the-variants.{Decided};
+ghost use Rattle.desk.specs.Answers.{beginsSays, decidedAs, decideSays, lookupSays, stringSays, rowsSay};
+ghost use Rattle.desk.specs.Promises.{CompileAllows, SheetAllows, StringAllows};
+use compiling::Compiled;
+use meaning::Decision;
 
 // What compiling answers: the refusal with its line and column, or the policies and the bytes of the table that they use.
 #[repr(C)]
@@ -28,10 +36,187 @@ pub struct DeskValue {
     pub place: usize,
 }
 
+// Where a string's bytes lie in the bag, and how many they are; 0 and 0 for anything else.
+#[repr(C)]
+pub struct DeskString {
+    pub start: usize,
+    pub length: usize,
+}
+
 // A page of the sheet: the rows written, and the row to go on with.
 #[repr(C)]
 pub struct DeskPage {
     pub refusal: u32,
     pub written: usize,
     pub next: usize,
+}
+
+// Compiles a text into the table. The bytes past those used stay, and a refusal changes nothing.
+#[no_mangle]
+pub extern "C" fn desk_compile(text: &[u8], table: &mut [u8]) -> DeskCompiled
+    ensures { λ r. ⌜ CompileAllows (now (text .entry)) (now (table .entry)) (now (table .exit)) r ⌝ }
+{
+    match compiling::compile(text, table) {
+        Compiled::Policies(policies, bytes) => DeskCompiled {
+            refusal: 0, // accepted
+            line: 0,
+            column: 0,
+            policies: policies,
+            bytes: bytes,
+        },
+        Compiled::Refused(number, line, column) => DeskCompiled {
+            refusal: number as u32,
+            line: line,
+            column: column,
+            policies: 0,
+            bytes: 0,
+        },
+    }
+}
+
+// Whether a text compiles and the table begins with its compiled bytes.
+#[no_mangle]
+pub extern "C" fn desk_begins(text: &[u8], table: &[u8]) -> bool
+    ensures { λ r. ⌜ r ≡ beginsSays (now (text .entry)) (now (table .entry)) ⌝ }
+{
+    compiling::begins(text, table)
+}
+
+// A decision by its outcome's number, with its policy.
+fn decided(d: Decision) -> DeskDecision
+    ensures { λ r. ⌜ r ≡ decidedAs (saidOf (Decided d)) ⌝ }
+{
+    match d {
+        Decision::Allowed(policy) => DeskDecision {
+            refusal: 0,
+            outcome: 1,
+            policy: policy,
+        },
+        Decision::Forbidden(policy) => DeskDecision {
+            refusal: 0,
+            outcome: 2,
+            policy: policy,
+        },
+        Decision::Nothing => DeskDecision {
+            refusal: 0,
+            outcome: 3,
+            policy: 0,
+        },
+        Decision::System => DeskDecision {
+            refusal: 0,
+            outcome: 4,
+            policy: 0,
+        },
+    }
+}
+
+// Decides a request over a bag, by the policies of a text whose table is lent.
+#[no_mangle]
+pub extern "C" fn desk_decide<'a>(
+    text: &'a [u8],
+    table: &[u8],
+    bag: &'a [u8],
+    subject: &[u8],
+    action: &'a [u8],
+    resource: &[u8],
+) -> DeskDecision
+    ensures { λ r. ⌜ r ≡ decideSays (now (text .entry)) (now (table .entry)) (now (bag .entry))
+        (request (now (subject .entry)) (now (action .entry)) (now (resource .entry))) ⌝ }
+{
+    match deciding::decide(text, table, bag, subject, action, resource) {
+        deciding::Answer::Decided(d) => decided(d),
+        deciding::Answer::Refused(number) => DeskDecision {
+            refusal: number as u32,
+            outcome: 0,
+            policy: 0,
+        },
+    }
+}
+
+// An attribute's kind, number and place. Root byte 1 is principal, 2 resource, 3 env.
+#[no_mangle]
+pub extern "C" fn desk_lookup(bag: &[u8], root: u8, path: &[u8]) -> DeskValue
+    ensures { λ r. ⌜ r ≡ lookupSays (now (bag .entry)) root (now (path .entry)) ⌝ }
+{
+    match lookups::lookup(bag, root, path) {
+        lookups::Answer::Found(v) => DeskValue {
+            refusal: 0, // found
+            kind: v.kind as u32,
+            number: v.number,
+            place: v.place,
+        },
+        lookups::Answer::Refused(number) => DeskValue {
+            refusal: number as u32,
+            kind: 0,
+            number: 0.0,
+            place: 0,
+        },
+    }
+}
+
+// Where the bytes of a string attribute lie, for callers that cannot take a part of the bag.
+#[no_mangle]
+pub extern "C" fn desk_string(bag: &[u8], root: u8, path: &[u8]) -> DeskString
+    ensures { λ r. ⌜ r ≡ stringSays (now (bag .entry)) root (now (path .entry)) ⌝ }
+{
+    let p = lookups::string_place(bag, root, path);
+    DeskString {
+        start: p.start,
+        length: p.length,
+    }
+}
+
+// The bytes of a string attribute, as a part of the caller's bag; an empty part for anything else.
+pub fn string_part<'a>(bag: &'a [u8], root: u8, path: &[u8]) -> &'a [u8]
+    ensures { λ r. ⌜ StringAllows (bag .entry) root (now (path .entry)) r ⌝ }
+{
+    lookups::string_part(bag, root, path)
+}
+
+// A page of the sheet from a start row on, written into the part of the lent sheet from byte `at` on. All other bytes stay, and a refusal changes nothing.
+#[no_mangle]
+pub extern "C" fn desk_sheet<'a>(
+    text: &'a [u8],
+    table: &[u8],
+    question: &'a [u8],
+    subject: &[u8],
+    action: &'a [u8],
+    resource: &[u8],
+    start: usize,
+    sheet: &mut [u8],
+    at: usize,
+) -> DeskPage
+    ensures { λ r. ⌜ SheetAllows (now (text .entry)) (now (table .entry)) (now (question .entry))
+        (request (now (subject .entry)) (now (action .entry)) (now (resource .entry))) start (now (sheet .entry)) at (now (sheet .exit)) r ⌝ }
+{
+    match sheets::sheet(
+        text,
+        table,
+        question,
+        subject,
+        action,
+        resource,
+        start,
+        sheet,
+        at,
+    ) {
+        sheets::Answer::Listed(written, next) => DeskPage {
+            refusal: 0, // listed
+            written: written,
+            next: next,
+        },
+        sheets::Answer::Refused(number) => DeskPage {
+            refusal: number as u32,
+            written: 0,
+            next: 0,
+        },
+    }
+}
+
+// How many rows a question has, and 0 where the bytes are none.
+#[no_mangle]
+pub extern "C" fn desk_rows(question: &[u8]) -> usize
+    ensures { λ r. ⌜ r ≡ rowsSay (now (question .entry)) ⌝ }
+{
+    sheets::row_count(question)
 }

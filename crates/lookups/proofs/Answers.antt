@@ -15,9 +15,10 @@ use Rattle.bags.specs.declared.sections.Sections.{Sections}
 use Rattle.bags.specs.declared.sections.Divided.the-variants.{In}
 use Rattle.tokens.specs.Blanks.{unblanked}
 use Rattle.lookups.specs.Values.{absent}
-use Rattle.lookups.specs.Lookups.{lookIn, baseOf, bagOf, lookupOf, said, startOf, lengthOf}
+use Rattle.lookups.specs.Lookups.{lookIn, baseOf, bagOf, lookupOf, said, startOf, lengthOf, stretchOf}
 use Rattle.lookups.specs.declared.values.Value.{Value}
 use Rattle.lookups.specs.declared.Answer.{Answer}
+use Rattle.lookups.specs.declared.Stretch.{Stretch}
 use Rattle.lookups.specs.declared.Answer.the-variants.{Refused, Found}
 use Rattle.lookups.proofs.StepLaws.{as-string}
 use Rattle.lookups.proofs.FindLaws.{bag-is-base}
@@ -65,33 +66,20 @@ module _ (s : List ℕ) (root : ℕ) (path : List ℕ) where
       go false q = absurd (let z : _≡_ {A = ℕ} 0 1 = cc in omega arith)
       go true q = let is : lookIn absent (bagOf s root) path ≡ v = cc in rw is at (bag-finite s path root)
 
--- ---- the part
+-- ---- where a string's bytes lie, and how many they are
 
 module _ (s : List ℕ) (answer : Answer) (v : Value) (is : answer ≡ Found v) where
-  pub string-start : v .kind ≡ 1 → startOf answer ≡ v .place + 1
-  unfolding startOf
-  string-start k = simp (is, k)
+  pub string-stretch : v .kind ≡ 1 → _≡_ {A = Stretch} (record { start = v .place + 1; length = byte s (v .place) }) (stretchOf s answer)
+  unfolding startOf lengthOf
+  string-stretch k = simp (is, k)
 
-  pub string-length : v .kind ≡ 1 → lengthOf s answer ≡ byte s (v .place)
-  unfolding lengthOf
-  string-length k = simp (is, k)
+  pub other-stretch : (v .kind ≡ 1 → ⊥) → _≡_ {A = Stretch} (record { start = 0; length = 0 }) (stretchOf s answer)
+  unfolding startOf lengthOf
+  other-stretch k = simp (is, ne-eqb _ _ k)
 
-  pub other-start : (v .kind ≡ 1 → ⊥) → startOf answer ≡ 0
-  unfolding startOf
-  other-start k = simp (is, ne-eqb _ _ k)
-
-  pub other-length : (v .kind ≡ 1 → ⊥) → lengthOf s answer ≡ 0
-  unfolding lengthOf
-  other-length k = simp (is, ne-eqb _ _ k)
-
-module _ (s : List ℕ) (answer : Answer) (n : ℕ) (is : answer ≡ Refused n) where
-  pub refused-start : startOf answer ≡ 0
-  unfolding startOf
-  refused-start = simp is
-
-  pub refused-length : lengthOf s answer ≡ 0
-  unfolding lengthOf
-  refused-length = simp is
+pub refused-stretch : (s : List ℕ) (answer : Answer) (n : ℕ) → answer ≡ Refused n → _≡_ {A = Stretch} (record { start = 0; length = 0 }) (stretchOf s answer)
+unfolding startOf lengthOf
+refused-stretch s answer n is = simp is
 
 -- ---- one answer
 

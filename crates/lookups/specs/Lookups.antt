@@ -13,6 +13,7 @@ use Rattle.bags.specs.declared.sections.Divided.the-variants.{In, Broken}
 use Rattle.lookups.specs.Values.{nought, absent, valueAt}
 use Rattle.lookups.specs.declared.values.Value.{Value}
 use Rattle.lookups.specs.declared.Answer.{Answer}
+use Rattle.lookups.specs.declared.Stretch.{Stretch}
 use Rattle.lookups.specs.declared.Answer.the-variants.{Refused, Found}
 
 -- a path and what stands under it
@@ -69,3 +70,7 @@ startOf (Found v) = cond (eqb (v .kind) 1) (v .place + 1) 0
 unfoldable pub lengthOf : List ℕ → Answer → ℕ
 lengthOf s (Refused n) = 0
 lengthOf s (Found v) = cond (eqb (v .kind) 1) (byte s (v .place)) 0
+
+-- both, as they are told to a caller that cannot take a part
+abbrev pub stretchOf : List ℕ → Answer → Stretch
+stretchOf s a = record { start = startOf a; length = lengthOf s a }

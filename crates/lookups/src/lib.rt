@@ -1,7 +1,9 @@
 // Attributes of a bag, looked up by root byte and dotted path.
 ghost use mathlib.Core.Path.{_≡_};
+ghost use Prim.Native.Nat.{_+_, _≤_};
+ghost use lib.ListN.{length};
 ghost use Rattle.slices.specs.Parts.{IsPart};
-ghost use Rattle.lookups.specs.Lookups.{lookupOf, startOf, lengthOf};
+ghost use Rattle.lookups.specs.Lookups.{lookupOf, startOf, lengthOf, stretchOf};
 use crate::finding::base_value;
 use crate::values::Value;
 use crate::values::absent_value;
@@ -37,23 +39,48 @@ pub fn lookup(bag: &[u8], root: u8, path: &[u8]) -> Answer
     }
 }
 
-// A string's bytes, as a part of the caller's bag; an empty part for anything else.
-pub fn string_part<'a>(bag: &'a [u8], root: u8, path: &[u8]) -> &'a [u8]
-    ensures { λ r. ⌜ IsPart (bag .entry) r (startOf (lookupOf (now (bag .entry)) root (now (path .entry)))) (lengthOf (now (bag .entry)) (lookupOf (now (bag .entry)) root (now (path .entry)))) ⌝ }
+// Where a string's bytes lie in the bag, and how many they are; 0 and 0 for anything else.
+#[repr(C)]
+pub struct Stretch {
+    pub start: usize,
+    pub length: usize,
+}
+
+pub fn string_place(bag: &[u8], root: u8, path: &[u8]) -> Stretch
+    ensures is { λ r. ⌜ r ≡ stretchOf (now (bag .entry)) (lookupOf (now (bag .entry)) root (now (path .entry))) ⌝ }
+    ensures inside { λ r. ⌜ r .start + r .length ≤ length (now (bag .entry)) ⌝ }
 {
     match lookup(bag, root, path) {
-        Answer::Refused(_) => &bag[0..0],
+        Answer::Refused(_) => Stretch {
+            start: 0,
+            length: 0,
+        },
         Answer::Found(v) => {
             let kind = v.kind;
             if kind == 1 {
                 let place = v.place;
                 let n = bag[place] as usize;
                 let start = place + 1;
-                let end = start + n;
-                &bag[start..end]
+                Stretch {
+                    start: start,
+                    length: n,
+                }
             } else {
-                &bag[0..0]
+                Stretch {
+                    start: 0,
+                    length: 0,
+                }
             }
         }
     }
+}
+
+// A string's bytes, as a part of the caller's bag; an empty part for anything else.
+pub fn string_part<'a>(bag: &'a [u8], root: u8, path: &[u8]) -> &'a [u8]
+    ensures { λ r. ⌜ IsPart (bag .entry) r (startOf (lookupOf (now (bag .entry)) root (now (path .entry)))) (lengthOf (now (bag .entry)) (lookupOf (now (bag .entry)) root (now (path .entry)))) ⌝ }
+{
+    let p = string_place(bag, root, path);
+    let start = p.start;
+    let end = start + p.length;
+    &bag[start..end]
 }
