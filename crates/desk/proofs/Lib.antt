@@ -6,3 +6,4 @@ pub mod SheetsPromised
 pub mod Promised
 pub mod Cases
 pub mod Grounded
+pub mod Worked

@@ -1,12 +1,17 @@
--- Document 01's checked examples A to L as one statement over the desk's answers. Definitions only.
+-- Document 01's checked examples over the desk's answers: A to L as one statement, and the worked example. Definitions only.
 use mathlib.Core.Path.{_≡_}
+use mathlib.Core.Bool.{true}
 use mathlib.Core.List.{List, [], _∷_, _++_}
 use Prim.Native.Nat.{ℕ, zero, suc, _*_}
 use Prim.Native.String.{String}
-use lib.ListN.{length}
+use lib.ListN.{length, take}
 use Rattle.slices.specs.Ascii.{bytes}
 use Rattle.compiling.specs.Promise.{bytesFor}
-use Rattle.desk.specs.Answers.{compileSays, decideSays}
+use Rattle.meaning.specs.Targets.{Request}
+use Rattle.questions.specs.Questions.{isQuestion}
+use Rattle.sheets.specs.Sheets.{rowsAsked}
+use Rattle.desk.specs.Answers.{compileSays, decideSays, sheetSays, sheetLeaves}
+use Rattle.desk.specs.Promises.{Shows}
 use Rattle.desk.specs.declared.DeskCompiled.{DeskCompiled}
 use Rattle.desk.specs.declared.DeskDecision.{DeskDecision}
 
@@ -29,10 +34,13 @@ P = bytes "permit(principal,action,resource)"
 abbrev pub P-when : String → List ℕ
 P-when condition = P ++ bytes "when{" ++ bytes condition ++ bytes "};"
 
--- what is decided where person:K7 wants to teach shaft:A and no attribute is known, over a text and its compiled bytes
+-- person:K7 wants to teach shaft:A
+abbrev pub K7 : Request
+K7 = record { subject = bytes "person:K7"; action = bytes "teach"; resource = bytes "shaft:A" }
+
+-- what is decided then where no attribute is known, over a text and its compiled bytes
 abbrev pub decided : List ℕ → DeskDecision
-decided text =
-    decideSays text (bytesFor text) (0 ∷ 0 ∷ 0 ∷ []) (record { subject = bytes "person:K7"; action = bytes "teach"; resource = bytes "shaft:A" })
+decided text = decideSays text (bytesFor text) (0 ∷ 0 ∷ 0 ∷ []) K7
 
 abbrev pub outcome : ℕ → ℕ → DeskDecision
 outcome number policy = record { refusal = 0; outcome = number; policy = policy }
@@ -57,3 +65,30 @@ pub record CasesAtoL : Type 0 where
   pub J : Holds "\"shaft:A1\" like \"shaft:*\"" × Holds "\"shaft:\" like \"shaft:*\"" × Fails "\"shaft:b:A1\" like \"shaft:*\""
   pub K : Holds "\"A1A1\" like \"*A1\""
   pub L : decided (P ++ bytes ";forbid(principal,action,resource);") ≡ outcome 2 2
+
+-- ---- the worked example: document 01's two policies, and the request person:K7, teach, shaft:A
+
+abbrev pub rules : List ℕ
+rules =
+    bytes "permit(principal is person, action, resource is shaft)\n  when { principal.grade >= 3 };\n"
+    ++ bytes "forbid(principal, action in [\"teach\"], resource)\n  when { principal.hired != \"own\" };\n"
+
+-- an empty base, and columns principal.grade (absent, 3, 2.5) and principal.hired (absent, "own", "loan")
+abbrev pub question : List ℕ
+question =
+    (0 ∷ 0 ∷ 0 ∷ 2 ∷ [])
+    ++ (1 ∷ 5 ∷ []) ++ bytes "grade" ++ (3 ∷ 0 ∷ 2 ∷ 0 ∷ 0 ∷ 0 ∷ 0 ∷ 0 ∷ 0 ∷ 8 ∷ 64 ∷ 2 ∷ 0 ∷ 0 ∷ 0 ∷ 0 ∷ 0 ∷ 0 ∷ 4 ∷ 64 ∷ [])
+    ++ (1 ∷ 5 ∷ []) ++ bytes "hired" ++ (3 ∷ 0 ∷ 1 ∷ 3 ∷ []) ++ bytes "own" ++ (1 ∷ 4 ∷ []) ++ bytes "loan"
+
+-- principal.grade is 3, and nothing else is known
+abbrev pub gradeThree : List ℕ
+gradeThree = (1 ∷ 5 ∷ []) ++ bytes "grade" ++ (2 ∷ 0 ∷ 0 ∷ 0 ∷ 0 ∷ 0 ∷ 0 ∷ 8 ∷ 64 ∷ 0 ∷ 0 ∷ [])
+
+pub record WorkedExample : Type 0 where
+  -- rows 9; 3 1 1; 4 1 1; allowed 2
+  pub rows : (isQuestion question ≡ true) × (rowsAsked question ≡ 9)
+  pub listed : sheetSays rules (bytesFor rules) question K7 0 (blank 54) 0 ≡ record { refusal = 0; written = 2; next = 9 }
+  pub written : take 12 (sheetLeaves rules (bytesFor rules) question K7 0 (blank 54) 0) ≡ 3 ∷ 0 ∷ 0 ∷ 0 ∷ 1 ∷ 1 ∷ 4 ∷ 0 ∷ 0 ∷ 0 ∷ 1 ∷ 1 ∷ []
+  -- row 3 is the bag that knows grade 3 and nothing else, and is decided so
+  pub row-three : Shows gradeThree question 3
+  pub decided-three : decideSays rules (bytesFor rules) gradeThree K7 ≡ outcome 1 1
