@@ -75,5 +75,7 @@ one-result = record {
   of-decide = λ text table bag q r r′ a b. a ∙ sym b;
   of-lookup = λ bag root path r r′ a b. a ∙ sym b;
   of-string = λ bag root path r r′ a b. let p = one-part a b in (p .0, λ i. (p .1 i, p .2 i));
+  of-string-place = λ bag root path r r′ a b. a ∙ sym b;
   of-sheet = λ text table question q start before at after after′ r r′ a b. (a .answered ∙ sym (b .answered), a .sheet ∙ sym (b .sheet));
+  of-rows = λ question r r′ a b. a ∙ sym b;
 }

@@ -27,10 +27,11 @@ use Rattle.pages.specs.Listing.{rowSize, roomIn, bytesOf}
 use Rattle.sheets.specs.Sheets.{decisions, rowsAsked}
 use Rattle.sheets.specs.Promise as sheets
 use Rattle.sheets.specs.Promise.{countsAsked, yesTo, listedFrom}
-use Rattle.desk.specs.Answers.{compileSays, compileLeaves, beginsSays, decideSays, lookupSays, sheetSays, sheetLeaves, viewOfRow}
+use Rattle.desk.specs.Answers.{compileSays, compileLeaves, beginsSays, decideSays, lookupSays, sheetSays, sheetLeaves, viewOfRow, stringSays, rowsSay}
 use Rattle.desk.specs.declared.DeskCompiled.{DeskCompiled}
 use Rattle.desk.specs.declared.DeskDecision.{DeskDecision}
 use Rattle.desk.specs.declared.DeskValue.{DeskValue}
+use Rattle.desk.specs.declared.DeskString.{DeskString}
 use Rattle.desk.specs.declared.DeskPage.{DeskPage}
 
 -- ---- Demand 1. Every public call gives either its answer or one refusal from document 01's list. A refused rule text also gets line and column. A refused call changes no table and no sheet.
@@ -206,5 +207,7 @@ pub record OneResult : Type 0 where
   pub of-decide : (text table bag : List ℕ) (q : Request) (r r′ : DeskDecision) → r ≡ decideSays text table bag q → r′ ≡ decideSays text table bag q → r ≡ r′
   pub of-lookup : (bag : List ℕ) (root : ℕ) (path : List ℕ) (r r′ : DeskValue) → r ≡ lookupSays bag root path → r′ ≡ lookupSays bag root path → r ≡ r′
   pub of-string : (bag : RefT (List ℕ)) (root : ℕ) (path : List ℕ) (r r′ : RefT (List ℕ)) → StringAllows bag root path r → StringAllows bag root path r′ → (now r ≡ now r′) × (r .ptr ≡ r′ .ptr)
+  pub of-string-place : (bag : List ℕ) (root : ℕ) (path : List ℕ) (r r′ : DeskString) → r ≡ stringSays bag root path → r′ ≡ stringSays bag root path → r ≡ r′
   pub of-sheet : (text table question : List ℕ) (q : Request) (start : ℕ) (before : List ℕ) (at : ℕ) (after after′ : List ℕ) (r r′ : DeskPage)
       → SheetAllows text table question q start before at after r → SheetAllows text table question q start before at after′ r′ → (r ≡ r′) × (after ≡ after′)
+  pub of-rows : (question : List ℕ) (r r′ : ℕ) → r ≡ rowsSay question → r′ ≡ rowsSay question → r ≡ r′
