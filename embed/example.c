@@ -21,6 +21,7 @@ static const char question[] = "\x00" "\x00" "\x00" "\x02"
 
 enum { ROW = 6 };                       // a listed row: its number in 4 bytes, the lowest first; outcome; policy
 static uint8_t table[8 * sizeof rules]; // at least 8 bytes for each byte of text
+static size_t used;                     // the bytes of it that compiling used: the calls after it need no others
 static uint8_t page[ROW];               // one row at a time: the smallest page there is
 
 static unsigned number4(const uint8_t *p) { return p[0] | p[1] << 8 | p[2] << 16 | (unsigned)p[3] << 24; }
@@ -29,7 +30,7 @@ static void print_sheet(void) {
     size_t rows = desk_rows(LENT(question)), listed = 0, pages = 0;
     printf("rows %zu\n", rows);
     for (size_t start = 0; start < rows;) {
-        DeskPage p = desk_sheet(LENT(rules), table, sizeof table, LENT(question), LENT("person:K7"), LENT("teach"), LENT("shaft:A"), start, page, sizeof page, 0);
+        DeskPage p = desk_sheet(LENT(rules), table, used, LENT(question), LENT("person:K7"), LENT("teach"), LENT("shaft:A"), start, page, sizeof page, 0);
         if (p.refusal != 0) {
             printf("refused %u\n", p.refusal);
             return;
@@ -45,9 +46,10 @@ static void print_sheet(void) {
 int main(void) {
     DeskCompiled c = desk_compile(LENT(rules), table, sizeof table);
     printf("compile: refusal %u, line %zu, column %zu, policies %zu, bytes %zu\n", c.refusal, c.line, c.column, c.policies, c.bytes);
-    printf("begins: %d\n", desk_begins(LENT(rules), table, sizeof table));
+    used = c.bytes;
+    printf("begins: %d\n", desk_begins(LENT(rules), table, used));
 
-    DeskDecision d = desk_decide(LENT(rules), table, sizeof table, LENT(bag), LENT("person:K7"), LENT("teach"), LENT("shaft:A"));
+    DeskDecision d = desk_decide(LENT(rules), table, used, LENT(bag), LENT("person:K7"), LENT("teach"), LENT("shaft:A"));
     printf("decide: refusal %u, outcome %u, policy %zu\n", d.refusal, d.outcome, d.policy);
 
     DeskValue v = desk_lookup(LENT(bag), 1, LENT("grade"));
