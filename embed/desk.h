@@ -1,0 +1,83 @@
+/* The desk for C: made by embed/header from crates/desk/src/lib.rt. docs/EMBEDDING.md says what each answer means and which sizes to reserve.
+   A slice is two arguments: where it starts and how many bytes it has. No proof reaches a caller in C. It owes: each pointer leads to so many bytes, which stay until the
+   call returns (with 0 bytes any pointer will do, NULL too); what is lent without const overlaps nothing else that is lent to the same call. */
+#ifndef DESK_H
+#define DESK_H
+#include <stdbool.h>
+#include <stddef.h>
+#include <stdint.h>
+#ifdef __cplusplus
+#define DESK_LAID_OUT static_assert
+extern "C" {
+#else
+#define DESK_LAID_OUT _Static_assert
+#endif
+
+/* What compiling answers: the refusal with its line and column, or the policies and the bytes of the table that they use. */
+typedef struct {
+    uint32_t refusal;
+    size_t line;
+    size_t column;
+    size_t policies;
+    size_t bytes;
+} DeskCompiled;
+DESK_LAID_OUT(sizeof(DeskCompiled) == 40 && offsetof(DeskCompiled, refusal) == 0 && offsetof(DeskCompiled, line) == 8 && offsetof(DeskCompiled, column) == 16 && offsetof(DeskCompiled, policies) == 24 && offsetof(DeskCompiled, bytes) == 32, "DeskCompiled");
+
+/* What deciding answers: outcome 1 allowed, 2 forbidden, 3 nothing satisfied, 4 system; and the policy that decided, 0 where none did. */
+typedef struct {
+    uint32_t refusal;
+    uint32_t outcome;
+    size_t policy;
+} DeskDecision;
+DESK_LAID_OUT(sizeof(DeskDecision) == 16 && offsetof(DeskDecision, refusal) == 0 && offsetof(DeskDecision, outcome) == 4 && offsetof(DeskDecision, policy) == 8, "DeskDecision");
+
+/* An attribute: kind 0 absent, 1 string, 2 number, 3 flag, 4 list of strings; its number; the place of the byte after its kind byte. */
+typedef struct {
+    uint32_t refusal;
+    uint32_t kind;
+    double number;
+    size_t place;
+} DeskValue;
+DESK_LAID_OUT(sizeof(DeskValue) == 24 && offsetof(DeskValue, refusal) == 0 && offsetof(DeskValue, kind) == 4 && offsetof(DeskValue, number) == 8 && offsetof(DeskValue, place) == 16, "DeskValue");
+
+/* Where a string's bytes lie in the bag, and how many they are; 0 and 0 for anything else. */
+typedef struct {
+    size_t start;
+    size_t length;
+} DeskString;
+DESK_LAID_OUT(sizeof(DeskString) == 16 && offsetof(DeskString, start) == 0 && offsetof(DeskString, length) == 8, "DeskString");
+
+/* A page of the sheet: the rows written, and the row to go on with. */
+typedef struct {
+    uint32_t refusal;
+    size_t written;
+    size_t next;
+} DeskPage;
+DESK_LAID_OUT(sizeof(DeskPage) == 24 && offsetof(DeskPage, refusal) == 0 && offsetof(DeskPage, written) == 8 && offsetof(DeskPage, next) == 16, "DeskPage");
+
+/* Compiles a text into the table. The bytes past those used stay, and a refusal changes nothing. */
+DeskCompiled desk_compile(const uint8_t *text, size_t text_length, uint8_t *table, size_t table_length);
+
+/* Whether a text compiles and the table begins with its compiled bytes. */
+bool desk_begins(const uint8_t *text, size_t text_length, const uint8_t *table, size_t table_length);
+
+/* Decides a request over a bag, by the policies of a text whose table is lent. */
+DeskDecision desk_decide(const uint8_t *text, size_t text_length, const uint8_t *table, size_t table_length, const uint8_t *bag, size_t bag_length, const uint8_t *subject, size_t subject_length, const uint8_t *action, size_t action_length, const uint8_t *resource, size_t resource_length);
+
+/* An attribute's kind, number and place. Root byte 1 is principal, 2 resource, 3 env. */
+DeskValue desk_lookup(const uint8_t *bag, size_t bag_length, uint8_t root, const uint8_t *path, size_t path_length);
+
+/* Where the bytes of a string attribute lie, for callers that cannot take a part of the bag. */
+DeskString desk_string(const uint8_t *bag, size_t bag_length, uint8_t root, const uint8_t *path, size_t path_length);
+
+/* A page of the sheet from a start row on, written into the part of the lent sheet from byte `at` on. All other bytes stay, and a refusal changes nothing. */
+DeskPage desk_sheet(const uint8_t *text, size_t text_length, const uint8_t *table, size_t table_length, const uint8_t *question, size_t question_length, const uint8_t *subject, size_t subject_length, const uint8_t *action, size_t action_length, const uint8_t *resource, size_t resource_length, size_t start, uint8_t *sheet, size_t sheet_length, size_t at);
+
+/* How many rows a question has, and 0 where the bytes are none. */
+size_t desk_rows(const uint8_t *question, size_t question_length);
+
+#undef DESK_LAID_OUT
+#ifdef __cplusplus
+}
+#endif
+#endif

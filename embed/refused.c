@@ -1,0 +1,92 @@
+// Each call refused, and that a refusal gives its number, zeros elsewhere and changes nothing lent: the table and the sheet are compared with copies, bytes before and behind
+// them too. Then slices of no bytes, as NULL. Prints how many checks were made; a check that fails is printed and ends it with status 1.
+#include "desk.h"
+#include <stdio.h>
+#include <string.h>
+
+#define LENT(s) (const uint8_t *)(s), sizeof(s) - 1
+#define TEXT LENT("permit(principal,action,resource);")
+#define BAG LENT("\0\0\0")
+#define QUESTION LENT("\0\0\0\0")
+#define REQUEST LENT("person:K7"), LENT("teach"), LENT("shaft:A")
+#define NONE NULL, 0
+
+static int made, failed;
+static uint8_t lent[1000], copy[1000];
+
+static void check(int holds, const char *what) {
+    made++;
+    if (!holds || memcmp(lent, copy, sizeof lent) != 0) {
+        printf("FAILED: %s\n", what);
+        failed++;
+    }
+}
+#define CHECK(holds) check(holds, #holds)
+
+static int compiled(DeskCompiled c, unsigned refusal, size_t line, size_t column, size_t policies) {
+    return c.refusal == refusal && c.line == line && c.column == column && c.policies == policies && c.bytes == 0;
+}
+static int decided(DeskDecision d, unsigned refusal, unsigned outcome) { return d.refusal == refusal && d.outcome == outcome && d.policy == 0; }
+static int found(DeskValue v, unsigned refusal) { return v.refusal == refusal && v.kind == 0 && v.number == 0 && v.place == 0; }
+static int listed(DeskPage p, unsigned refusal, size_t next) { return p.refusal == refusal && p.written == 0 && p.next == next; }
+static int at_none(DeskString s) { return s.start == 0 && s.length == 0; }
+
+static void refusals(void) {
+    static const uint8_t long_text[8193];
+    uint8_t *table = lent + 100, *sheet = lent + 500;
+    // compile: 1, 2, and some that have a place
+    CHECK(compiled(desk_compile(long_text, sizeof long_text, table, 400), 1, 0, 0, 0));
+    CHECK(compiled(desk_compile(TEXT, table, 271), 2, 0, 0, 0));
+    CHECK(compiled(desk_compile(LENT("permit(principal,action,resource)"), table, 400), 10, 1, 34, 0));
+    CHECK(compiled(desk_compile(LENT("\n permit(principal is lift"), table, 400), 9, 2, 22, 0));
+    // a table that is not the text's
+    CHECK(!desk_begins(TEXT, table, 400));
+    // decide: 21, 22, 23, 24, 20, in this order
+    CHECK(decided(desk_decide(NONE, NONE, NONE, LENT("lift:A"), NONE, NONE), 21, 0));
+    CHECK(decided(desk_decide(NONE, NONE, NONE, LENT("tool:A"), NONE, NONE), 22, 0));
+    CHECK(decided(desk_decide(NONE, NONE, NONE, LENT("tool:A"), LENT("teach"), NONE), 23, 0));
+    CHECK(decided(desk_decide(TEXT, table, 400, LENT("\0\0\0\0"), REQUEST), 24, 0));
+    CHECK(decided(desk_decide(TEXT, table, 400, BAG, REQUEST), 20, 0));
+    // lookup and string: 24
+    CHECK(found(desk_lookup(LENT("\0\0"), 1, LENT("grade")), 24));
+    CHECK(at_none(desk_string(LENT("\0\0"), 1, LENT("grade"))));
+    // an absent attribute, an impossible path and a root byte of 4 are no refusals
+    CHECK(found(desk_lookup(BAG, 1, LENT("grade")), 0));
+    CHECK(found(desk_lookup(BAG, 4, LENT("grade")), 0));
+    CHECK(found(desk_lookup(BAG, 1, LENT("..")), 0));
+    CHECK(at_none(desk_string(BAG, 1, LENT("grade"))));
+    // sheet: 25, 24, 26, 21, 22, 23, 20, in this order
+    CHECK(listed(desk_sheet(NONE, NONE, NONE, NONE, NONE, NONE, 9, sheet, 400, 401), 25, 0));
+    CHECK(listed(desk_sheet(NONE, NONE, NONE, NONE, NONE, NONE, 9, sheet, 400, 395), 25, 0));
+    CHECK(listed(desk_sheet(NONE, NONE, NONE, NONE, NONE, NONE, 9, sheet, 400, 394), 24, 0));
+    CHECK(listed(desk_sheet(NONE, NONE, QUESTION, NONE, NONE, NONE, 2, sheet, 400, 0), 26, 0));
+    CHECK(listed(desk_sheet(NONE, NONE, QUESTION, NONE, NONE, NONE, 1, sheet, 400, 0), 21, 0));
+    CHECK(listed(desk_sheet(NONE, NONE, QUESTION, LENT("tool:A"), NONE, NONE, 0, sheet, 400, 0), 22, 0));
+    CHECK(listed(desk_sheet(NONE, NONE, QUESTION, LENT("tool:A"), LENT("teach"), NONE, 0, sheet, 400, 0), 23, 0));
+    CHECK(listed(desk_sheet(TEXT, table, 400, QUESTION, REQUEST, 0, sheet, 400, 0), 20, 0));
+    // rows: no question
+    CHECK(desk_rows(LENT("\0\0\0")) == 0);
+}
+
+static void nulls(void) {
+    CHECK(compiled(desk_compile(NONE, NONE), 0, 0, 0, 0));
+    CHECK(desk_begins(NONE, NONE));
+    CHECK(decided(desk_decide(NONE, NONE, NONE, NONE, NONE, NONE), 21, 0));
+    CHECK(decided(desk_decide(NONE, NONE, NONE, LENT("system"), NONE, NONE), 0, 4));
+    CHECK(decided(desk_decide(NONE, NONE, BAG, REQUEST), 0, 3));
+    CHECK(found(desk_lookup(NONE, 1, NONE), 24));
+    CHECK(found(desk_lookup(BAG, 1, NONE), 0));
+    CHECK(at_none(desk_string(NONE, 1, NONE)));
+    CHECK(listed(desk_sheet(NONE, NONE, NONE, NONE, NONE, NONE, 0, NONE, 0), 25, 0));
+    CHECK(listed(desk_sheet(NONE, NONE, QUESTION, REQUEST, 0, lent, sizeof lent, 0), 0, 1));
+    CHECK(desk_rows(NONE) == 0);
+}
+
+int main(void) {
+    memset(lent, 0xAA, sizeof lent);
+    memcpy(copy, lent, sizeof lent);
+    refusals();
+    nulls();
+    printf("%d checks, %d failed\n", made, failed);
+    return failed != 0;
+}
