@@ -14,6 +14,7 @@ mod explain;
 mod folders;
 mod number_vectors;
 mod numbers;
+mod packing;
 mod pattern_vectors;
 mod patterns;
 mod policies;
@@ -89,7 +90,7 @@ fn run(words: &[&str]) -> Result<(), Failure> {
         ["explain", word, "--vector", number] => {
             let sort = sort_named(word)?;
             let number: usize = number.parse().map_err(|_| Failure::Usage)?;
-            let vectors = vectors::decode(&standard_input()?, sort.parts)
+            let vectors = vectors::decode(sort, &standard_input()?)
                 .ok_or_else(|| Failure::Other("not a file of such vectors".to_string()))?;
             let vector = number
                 .checked_sub(1)
