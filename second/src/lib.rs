@@ -3,6 +3,7 @@
 
 pub mod bag_bytes;
 pub mod bags;
+pub mod command;
 pub mod compile;
 pub mod deciding;
 pub mod numbers;

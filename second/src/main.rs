@@ -4,6 +4,7 @@ mod bag_bytes;
 mod bags;
 mod bags_vectors;
 mod begins_vectors;
+mod command;
 mod compile;
 mod compile_vectors;
 mod condition_texts;
@@ -14,6 +15,7 @@ mod explain;
 mod folders;
 mod number_vectors;
 mod numbers;
+mod packing;
 mod pattern_vectors;
 mod patterns;
 mod policies;
@@ -31,10 +33,10 @@ mod vectors;
 mod views_vectors;
 
 use std::fs;
-use std::io::{self, Read, Write};
+use std::io;
 use std::path::Path;
-use std::process::exit;
 
+use command::{failed, print, standard_input, Failure};
 use vectors::{Sort, Vector, SORTS, STANDARD_SEED};
 
 const USAGE: &str = "usage:
@@ -50,35 +52,15 @@ each is";
 /// The bytes of the sheets that `second sheet` lends.
 const PAGE_BYTES: usize = 6_000;
 
-/// Why the program stops early.
-enum Failure {
-    /// The words are not understood: exit status 2.
-    Usage,
-    /// Anything else: exit status 1.
-    Other(String),
-}
-
 fn main() {
-    let words: Vec<String> = std::env::args_os().skip(1).map(|word| word.to_string_lossy().into_owned()).collect();
-    let words: Vec<&str> = words.iter().map(String::as_str).collect();
-    match run(&words) {
-        Ok(()) => {}
-        Err(Failure::Usage) => {
-            eprintln!("{}", USAGE);
-            exit(2);
-        }
-        Err(Failure::Other(reason)) => {
-            eprintln!("second: {}", reason);
-            exit(1);
-        }
-    }
+    command::start(USAGE, run);
 }
 
 fn run(words: &[&str]) -> Result<(), Failure> {
     match words {
         ["vectors", directory, options @ ..] => {
             let (seed, scale) = seed_and_scale(options).ok_or(Failure::Usage)?;
-            vectors::write_all(Path::new(directory), seed, scale).map_err(failed)
+            vectors::write_all(Path::new(directory), seed, scale).map_err(|error| failed(directory, error))
         }
         ["explain", word] => {
             let sort = sort_named(word)?;
@@ -89,7 +71,7 @@ fn run(words: &[&str]) -> Result<(), Failure> {
         ["explain", word, "--vector", number] => {
             let sort = sort_named(word)?;
             let number: usize = number.parse().map_err(|_| Failure::Usage)?;
-            let vectors = vectors::decode(&standard_input()?, sort.parts)
+            let vectors = vectors::decode(sort, &standard_input()?)
                 .ok_or_else(|| Failure::Other("not a file of such vectors".to_string()))?;
             let vector = number
                 .checked_sub(1)
@@ -97,7 +79,7 @@ fn run(words: &[&str]) -> Result<(), Failure> {
                 .ok_or_else(|| Failure::Other(format!("vectors are numbered 1 to {}", vectors.len())))?;
             print_explained(sort, vector)
         }
-        ["folders", directory] => folders::write_all(Path::new(directory)).map_err(failed),
+        ["folders", directory] => folders::write_all(Path::new(directory)).map_err(|error| failed(directory, error)),
         ["sheet", directory] => {
             let [text, question, request] = files(directory, ["policy.txt", "question.bin", "request.txt"])?;
             print(&sheets::printed(&text, &question, &request, PAGE_BYTES))
@@ -114,10 +96,11 @@ fn run(words: &[&str]) -> Result<(), Failure> {
 fn files(directory: &str, names: [&str; 3]) -> Result<[Vec<u8>; 3], Failure> {
     let mut all = [Vec::new(), Vec::new(), Vec::new()];
     for (bytes, name) in all.iter_mut().zip(names) {
-        match fs::read(Path::new(directory).join(name)) {
+        let path = Path::new(directory).join(name);
+        match fs::read(&path) {
             Ok(read) => *bytes = read,
             Err(error) if error.kind() == io::ErrorKind::NotFound => {}
-            Err(error) => return Err(failed(error)),
+            Err(error) => return Err(failed(&path.to_string_lossy(), error)),
         }
     }
     Ok(all)
@@ -152,22 +135,8 @@ fn sort_named(word: &str) -> Result<&'static Sort, Failure> {
     SORTS.iter().find(|sort| sort.explain_word == word).ok_or(Failure::Usage)
 }
 
-fn standard_input() -> Result<Vec<u8>, Failure> {
-    let mut bytes = Vec::new();
-    io::stdin().read_to_end(&mut bytes).map_err(failed)?;
-    Ok(bytes)
-}
-
 fn print_explained(sort: &Sort, vector: &Vector) -> Result<(), Failure> {
     print(&(sort.explain)(vector))
-}
-
-fn print(lines: &str) -> Result<(), Failure> {
-    io::stdout().write_all(lines.as_bytes()).map_err(failed)
-}
-
-fn failed(error: io::Error) -> Failure {
-    Failure::Other(error.to_string())
 }
 
 #[cfg(test)]

@@ -10,6 +10,7 @@ use crate::compile_vectors;
 use crate::decide_vectors;
 use crate::explain;
 use crate::number_vectors;
+use crate::packing::{Packer, Unpacker};
 use crate::pattern_vectors;
 use crate::questions_vectors;
 use crate::random::Random;
@@ -36,6 +37,8 @@ pub struct Sort {
     pub explain_word: &'static str,
     /// How many parts a vector has.
     pub parts: usize,
+    /// Whether they stand packed in `stdin`.
+    pub packed: bool,
     /// How many vectors there are at scale 1.
     pub count: usize,
     /// The vectors that are the same for every seed.
@@ -56,6 +59,7 @@ pub static SORTS: [Sort; 10] = [
         name: "tokens",
         explain_word: "tokens",
         parts: 1,
+        packed: false,
         count: 21_000,
         fixed: token_vectors::fixed,
         random: token_vectors::random,
@@ -67,6 +71,7 @@ pub static SORTS: [Sort; 10] = [
         name: "numbers",
         explain_word: "number",
         parts: 2,
+        packed: false,
         count: 6_000,
         fixed: number_vectors::fixed,
         random: number_vectors::random,
@@ -78,6 +83,7 @@ pub static SORTS: [Sort; 10] = [
         name: "patterns",
         explain_word: "like",
         parts: 2,
+        packed: false,
         count: 21_000,
         fixed: pattern_vectors::fixed,
         random: pattern_vectors::random,
@@ -89,6 +95,7 @@ pub static SORTS: [Sort; 10] = [
         name: "compile",
         explain_word: "compile",
         parts: 2,
+        packed: true,
         count: 35_000,
         fixed: compile_vectors::fixed,
         random: compile_vectors::random,
@@ -100,6 +107,7 @@ pub static SORTS: [Sort; 10] = [
         name: "begins",
         explain_word: "begins",
         parts: 2,
+        packed: false,
         count: 6_000,
         fixed: begins_vectors::fixed,
         random: begins_vectors::random,
@@ -111,6 +119,7 @@ pub static SORTS: [Sort; 10] = [
         name: "bags",
         explain_word: "bag",
         parts: 3,
+        packed: false,
         count: 10_000,
         fixed: bags_vectors::fixed,
         random: bags_vectors::random,
@@ -122,6 +131,7 @@ pub static SORTS: [Sort; 10] = [
         name: "questions",
         explain_word: "question",
         parts: 1,
+        packed: false,
         count: 7_000,
         fixed: questions_vectors::fixed,
         random: questions_vectors::random,
@@ -133,6 +143,7 @@ pub static SORTS: [Sort; 10] = [
         name: "views",
         explain_word: "view",
         parts: 4,
+        packed: false,
         count: 8_000,
         fixed: views_vectors::fixed,
         random: views_vectors::random,
@@ -144,6 +155,7 @@ pub static SORTS: [Sort; 10] = [
         name: "decide",
         explain_word: "decide",
         parts: 6,
+        packed: true,
         count: 32_000,
         fixed: decide_vectors::fixed,
         random: decide_vectors::random,
@@ -155,6 +167,7 @@ pub static SORTS: [Sort; 10] = [
         name: "sheet",
         explain_word: "sheet",
         parts: 9,
+        packed: true,
         count: 6_000,
         fixed: sheet_vectors::fixed,
         random: sheet_vectors::random,
@@ -183,24 +196,43 @@ fn seed_of(sort: &Sort, seed: u64) -> u64 {
     own
 }
 
-/// The bytes of `stdin`: the number of vectors in 4 bytes, then the parts, each after its length in 2 bytes.
-pub fn encode(vectors: &[Vector]) -> Vec<u8> {
-    let mut bytes = Vec::new();
-    bytes.extend_from_slice(&(vectors.len() as u32).to_le_bytes());
-    for part in vectors.iter().flatten() {
-        bytes.extend_from_slice(&(part.len() as u16).to_le_bytes());
-        bytes.extend_from_slice(part);
+/// The bytes of `stdin`: the number of vectors in 4 bytes, then the parts, each after its length in 2 bytes; where the vectors are
+/// packed, the packed bytes of each, after their length in 2 bytes.
+pub fn encode(sort: &Sort, vectors: &[Vector]) -> Vec<u8> {
+    let mut packer = Packer::new();
+    let mut bytes = (vectors.len() as u32).to_le_bytes().to_vec();
+    for vector in vectors {
+        let mut parts = Vec::new();
+        for part in vector {
+            add_part(&mut parts, part);
+        }
+        if sort.packed {
+            add_part(&mut bytes, &packer.pack(&parts));
+        } else {
+            bytes.extend_from_slice(&parts);
+        }
     }
     bytes
 }
 
+fn add_part(bytes: &mut Vec<u8>, part: &[u8]) {
+    let length = u16::try_from(part.len()).expect("a part has at most 65,535 bytes");
+    bytes.extend_from_slice(&length.to_le_bytes());
+    bytes.extend_from_slice(part);
+}
+
 /// The vectors in the bytes of a `stdin`, or nothing if these have another form.
-pub fn decode(bytes: &[u8], parts: usize) -> Option<Vec<Vector>> {
+pub fn decode(sort: &Sort, bytes: &[u8]) -> Option<Vec<Vector>> {
+    let mut unpacker = Unpacker::new();
     let mut rest = bytes.get(4..)?;
     let count = u32::from_le_bytes([bytes[0], bytes[1], bytes[2], bytes[3]]);
     let mut vectors = Vec::new();
     for _ in 0..count {
-        vectors.push(take_parts(&mut rest, parts)?);
+        vectors.push(if sort.packed {
+            read_parts(unpacker.unpack(&take_part(&mut rest)?)?, sort.parts)?
+        } else {
+            take_parts(&mut rest, sort.parts)?
+        });
     }
     if rest.is_empty() {
         Some(vectors)
@@ -221,13 +253,14 @@ pub fn read_parts(bytes: &[u8], parts: usize) -> Option<Vector> {
 }
 
 fn take_parts(rest: &mut &[u8], parts: usize) -> Option<Vector> {
-    let mut vector = Vector::new();
-    for _ in 0..parts {
-        let length = usize::from(u16::from_le_bytes([*rest.first()?, *rest.get(1)?]));
-        vector.push(rest.get(2..2 + length)?.to_vec());
-        *rest = &rest[2 + length..];
-    }
-    Some(vector)
+    (0..parts).map(|_| take_part(rest)).collect()
+}
+
+fn take_part(rest: &mut &[u8]) -> Option<Vec<u8>> {
+    let length = usize::from(u16::from_le_bytes([*rest.first()?, *rest.get(1)?]));
+    let part = rest.get(2..2 + length)?.to_vec();
+    *rest = &rest[2 + length..];
+    Some(part)
 }
 
 /// The bytes of `stdout`: one line for each vector.
@@ -246,7 +279,7 @@ pub fn write_all(directory: &Path, seed: u64, scale: usize) -> io::Result<()> {
         let vectors = make(sort, seed, scale);
         let folder = directory.join(format!("{}_vectors", sort.name));
         fs::create_dir_all(&folder)?;
-        fs::write(folder.join("stdin"), encode(&vectors))?;
+        fs::write(folder.join("stdin"), encode(sort, &vectors))?;
         fs::write(folder.join("stdout"), answers(sort, &vectors))?;
     }
     Ok(())
@@ -256,18 +289,33 @@ pub fn write_all(directory: &Path, seed: u64, scale: usize) -> io::Result<()> {
 mod tests {
     use super::*;
 
+    fn sort_named(name: &str) -> &'static Sort {
+        SORTS.iter().find(|sort| sort.name == name).unwrap()
+    }
+
     #[test]
     fn the_format_is_as_said() {
         let vectors = vec![vec![b"ab".to_vec(), Vec::new()], vec![vec![b'x'; 258], b"\0".to_vec()]];
-        let bytes = encode(&vectors);
+        let (sort, one_part) = (sort_named("begins"), sort_named("tokens"));
+        let bytes = encode(sort, &vectors);
         assert_eq!(&bytes[..10], b"\x02\0\0\0\x02\0ab\0\0");
         assert_eq!(&bytes[10..13], b"\x02\x01x");
-        assert_eq!(decode(&bytes, 2), Some(vectors));
-        assert_eq!(decode(&bytes, 1), None);
-        assert_eq!(decode(&bytes[..bytes.len() - 1], 2), None);
-        assert_eq!(decode(b"\0\0", 2), None);
+        assert_eq!(decode(sort, &bytes), Some(vectors));
+        assert_eq!(decode(one_part, &bytes), None);
+        assert_eq!(decode(sort, &bytes[..bytes.len() - 1]), None);
+        assert_eq!(decode(sort, b"\0\0"), None);
         assert_eq!(read_parts(b"\x02\0ab\0\0", 2), Some(vec![b"ab".to_vec(), Vec::new()]));
         assert_eq!(read_parts(b"\x02\0ab\0\0x", 2), None);
+    }
+
+    #[test]
+    fn the_packed_format_is_as_said() {
+        let vectors = vec![vec![b"permit".to_vec(), Vec::new()], vec![b"permit".to_vec(), b"x".to_vec()]];
+        let sort = sort_named("compile");
+        let bytes = encode(sort, &vectors);
+        assert_eq!(bytes, b"\x02\0\0\0\x0b\0\x09\x06\0permit\0\0\x07\0\x84\0\0\x02\x01\0x");
+        assert_eq!(decode(sort, &bytes), Some(vectors));
+        assert_eq!(decode(sort, &bytes[..bytes.len() - 1]), None);
     }
 
     #[test]
@@ -275,7 +323,9 @@ mod tests {
         for sort in &SORTS {
             let vectors = make(sort, STANDARD_SEED, 1);
             assert_eq!(vectors.len(), sort.count);
-            assert!(encode(&vectors).len() <= if sort.name == "decide" { 12_000_000 } else { 4_000_000 });
+            let bytes = encode(sort, &vectors);
+            assert!(bytes.len() <= 2_200_000, "{}", bytes.len());
+            assert!(decode(sort, &bytes) == Some(vectors.clone()));
             assert_eq!(answers(sort, &vectors).lines().count(), sort.count);
         }
     }

@@ -1,5 +1,6 @@
 // Compiles test texts, each into a table with a given room, and writes a line for each: policies, bytes used and a sum over them, or the refusal's number and place.
 ghost use Prim.Native.Nat.{_<_, _≤_};
+ghost use lib.ListN.{length};
 use compiling::Compiled;
 use compiling::compile;
 use libc::STDOUT_FILENO;
@@ -63,22 +64,36 @@ fn run(text: &[u8], table: &mut [u8]) {
     report(answer, table);
 }
 
-fn vector(table: &mut [u8]) {
-    let mut text = [0u8; 8300];
-    let n = vectors::read_part(&mut text);
-    let mut shift = [0u8; 2];
-    vectors::read_part(&mut shift);
-    let r = room(n, shift[0], shift[1]);
+// One vector, which lies unpacked in the memory: a text and the room's shift.
+fn vector(memory: &[u8], at: usize, table: &mut [u8])
+    requires { ⌜ at ≤ length (now memory) ⌝ }
+{
+    let text = packed::part_start(memory, at);
+    let text_end = packed::part_end(memory, text);
+    let shift = packed::part_start(memory, text_end);
+    let shift_end = packed::part_end(memory, shift);
+    let n = text_end - text;
+    if shift_end - shift < 2 {
+        return;
+    }
+    if n > 8300 {
+        return;
+    }
+    let r = room(n, memory[shift], memory[shift + 1]);
     if r <= table.len() {
-        run(&text[..n], &mut table[..r]);
+        run(&memory[text..text_end], &mut table[..r]);
     }
 }
 
 fn main() {
+    let mut memory = [0u8; 131072];
     let mut table = [0u8; 99200];
+    let mut at = 0;
     let mut left = vectors::vector_count();
     while left > 0 {
-        vector(&mut table);
+        let end = packed::read_vector(&mut memory, at);
+        vector(&memory, at, &mut table);
+        at = packed::next_place(end);
         left -= 1;
     }
 }

@@ -1,4 +1,6 @@
 // Decides test requests, and writes a line for each: the outcome and the policy's number, or `R` and the refusal's number.
+ghost use Prim.Native.Nat.{_≤_};
+ghost use lib.ListN.{length};
 use deciding::Answer;
 use deciding::decide;
 use libc::STDOUT_FILENO;
@@ -26,34 +28,40 @@ fn report(answer: Answer) {
     }
 }
 
-// One vector: a text, a table, a bag, and a request's subject, action and resource.
-fn vector() {
-    let mut text = [0u8; 8300];
-    let mut table = [0u8; 65536];
-    let mut bag = [0u8; 8192];
-    let mut subject = [0u8; 300];
-    let mut action = [0u8; 300];
-    let mut resource = [0u8; 300];
-    let n = vectors::read_part(&mut text);
-    let t = vectors::read_part(&mut table);
-    let b = vectors::read_part(&mut bag);
-    let s = vectors::read_part(&mut subject);
-    let a = vectors::read_part(&mut action);
-    let r = vectors::read_part(&mut resource);
+// One vector, which lies unpacked in the memory: a text, a table, a bag, and a request's subject, action and resource.
+fn vector(memory: &[u8], at: usize)
+    requires { ⌜ at ≤ length (now memory) ⌝ }
+{
+    let text = packed::part_start(memory, at);
+    let text_end = packed::part_end(memory, text);
+    let table = packed::part_start(memory, text_end);
+    let table_end = packed::part_end(memory, table);
+    let bag = packed::part_start(memory, table_end);
+    let bag_end = packed::part_end(memory, bag);
+    let subject = packed::part_start(memory, bag_end);
+    let subject_end = packed::part_end(memory, subject);
+    let action = packed::part_start(memory, subject_end);
+    let action_end = packed::part_end(memory, action);
+    let resource = packed::part_start(memory, action_end);
+    let resource_end = packed::part_end(memory, resource);
     report(decide(
-        &text[..n],
-        &table[..t],
-        &bag[..b],
-        &subject[..s],
-        &action[..a],
-        &resource[..r],
+        &memory[text..text_end],
+        &memory[table..table_end],
+        &memory[bag..bag_end],
+        &memory[subject..subject_end],
+        &memory[action..action_end],
+        &memory[resource..resource_end],
     ));
 }
 
 fn main() {
+    let mut memory = [0u8; 131072];
+    let mut at = 0;
     let mut left = vectors::vector_count();
     while left > 0 {
-        vector();
+        let end = packed::read_vector(&mut memory, at);
+        vector(&memory, at);
+        at = packed::next_place(end);
         left -= 1;
     }
 }

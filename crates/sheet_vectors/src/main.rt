@@ -1,6 +1,7 @@
 // Asks for pages of the sheets of test questions, and writes a line for each: rows written and next, or `R` and the refusal's number; and then a sum of the
 // whole sheet, which is lent with a pattern in it.
-ghost use Prim.Native.Nat.{_<_};
+ghost use Prim.Native.Nat.{_<_, _≤_};
+ghost use lib.ListN.{length};
 use libc::STDOUT_FILENO;
 use sheets::Answer;
 use sheets::sheet;
@@ -28,62 +29,42 @@ fn report(answer: Answer, sheet: &[u8]) {
     vectors::print_number(vectors::sum_of(sheet), b'\n');
 }
 
-// The number in two bytes, the low one first.
-fn number2(low: u8, high: u8) -> usize
-    ensures { λ r. ⌜ r < 65536 ⌝ }
+// The number in some bytes, the low one first; of more than eight bytes only the first eight count.
+fn number(bytes: &[u8]) -> u64 {
+    let mut n: u64 = 0;
+    let mut i = bytes.len();
+    while i > 0 {
+        i -= 1;
+        n = with_byte(n, bytes[i]);
+    }
+    n
+}
+
+fn with_byte(n: u64, low: u8) -> u64 {
+    n % 72057594037927936 * 256 + low as u64
+}
+
+// Where a page is wanted: the start row, the sheet's length, and the named byte.
+struct Wanted {
+    start: usize,
+    length: usize,
+    named: usize,
+}
+
+fn page_wanted(memory: &[u8], at: usize) -> Wanted
+    requires { ⌜ at ≤ length (now memory) ⌝ }
+    ensures { λ r. ⌜ r .length < 65536 ⌝ }
 {
-    low as usize + 256 * (high as usize)
-}
-
-// The number in four bytes.
-fn number4(a: u8, b: u8, c: u8, d: u8) -> u64
-    ensures { λ r. ⌜ r < 4294967296 ⌝ }
-{
-    a as u64 + 256 * (b as u64) + 65536 * (c as u64) + 16777216 * (d as u64)
-}
-
-// The number in eight bytes.
-fn number(b: &[u8; 8]) -> usize {
-    let low = number4(b[0], b[1], b[2], b[3]);
-    let high = number4(b[4], b[5], b[6], b[7]);
-    (low + 4294967296 * high) as usize
-}
-
-// One vector: a text, a table, a question, a request's subject, action and resource, the start row, the sheet's length, and the named byte.
-fn vector() {
-    let mut text = [0u8; 8300];
-    let mut table = [0u8; 65536];
-    let mut question = [0u8; 8192];
-    let mut subject = [0u8; 300];
-    let mut action = [0u8; 300];
-    let mut resource = [0u8; 300];
-    let mut start = [0u8; 8];
-    let mut size = [0u8; 2];
-    let mut at = [0u8; 8];
-    let mut space = [0u8; 65536];
-    let n = vectors::read_part(&mut text);
-    let t = vectors::read_part(&mut table);
-    let q = vectors::read_part(&mut question);
-    let s = vectors::read_part(&mut subject);
-    let a = vectors::read_part(&mut action);
-    let r = vectors::read_part(&mut resource);
-    vectors::read_part(&mut start);
-    vectors::read_part(&mut size);
-    vectors::read_part(&mut at);
-    let length = number2(size[0], size[1]);
-    let first = number(&start);
-    let named = number(&at);
-    page(
-        &text[..n],
-        &table[..t],
-        &question[..q],
-        &subject[..s],
-        &action[..a],
-        &resource[..r],
-        first,
-        &mut space[..length],
-        named,
-    );
+    let start = packed::part_start(memory, at);
+    let start_end = packed::part_end(memory, start);
+    let size = packed::part_start(memory, start_end);
+    let size_end = packed::part_end(memory, size);
+    let named = packed::part_start(memory, size_end);
+    let named_end = packed::part_end(memory, named);
+    let first = number(&memory[start..start_end]) as usize;
+    let length = (number(&memory[size..size_end]) % 65536) as usize;
+    let byte = number(&memory[named..named_end]) as usize;
+    Wanted { start: first, length, named: byte }
 }
 
 fn page<'a>(
@@ -112,10 +93,46 @@ fn page<'a>(
     report(answer, lent);
 }
 
+// One vector, which lies unpacked in the memory: a text, a table, a question, a request's subject, action and resource, and what is wanted.
+fn vector(memory: &[u8], at: usize)
+    requires { ⌜ at ≤ length (now memory) ⌝ }
+{
+    let text = packed::part_start(memory, at);
+    let text_end = packed::part_end(memory, text);
+    let table = packed::part_start(memory, text_end);
+    let table_end = packed::part_end(memory, table);
+    let question = packed::part_start(memory, table_end);
+    let question_end = packed::part_end(memory, question);
+    let subject = packed::part_start(memory, question_end);
+    let subject_end = packed::part_end(memory, subject);
+    let action = packed::part_start(memory, subject_end);
+    let action_end = packed::part_end(memory, action);
+    let resource = packed::part_start(memory, action_end);
+    let resource_end = packed::part_end(memory, resource);
+    let w = page_wanted(memory, resource_end);
+    let size = w.length;
+    let mut space = [0u8; 65536];
+    page(
+        &memory[text..text_end],
+        &memory[table..table_end],
+        &memory[question..question_end],
+        &memory[subject..subject_end],
+        &memory[action..action_end],
+        &memory[resource..resource_end],
+        w.start,
+        &mut space[..size],
+        w.named,
+    );
+}
+
 fn main() {
+    let mut memory = [0u8; 131072];
+    let mut at = 0;
     let mut left = vectors::vector_count();
     while left > 0 {
-        vector();
+        let end = packed::read_vector(&mut memory, at);
+        vector(&memory, at);
+        at = packed::next_place(end);
         left -= 1;
     }
 }

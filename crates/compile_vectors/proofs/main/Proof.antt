@@ -1,50 +1,16 @@
-use borrow.Author.Needs.{needs}
-use lib.ListN.{length}
+-- `compile_vectors::main` is safe and ends: the vectors left count down. Assumes nothing.
 use mathlib.Core.Path.{_≡_}
+use Prim.Native.Nat.{_<_}
+use lib.ListN.{length}
+use borrow.Author.Needs.{needs}
 use Rattle.compile_vectors.proofs.main.Statement.{statement}
 use Rattle.compile_vectors.proofs.main.Tie as tie
-use Rattle.compile_vectors.proofs.main.Reads as reads
-use Rattle.compile_vectors.proofs.main.Lts as lts
-use Rattle.compile_vectors.proofs.vector.Reads as vector-reads
-use Rattle.vectors.proofs.vector_count.Reads as vector-count-reads
 
 abbrev Inv-loop : tie.InvT-loop
-Inv-loop table₀ left₀ table left = length table ≡ 99200
+Inv-loop memory₀ table₀ at₀ left₀ memory table at left = (length memory ≡ 131072) × (length table ≡ 99200) × (at < 65536)
 
 abbrev μ-loop : tie.MeasureT-loop
-μ-loop table₀ left₀ table left = left
-
--- src/main.rt:79:9
-vector-count-requires : tie.Need-vector-count-requires Inv-loop μ-loop
-vector-count-requires c κs = search needs
-
--- src/main.rt:80:5
-loop-holds : tie.Need-loop-holds Inv-loop μ-loop
-loop-holds c = search needs
-
--- src/main.rt:81:16
-slice-aggregate-vector : tie.Need-slice-aggregate-vector Inv-loop μ-loop
-slice-aggregate-vector c = search needs
-
--- src/main.rt:81:9
-vector-requires : tie.Need-vector-requires Inv-loop μ-loop
-vector-requires c κs = search needs
-
--- src/main.rt:82:9
-sub-left : tie.Need-sub-left Inv-loop μ-loop
-sub-left c = search needs
-
--- src/main.rt:80:5
-loop-less : tie.Need-loop-less Inv-loop μ-loop
-loop-less c = search needs
-
--- src/main.rt:80:5
-loop-again : tie.Need-loop-again Inv-loop μ-loop
-loop-again c = search needs
-
--- src/main.rt:77:1
-returns : tie.Need-returns Inv-loop μ-loop
-returns c = search needs
+μ-loop memory₀ table₀ at₀ left₀ memory table at left = left
 
 pub main-spec : {M : Type 1} → statement M
 main-spec =
@@ -52,11 +18,15 @@ main-spec =
     (tie.spec
     Inv-loop
     μ-loop
-    vector-count-requires
-    loop-holds
-    slice-aggregate-vector
-    vector-requires
-    sub-left
-    loop-less
-    loop-again
-    returns)
+    (λ c κs. search needs)
+    (λ c. search needs)
+    (λ c. search needs)
+    (λ c κs. search needs)
+    (λ c. search needs)
+    (λ c. search needs)
+    (λ c κs. search needs)
+    (λ c κs. search needs)
+    (λ c. search needs)
+    (λ c. search needs)
+    (λ c. search needs)
+    (λ c. search needs))

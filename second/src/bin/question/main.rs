@@ -15,10 +15,10 @@ mod words;
 mod writing;
 
 use std::fs;
-use std::io::{self, Read, Write};
+use std::io;
 use std::path::Path;
-use std::process::exit;
 
+use second::command::{self, failed, print, standard_input, Failure};
 use second::questions::read_question;
 use second::sheets::read_request;
 use second::tokens::place_of;
@@ -36,28 +36,8 @@ const USAGE: &str = "usage:
                               print the sheet of policy.txt, question.bin and request.txt in DIR as a table, or with
                               --html as a page; SHEET is a file with the sheet program's output, else standard input";
 
-/// Why the program stops early.
-enum Failure {
-    /// The words are not understood: exit status 2.
-    Usage,
-    /// Anything else: exit status 1.
-    Other(String),
-}
-
 fn main() {
-    let words: Vec<String> = std::env::args_os().skip(1).map(|word| word.to_string_lossy().into_owned()).collect();
-    let words: Vec<&str> = words.iter().map(String::as_str).collect();
-    match run(&words) {
-        Ok(()) => {}
-        Err(Failure::Usage) => {
-            eprintln!("{}", USAGE);
-            exit(2);
-        }
-        Err(Failure::Other(reason)) => {
-            eprintln!("{}", reason);
-            exit(1);
-        }
-    }
+    command::start(USAGE, run);
 }
 
 fn run(words: &[&str]) -> Result<(), Failure> {
@@ -125,22 +105,8 @@ fn file_in(directory: &str, name: &str) -> Result<Vec<u8>, Failure> {
     }
 }
 
-fn standard_input() -> Result<Vec<u8>, Failure> {
-    let mut bytes = Vec::new();
-    io::stdin().read_to_end(&mut bytes).map_err(|error| failed("standard input", error))?;
-    Ok(bytes)
-}
-
 fn read_file(name: &str) -> Result<Vec<u8>, Failure> {
     fs::read(name).map_err(|error| failed(name, error))
-}
-
-fn print(text: &str) -> Result<(), Failure> {
-    io::stdout().write_all(text.as_bytes()).map_err(|error| failed("standard output", error))
-}
-
-fn failed(name: &str, error: io::Error) -> Failure {
-    Failure::Other(format!("{}: {}", name, error))
 }
 
 /// Whether docs/QUESTIONS.md has the message.

@@ -13,6 +13,9 @@ use crate::reading::read_text;
 
 const FOLDERS: [&str; 4] = ["worked", "crew", "crew/night", "crew/records"];
 
+/// The folder whose page is stored.
+const WITH_PAGE: &str = "crew";
+
 fn folder(name: &str) -> PathBuf {
     Path::new(env!("CARGO_MANIFEST_DIR")).join("../examples").join(name)
 }
@@ -32,9 +35,10 @@ fn the_examples_are_as_stored() {
         assert!(bytes == file(&directory, "question.bin"), "{}/question.bin", name);
         let sheet = printed(&text, &bytes, &request, 600);
         assert_eq!(sheet.as_bytes(), file(&directory, "expected.txt"), "{}/expected.txt", name);
-        for (as_page, stored) in [(false, "table.txt"), (true, "page.html")] {
-            let shown = printed_sheet(&text, &bytes, &request, sheet.as_bytes(), as_page).unwrap();
-            assert!(shown.as_bytes() == file(&directory, stored), "{}/{}", name, stored);
+        let shown = |as_page| printed_sheet(&text, &bytes, &request, sheet.as_bytes(), as_page).unwrap().into_bytes();
+        assert!(shown(false) == file(&directory, "table.txt"), "{}/table.txt", name);
+        if name == WITH_PAGE {
+            assert!(shown(true) == file(&directory, "page.html"), "{}/page.html", name);
         }
     }
 }
