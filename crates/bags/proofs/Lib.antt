@@ -2,5 +2,5 @@ pub mod ReadLaws
 pub mod PathLaws
 pub mod ValueLaws
 pub mod SectionLaws
-pub mod Accepted
+pub mod Ascent
 pub mod Examples

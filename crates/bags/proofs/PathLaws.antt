@@ -1,7 +1,7 @@
 -- Laws of paths: the pieces between the dots, as runs of word bytes find them. Assumes nothing.
 use Prim.Native.Nat.{ℕ, suc, _+_, _-_, _<_, _≤_}
-use mathlib.Core.List.{List, [], _∷_}
-use mathlib.Core.Bool.{Bool, true, false, _&&_, _||_, cond}
+use mathlib.Core.List.{List, [], _∷_, _++_}
+use mathlib.Core.Bool.{Bool, true, false, _&&_, _||_, cond, and-eq-true-iff, and-true, and-false, or-true}
 use mathlib.Core.Logic.{⊎-elim}
 use mathlib.Core.Path.{_≡_, refl, sym, _∙_, ap}
 use native.Mathlib.Nat.{eq-or-lt-of-le}
@@ -15,18 +15,17 @@ use Rattle.tokens.specs.Kinds.{name}
 use Rattle.tokens.specs.Runs.{is, run, runEnd}
 use Rattle.tokens.specs.Words.{wordKind}
 use Rattle.tokens.specs.declared.classes.Sort.the-variants.{Letters, WordBytes}
-use Rattle.bags.specs.Paths.{every, isName, onto, pieces, joined, isPath}
-use Rattle.bags.proofs.ReadLaws.{and-true}
+use Rattle.bags.specs.Paths.{every, isName, onto, pieces, isPath}
 
 -- ---- pieces
 
 -- there is a first piece
-record Pieces (l : List ℕ) : Type 0 where
-  first : List ℕ
-  others : List (List ℕ)
-  are : pieces l ≡ first ∷ others
+pub record Pieces (l : List ℕ) : Type 0 where
+  pub first : List ℕ
+  pub others : List (List ℕ)
+  pub are : pieces l ≡ first ∷ others
 
-some-piece : (l : List ℕ) → Pieces l
+pub some-piece : (l : List ℕ) → Pieces l
 unfolding pieces
 some-piece [] = record { first = []; others = []; are = refl }
 some-piece (b ∷ rest) = go (eqb b 46) refl (some-piece rest)
@@ -35,7 +34,13 @@ some-piece (b ∷ rest) = go (eqb b 46) refl (some-piece rest)
     go true e p = record { first = []; others = pieces rest; are = simp e }
     go false e p = record { first = b ∷ p .first; others = p .others; are = simp (e, p .are) }
 
--- pieces joined by dots are the whole again
+-- pieces joined by dots
+unfoldable pub joined : List (List ℕ) → List ℕ
+joined [] = []
+joined (p ∷ []) = p
+joined (p ∷ q ∷ ps) = p ++ 46 ∷ joined (q ∷ ps)
+
+-- they are the whole again
 pub joined-again : (l : List ℕ) → joined (pieces l) ≡ l
 unfolding pieces joined
 joined-again [] = refl
@@ -51,7 +56,7 @@ joined-again (b ∷ rest) = go (eqb b 46) refl (some-piece rest) (joined-again r
 
 -- ---- a run of word bytes, and the piece that starts with it
 
-dot-is-none : (b : ℕ) → is WordBytes b ≡ true → eqb b 46 ≡ false
+pub dot-is-none : (b : ℕ) → is WordBytes b ≡ true → eqb b 46 ≡ false
 unfolding classOf
 dot-is-none b h = ne-eqb b 46 (λ e. let z : false ≡ true = rw e at h in let k : _≡_ {A = ℕ} 0 1 = cc in omega arith)
 
@@ -90,10 +95,6 @@ piece-dot (b ∷ rest) h d = go (is WordBytes b) refl (piece-dot rest) h d
     go true e ih h′ d′ = simp (dot-is-none b e, ih (omega arith) d′)
     go false e ih h′ d′ = simp (eq-eqb b 46 d′)
 
-and-false : (a b : Bool) → b ≡ false → a && b ≡ false
-and-false true b h = h
-and-false false b h = refl
-
 -- a piece with a byte that no word has
 record Spoilt (l : List ℕ) : Type 0 where
   first : List ℕ
@@ -113,7 +114,7 @@ piece-spoilt (b ∷ rest) h d = go (is WordBytes b) refl (piece-spoilt rest) h d
         → (getD (b ∷ rest) (cond t (suc k) 0) 0 ≡ 46 → ⊥) → Spoilt (b ∷ rest)
     go true e ih h′ d′ =
         let s = ih (omega arith) d′ in
-        record { first = b ∷ s .first; others = s .others; are = simp (dot-is-none b e, s .are); bad = and-false (is WordBytes b) _ (s .bad) }
+        record { first = b ∷ s .first; others = s .others; are = simp (dot-is-none b e, s .are); bad = rw (s .bad) (and-false (is WordBytes b)) }
     go false e ih h′ d′ =
         let p = some-piece rest in
         record { first = b ∷ p .first; others = p .others; are = simp (ne-eqb b 46 d′, p .are); bad = simp e }
@@ -129,21 +130,13 @@ unfolding classOf
 starts-none [] h = refl
 starts-none (b ∷ rest) h = absurd (omega arith)
 
-without : (a b c : Bool) → b ≡ true → a && b && c ≡ a && c
-without true b c h = simp h
-without false b c h = refl
-
-unnamed : (a b c : Bool) → b ≡ false → a && b && c ≡ false
-unnamed true b c h = simp h
-unnamed false b c h = refl
-
 module _ (l : List ℕ) where
   word : List ℕ
   word = take (run WordBytes l) l
 
   named : (r : Bool) → starts word ≡ r → isName word ≡ r
   unfolding isName word
-  named r h = without (is Letters (getD word 0 0)) (every (is WordBytes) word) (eqb (wordKind word) name) (run-words l) ∙ h
+  named r h = rw (run-words l, and-true (is Letters (getD word 0 0))) h
 
   lone : run WordBytes l ≡ length l → pieces l ≡ word ∷ []
   unfolding word
@@ -153,7 +146,7 @@ module _ (l : List ℕ) where
   unfolding every isName
   spoilt h d =
       let s = piece-spoilt l h d in
-      rw (s .are) (simp (unnamed (is Letters (getD (s .first) 0 0)) (every (is WordBytes) (s .first)) (eqb (wordKind (s .first)) name) (s .bad)))
+      rw (s .are, s .bad, and-false (is Letters (getD (s .first) 0 0)))
 
   nameless : run WordBytes l ≤ length l → starts word ≡ false → every isName (pieces l) ≡ false
   unfolding every word
@@ -223,7 +216,7 @@ module _ (p : List ℕ) where
   -- a path has a byte, and at most 64
   pub path-sized : isPath p ≡ true → (0 < length p) × (length p ≤ 64)
   unfolding isPath
-  path-sized h = let t = and-true (leb (length p) 64) _ h in (go p (t .1), leb-true _ _ (t .0))
+  path-sized h = let t = and-eq-true-iff (leb (length p) 64) _ .0 h in (go p (t .1), leb-true _ _ (t .0))
     where
       go : (p : List ℕ) → every isName (pieces p) ≡ true → 0 < length p
       go [] e = absurd (no-empty e)
@@ -235,9 +228,9 @@ words : (ps : List (List ℕ)) → every isName ps ≡ true → every (every (is
 unfolding every isName
 words [] h = refl
 words (p ∷ ps) h =
-    let t = and-true (isName p) (every isName ps) h in
-    let w = and-true (is Letters (getD p 0 0) && every (is WordBytes) p) (eqb (wordKind p) name) (t .0) in
-    simp (and-true (is Letters (getD p 0 0)) (every (is WordBytes) p) (w .0) .1, words ps (t .1))
+    let t = and-eq-true-iff (isName p) (every isName ps) .0 h in
+    let w = and-eq-true-iff (is Letters (getD p 0 0) && every (is WordBytes) p) (eqb (wordKind p) name) .0 (t .0) in
+    simp (and-eq-true-iff (is Letters (getD p 0 0)) (every (is WordBytes) p) .0 (w .0) .1, words ps (t .1))
 
 -- a byte that a path may have
 abbrev pub pathByte : ℕ → Bool
@@ -248,20 +241,16 @@ unfolding every pieces
 word-bytes [] h = refl
 word-bytes (b ∷ rest) h = go (eqb b 46) refl h (some-piece rest) (word-bytes rest)
   where
-    either : (a : Bool) → (a || true) ≡ true
-    either true = refl
-    either false = refl
-
     go : (t : Bool) → eqb b 46 ≡ t → every (every (is WordBytes)) (cond t ([] ∷ pieces rest) (onto b (pieces rest))) ≡ true → Pieces rest
         → (every (every (is WordBytes)) (pieces rest) ≡ true → every pathByte rest ≡ true) → every pathByte (b ∷ rest) ≡ true
-    go true e k p ih = simp (e, either (is WordBytes b), ih k)
+    go true e k p ih = simp (e, or-true (is WordBytes b), ih k)
     go false e k p ih =
         let k' : every (every (is WordBytes)) ((b ∷ p .first) ∷ p .others) ≡ true = rw (p .are) at k in
-        let t = and-true (is WordBytes b && every (is WordBytes) (p .first)) (every (every (is WordBytes)) (p .others)) k' in
-        let w = and-true (is WordBytes b) (every (is WordBytes) (p .first)) (t .0) in
+        let t = and-eq-true-iff (is WordBytes b && every (is WordBytes) (p .first)) (every (every (is WordBytes)) (p .others)) .0 k' in
+        let w = and-eq-true-iff (is WordBytes b) (every (is WordBytes) (p .first)) .0 (t .0) in
         let r : every (every (is WordBytes)) (pieces rest) ≡ true = rw (p .are) (simp (w .1, t .1)) in
         simp (w .0, ih r)
 
 pub path-bytes : (p : List ℕ) → isPath p ≡ true → every pathByte p ≡ true
 unfolding isPath
-path-bytes p h = word-bytes p (words (pieces p) (and-true (leb (length p) 64) (every isName (pieces p)) h .1))
+path-bytes p h = word-bytes p (words (pieces p) (and-eq-true-iff (leb (length p) 64) (every isName (pieces p)) .0 h .1))

@@ -1,7 +1,7 @@
 -- Laws of things read one after the other, for any reader. Assumes nothing.
 use Prim.Native.Nat.{ℕ, zero, suc, _+_, _-_, _<_, _≤_}
 use mathlib.Core.List.{List, [], _∷_}
-use mathlib.Core.Bool.{Bool, true, false, _&&_}
+use mathlib.Core.Bool.{Bool, true, false}
 use mathlib.Core.Path.{_≡_, refl, sym, _∙_}
 use native.Mathlib.Omega.{arith}
 use native.Mathlib.Numerals.{add-one}
@@ -17,10 +17,6 @@ bad-at h = let z : _≡_ {A = ℕ} 0 1 = cc in omega arith
 
 pub same-end : {a : After} {x y : ℕ} → a ≡ At x → a ≡ At y → x ≡ y
 same-end p q = cc
-
-pub and-true : (a b : Bool) → a && b ≡ true → (a ≡ true) × (b ≡ true)
-and-true true b h = (refl, h)
-and-true false b h = absurd (let z : _≡_ {A = ℕ} 0 1 = cc in omega arith)
 
 pub only-at : (b : Bool) (a : After) (e : ℕ) → only b a ≡ At e → (b ≡ true) × (a ≡ At e)
 only-at true a e h = (refl, h)

@@ -1,7 +1,7 @@
 -- The cases of entries, sections and bags, as the code's tests tell them apart, and what they tell. Assumes nothing.
 use Prim.Native.Nat.{ℕ, zero, suc, _+_, _-_, _<_, _≤_}
 use mathlib.Core.List.{List, [], _∷_}
-use mathlib.Core.Bool.{Bool, true, false, _&&_, cond}
+use mathlib.Core.Bool.{Bool, true, false, _&&_, cond, and-eq-true-iff, and-false}
 use mathlib.Core.Path.{_≡_, refl, sym, _∙_}
 use borrow.Author.Tests.{le-leb, lt-leb, lt-ltb, le-ltb, eq-eqb, ne-eqb, ltb-true, leb-true}
 use native.Mathlib.Omega.{arith}
@@ -20,7 +20,7 @@ use Rattle.bags.specs.declared.After.the-variants.{At, Bad}
 use Rattle.bags.specs.declared.sections.Sections.{Sections}
 use Rattle.bags.specs.declared.sections.Divided.{Divided}
 use Rattle.bags.specs.declared.sections.Divided.the-variants.{In, Broken}
-use Rattle.bags.proofs.ReadLaws.{and-true, only-at, only-bad, many-done, many-stop, many-more, each-done, each-stop, each-more, part-to}
+use Rattle.bags.proofs.ReadLaws.{only-at, only-bad, many-done, many-stop, many-more, each-done, each-stop, each-more, part-to}
 use Rattle.bags.proofs.PathLaws.{path-sized}
 
 -- ---- an entry
@@ -48,7 +48,7 @@ pub entry-at : (s : List ℕ) (at e : ℕ) → entryEnd s at ≡ At e → Entry 
 unfolding entryEnd
 entry-at s at e h =
     let o = only-at (ltb (kindAt s at) (length s) && isPath (pathAt s at)) (valueEnd (byte s (kindAt s at)) s (kindAt s at + 1)) e h in
-    let t = and-true (ltb (kindAt s at) (length s)) _ (o .0) in
+    let t = and-eq-true-iff (ltb (kindAt s at) (length s)) _ .0 (o .0) in
     record { named = ltb-true _ _ (t .0); path = t .1; valued = o .1 }
 
 -- ---- entries, the first after a path `last`
@@ -135,7 +135,7 @@ pub section-at : (s : List ℕ) (at e : ℕ) → sectionEnd s at ≡ At e → Se
 unfolding sectionEnd entriesEnd
 section-at s at e h =
     let o = only-at (ltb at (length s) && leb (byte s at) 32) (entriesEnd (byte s at) s (at + 1)) e h in
-    let t = and-true (ltb at (length s)) _ (o .0) in
+    let t = and-eq-true-iff (ltb at (length s)) _ .0 (o .0) in
     let p = only-at (ascending (pathsOf (byte s at) s (at + 1))) (many (byte s at) (entryEnd s) (at + 1)) e (o .1) in
     record { counted = ltb-true _ _ (t .0); few = leb-true _ _ (t .1); ascend = p .0; entries = p .1 }
 
@@ -179,15 +179,21 @@ sections-at s p h = first (sectionEnd s 0) refl
     first Bad i = absurd (clash (first-broken s i) h)
     first (At a) i = second a i (sectionEnd s a) refl
 
+-- ---- sections that are told where a test holds, and Broken where it does not
+
+pub only-in : (b : Bool) (d : Divided) (p : Sections) → cond b d Broken ≡ In p → (b ≡ true) × (d ≡ In p)
+only-in true d p e = (refl, e)
+only-in false d p e = absurd (let z : _≡_ {A = ℕ} 0 1 = cc in omega arith)
+
+pub only-broken : (b : Bool) (d : Divided) → (d ≡ Broken → false ≡ b) → cond b d Broken ≡ Broken → false ≡ b
+only-broken true d n e = n e
+only-broken false d n e = refl
+
 -- ---- a bag
 
 no-sections : (s : List ℕ) → sectionsOf s ≡ Broken → false ≡ isBag s
 unfolding isBag
-no-sections s h = rw h (go (leb (length s) 4096))
-  where
-    go : (b : Bool) → false ≡ b && false
-    go true = refl
-    go false = refl
+no-sections s h = rw h (sym (and-false (leb (length s) 4096)))
 
 -- the sections of a bag, and none of what is no bag
 abbrev pub bagOnly : List ℕ → Divided
@@ -212,16 +218,7 @@ module _ (s : List ℕ) where
     bag-whole e = simp (le-leb _ _ h, q, eq-eqb _ _ e)
 
   pub bag-divided : (p : Sections) → bagOnly s ≡ In p → (isBag s ≡ true) × (sectionsOf s ≡ In p)
-  bag-divided p h = go (isBag s) h
-    where
-      go : (b : Bool) → cond b (sectionsOf s) Broken ≡ In p → (b ≡ true) × (sectionsOf s ≡ In p)
-      go true e = (refl, e)
-      go false e = absurd (let z : _≡_ {A = ℕ} 0 1 = cc in omega arith)
+  bag-divided = only-in (isBag s) (sectionsOf s)
 
   pub is-none : bagOnly s ≡ Broken → false ≡ isBag s
-  is-none h = whole (isBag s) refl (sectionsOf s) refl
-    where
-      whole : (b : Bool) → isBag s ≡ b → (d : Divided) → sectionsOf s ≡ d → false ≡ isBag s
-      whole false e d q = sym e
-      whole true e (In p) q = absurd (let x : In p ≡ Broken = simp (e, q) at h in let z : _≡_ {A = ℕ} 0 1 = cc in omega arith)
-      whole true e Broken q = no-sections s q
+  is-none = only-broken (isBag s) (sectionsOf s) (no-sections s)

@@ -1,7 +1,7 @@
 -- The cases of a value's end, as the code's tests tell them apart, and what a value that ends tells. Assumes nothing.
 use Prim.Native.Nat.{ℕ, _+_, _-_, _<_, _≤_}
 use mathlib.Core.List.{List}
-use mathlib.Core.Bool.{Bool, true, false, _&&_, _||_}
+use mathlib.Core.Bool.{Bool, true, false, _&&_, _||_, and-eq-true-iff}
 use mathlib.Core.Path.{_≡_, refl, _∙_}
 use borrow.Author.Tests.{le-leb, lt-leb, lt-ltb, le-ltb, ne-eqb, ltb-true, ltb-false, leb-true, leb-false, eqb-true, eqb-false}
 use native.Mathlib.Omega.{arith}
@@ -12,7 +12,7 @@ use Rattle.numbers.specs.Bits.{numberAt}
 use Rattle.bags.specs.Reading.{byte, many}
 use Rattle.bags.specs.Values.{stringEnd, numberEnd, flagEnd, listEnd, valueEnd}
 use Rattle.bags.specs.declared.After.the-variants.{At, Bad}
-use Rattle.bags.proofs.ReadLaws.{bad-at, and-true, only-at, many-inside}
+use Rattle.bags.proofs.ReadLaws.{bad-at, only-at, many-inside}
 
 -- ---- the cases
 
@@ -139,27 +139,27 @@ module _ (s : List ℕ) (at e : ℕ) where
   unfolding stringEnd
   string-at h =
       let o = only-at (leb (at + 1 + byte s at) (length s) && leb (byte s at) 127) (At (at + 1 + byte s at)) e h in
-      record { fits = leb-true _ _ (and-true (leb (at + 1 + byte s at) (length s)) _ (o .0) .0); stop = ends (o .1) }
+      record { fits = leb-true _ _ (and-eq-true-iff (leb (at + 1 + byte s at) (length s)) _ .0 (o .0) .0); stop = ends (o .1) }
 
   number-at : numberEnd s at ≡ At e → Number s at e
   unfolding numberEnd
   number-at h =
       let o = only-at (leb (at + 8) (length s) && finite (numberAt s at)) (At (at + 8)) e h in
-      let t = and-true (leb (at + 8) (length s)) _ (o .0) in
+      let t = and-eq-true-iff (leb (at + 8) (length s)) _ .0 (o .0) in
       record { fits = leb-true _ _ (t .0); is = t .1; stop = ends (o .1) }
 
   flag-at : flagEnd s at ≡ At e → Flag s at e
   unfolding flagEnd
   flag-at h =
       let o = only-at (ltb at (length s) && leb (byte s at) 1) (At (at + 1)) e h in
-      let t = and-true (ltb at (length s)) _ (o .0) in
+      let t = and-eq-true-iff (ltb at (length s)) _ .0 (o .0) in
       record { fits = ltb-true _ _ (t .0); is = leb-true _ _ (t .1); stop = ends (o .1) }
 
   list-at : listEnd s at ≡ At e → Strings s at e
   unfolding listEnd
   list-at h =
       let o = only-at (ltb at (length s) && leb (byte s at) 16) (many (byte s at) (stringEnd s) (at + 1)) e h in
-      record { counted = ltb-true _ _ (and-true (ltb at (length s)) _ (o .0) .0); are = o .1 }
+      record { counted = ltb-true _ _ (and-eq-true-iff (ltb at (length s)) _ .0 (o .0) .0); are = o .1 }
 
 -- which kind it is, and what that tells
 pub data Ended (kind : ℕ) (s : List ℕ) (at e : ℕ) : Type 0 where

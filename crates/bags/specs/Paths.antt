@@ -1,9 +1,8 @@
 -- Paths: names joined by dots, 64 bytes at most. A name is a word that is not reserved. Definitions only.
 use Prim.Native.Char.{code}
-use Prim.Native.Nat.{ℕ, _≤_}
-use mathlib.Core.Path.{_≡_}
+use Prim.Native.Nat.{ℕ}
 use mathlib.Core.Bool.{Bool, true, _&&_, cond}
-use mathlib.Core.List.{List, [], _∷_, _++_}
+use mathlib.Core.List.{List, [], _∷_}
 use lib.Dec.{leb, eqb}
 use lib.ListN.{length, getD}
 use Rattle.tokens.specs.Kinds.{name}
@@ -34,18 +33,6 @@ unfoldable pub pieces : List ℕ → List (List ℕ)
 pieces [] = [] ∷ []
 pieces (b ∷ rest) = cond (eqb b (code ".")) ([] ∷ pieces rest) (onto b (pieces rest))
 
--- pieces joined by dots
-unfoldable pub joined : List (List ℕ) → List ℕ
-joined [] = []
-joined (p ∷ []) = p
-joined (p ∷ q ∷ ps) = p ++ (code "." ∷ joined (q ∷ ps))
-
+-- a path: names joined by dots, 64 bytes at most
 unfoldable pub isPath : List ℕ → Bool
 isPath p = leb (length p) 64 && every isName (pieces p)
-
--- what is accepted, without computing: names joined by dots, 64 bytes at most
-pub record Path (p : List ℕ) : Type 0 where
-  pub names : List (List ℕ)
-  pub all : every isName names ≡ true
-  pub joined-by : p ≡ joined names
-  pub few : length p ≤ 64

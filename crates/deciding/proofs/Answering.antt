@@ -1,6 +1,6 @@
 -- The answer, test by test in document 01's order. Assumes nothing.
 use mathlib.Core.Path.{_≡_, refl, sym, _∙_}
-use mathlib.Core.Bool.{Bool, true, false, cond}
+use mathlib.Core.Bool.{Bool, true, false, cond, and-false}
 use mathlib.Core.List.{List}
 use Prim.Native.Nat.{ℕ}
 use lib.Dec.{leb}
@@ -14,7 +14,6 @@ use Rattle.views.specs.Values.{baseBag}
 use Rattle.meaning.specs.Targets.{Request, typeIn, isTyped, isSystem, isSubject, isAction, isResource}
 use Rattle.meaning.specs.Decisions.{policiesDecide, decisionOf}
 use Rattle.meaning.specs.declared.Decision.the-variants.{System}
-use Rattle.deciding.proofs.Lowest.{and-false}
 use Rattle.deciding.specs.Answers.{policiesOf, viewIn, viewOf, heldDecide, answerOf}
 use Rattle.deciding.specs.declared.Answer.the-variants.{Decided, Refused}
 

@@ -1,10 +1,11 @@
 -- A table that holds its text: its policies are those that the text says, and can be evaluated there. Assumes nothing.
 use mathlib.Core.Path.{_≡_, refl, sym, _∙_, ap}
 use mathlib.Core.List.{List, []}
-use Prim.Native.Nat.{ℕ}
+use Prim.Native.Nat.{ℕ, _≤_}
 use lib.ListN.{length}
 use Rattle.reading.specs.Reader.{took}
 use Rattle.grammar.specs.Policies.{Policy}
+use Rattle.placing.proofs.Theorems.{policies-placed}
 use Rattle.table.specs.Entries.{policiesEntries}
 use Rattle.table.specs.Layout.{bytesOf, Begins}
 use Rattle.table.proofs.Holding.{starts-decides, held-starts}
@@ -57,6 +58,10 @@ module _ (text table : List ℕ) (policies entries : ℕ) (h : heldOf text table
 
   pub held-many : policies ≡ length (policiesAt table entries)
   held-many = holds .many ∙ ap length (sym (policies-said text (holds .value) (holds .is)) ∙ sym held-says)
+
+  -- at most 64
+  pub held-few : policies ≤ 64
+  held-few = rw (holds .many) (policies-placed text (holds .value) (says .read) .few)
 
   pub held-decides : (s : List ℕ) (p : Sections) (heads values : List ℕ) (q : Request) {d : Decision}
       → d ≡ policiesDecide text (rowView s p 0 heads values) q (policiesAt table entries) → Decided d ≡ heldDecide text table (look (baseBag s p)) q

@@ -1,6 +1,6 @@
 -- The lowest-numbered satisfied policies, met from the last policy to the first. Assumes nothing.
 use mathlib.Core.Path.{_≡_, refl, sym, _∙_, ap}
-use mathlib.Core.Bool.{Bool, true, false, cond, not, _&&_}
+use mathlib.Core.Bool.{Bool, true, false, cond, not, _&&_, and-false}
 use mathlib.Core.List.{List, [], _∷_, _++_}
 use Prim.Native.Nat.{ℕ, zero, suc, _+_, _-_, _≤_, _<_}
 use native.Mathlib.Omega.{arith}
@@ -42,14 +42,6 @@ first-after test n (q ∷ qs) p = go (test q) (first-after test (suc n) qs p)
     go false h = let e : suc n + suc (length qs) ≡ suc (suc n) + length qs = omega arith in rw e h
 
 -- ---- a policy met, of effect `allows`, satisfied where `sat`
-
-pub and-false : (b : Bool) → b && false ≡ false
-and-false true = refl
-and-false false = refl
-
-and-true : (b : Bool) → b && true ≡ b
-and-true true = refl
-and-true false = refl
 
 -- a known forbid decides
 forbid-known : (a c d f : ℕ) → byNumbers (orElse a (suc f)) c ≡ byNumbers (orElse a (suc f)) d

@@ -1,7 +1,7 @@
 -- What is found in a bag: a value that is whole, with a finite number, and under a path only. Assumes nothing.
 use Prim.Native.Nat.{ℕ, zero, suc, _+_, _-_}
 use mathlib.Core.List.{List, [], _∷_}
-use mathlib.Core.Bool.{Bool, true, false, _&&_, _||_, cond}
+use mathlib.Core.Bool.{Bool, true, false, _&&_, _||_, cond, false≢true, and-eq-true-iff}
 use mathlib.Core.Path.{_≡_, refl, sym, _∙_, ap}
 use borrow.Author.Tests.{ne-eqb, eqb-true, eqb-false}
 use native.Mathlib.Omega.{arith}
@@ -23,7 +23,7 @@ use Rattle.bags.specs.declared.After.the-variants.{At}
 use Rattle.bags.specs.declared.sections.Sections.{Sections}
 use Rattle.bags.specs.declared.sections.Divided.{Divided}
 use Rattle.bags.specs.declared.sections.Divided.the-variants.{In, Broken}
-use Rattle.bags.proofs.ReadLaws.{and-true, First, first}
+use Rattle.bags.proofs.ReadLaws.{First, first}
 use Rattle.bags.proofs.PathLaws.{pathByte, path-bytes, path-sized}
 use Rattle.bags.proofs.SectionLaws.{entry-at, section-at, sections-at}
 use Rattle.tokens.specs.Blanks.{unblanked}
@@ -32,9 +32,6 @@ use Rattle.lookups.specs.Lookups.{lookIn, entryAt, sectionAt, baseOf, ba
 use Rattle.lookups.specs.declared.values.Value.{Value}
 use Rattle.lookups.proofs.StepLaws.{as-number, told}
 use Rattle.lookups.proofs.FindLaws.{look-done, look-here, look-on, base-1, base-2, base-3, base-none, bag-is-base}
-
-never : {A : Type 0} → false ≡ true → A
-never h = absurd (let z : _≡_ {A = ℕ} 0 1 = cc in omega arith)
 
 -- ---- a path has no blanks
 
@@ -45,7 +42,7 @@ no-blank b h = ne-eqb (classOf b) 2 (λ e. go (eqb b 95) (eqb b 45) refl refl e)
     go : (u m : Bool) → eqb b 95 ≡ u → eqb b 45 ≡ m → classOf b ≡ 2 → ⊥
     go true m p q e = let x : _≡_ {A = ℕ} 3 2 = ap classOf (sym (eqb-true b 95 p)) ∙ e in omega arith
     go false true p q e = let x : _≡_ {A = ℕ} 3 2 = ap classOf (sym (eqb-true b 45 q)) ∙ e in omega arith
-    go false false p q e = never (sym (other (classOf b) (eqb b 95) (eqb b 45) e p q) ∙ h)
+    go false false p q e = absurd (false≢true (sym (other (classOf b) (eqb b 95) (eqb b 45) e p q) ∙ h))
       where
         other : (c : ℕ) (u m : Bool) → c ≡ 2 → u ≡ false → m ≡ false → (eqb c 5 || eqb c 4 || u || m) ≡ false
         other c u m x y z = simp (x, y, z)
@@ -58,7 +55,7 @@ clear : (l : List ℕ) → every pathByte l ≡ true → unblanked l ≡ l
 unfolding unblanked every
 clear [] h = refl
 clear (b ∷ rest) h =
-    let t = and-true (pathByte b) (every pathByte rest) h in
+    let t = and-eq-true-iff (pathByte b) (every pathByte rest) .0 h in
     simp (neither (is WordBytes b) refl (t .0), clear rest (t .1))
   where
     neither : (w : Bool) → is WordBytes b ≡ w → (is WordBytes b || eqb b 46) ≡ true → is Blanks b ≡ false
@@ -177,7 +174,7 @@ module _ (s path : List ℕ) where
   pub impossible-path : isPath path ≡ false → (root : ℕ) → lookIn absent (bagOf s root) path ≡ absent
   impossible-path p =
       bag-has s path (λ v. v ≡ absent) refl
-      (λ at e h q. never (sym p ∙ ap isPath (sym (same-decides (pathAt s at) path .sound q)) ∙ entry-at s at e h .path))
+      (λ at e h q. absurd (false≢true (sym p ∙ ap isPath (sym (same-decides (pathAt s at) path .sound q)) ∙ entry-at s at e h .path)))
 
 -- nor does a root byte other than 1 to 3
 pub impossible-root : (s path : List ℕ) (root : ℕ) → (root ≡ 1 → ⊥) → (root ≡ 2 → ⊥) → (root ≡ 3 → ⊥) → lookIn absent (bagOf s root) path ≡ absent

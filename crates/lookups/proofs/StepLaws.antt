@@ -1,8 +1,8 @@
 -- What a value that is whole tells of the step over it and of its number. Assumes nothing.
 use Prim.Native.Nat.{ℕ, _+_, _-_, _<_, _≤_}
 use mathlib.Core.List.{List}
-use mathlib.Core.Bool.{Bool, true, false}
-use mathlib.Core.Path.{_≡_}
+use mathlib.Core.Bool.{Bool, true}
+use mathlib.Core.Path.{_≡_, sym, subst}
 use borrow.Author.Tests.{eq-eqb, ne-eqb}
 use native.Mathlib.Omega.{arith}
 use lib.Dec.{T}
@@ -92,8 +92,7 @@ module _ (kind : ℕ) (s : List ℕ) (at e : ℕ) (h : valueEnd kind s at ≡ At
 -- ---- numbers
 
 pub told : (b : Bool) → b ≡ true → T b
-told true h = tt
-told false h = absurd (let z : _≡_ {A = ℕ} 0 1 = cc in omega arith)
+told b h = subst T (sym h) tt
 
 module _ (kind : ℕ) (s : List ℕ) (at : ℕ) where
   pub number-is : (x : Float) → kind ≡ 2 → x ≡ numberAt s at → x ≡ numberOf kind s at

@@ -1,7 +1,7 @@
 -- A policy depends on the attributes that the entries of its condition name, and on nothing else of a row. Assumes nothing.
 use mathlib.Core.Path.{_≡_, refl, ap}
 use mathlib.Core.Bool.{true, cond}
-use mathlib.Core.List.{List, _∷_, _++_}
+use mathlib.Core.List.{List, _++_}
 use mathlib.Core.Option.{Option, none, some}
 use Prim.Native.Nat.{ℕ, _+_, _≤_}
 use native.Mathlib.Omega.{arith}
@@ -11,11 +11,11 @@ use lib.ListN.{length}
 use Rattle.slices.specs.Ascii.{bytes}
 use Rattle.slices.specs.Same.{same as alike}
 use Rattle.grammar.specs.Policies.{Span, Root, Root.Principal, Root.Resource, Root.Env, Root.Action, Operand, attribute, literal, Tree, constant, compare, like, among, within, contains, has, not, brackets, both, either, choice, Policy}
-use Rattle.placing.specs.Placed.{Each, none-left, and-each, Lies, pathAt, OperandPlaced, an-attribute, TreePlaced, a-comparison, a-likeness, in-list, in-attribute, a-call, a-presence, a-negation, in-brackets, a-conjunction, a-disjunction, a-choice, ConditionPlaced, a-condition, PolicyPlaced}
+use Rattle.placing.specs.Placed.{Each, Lies, pathAt, OperandPlaced, an-attribute, TreePlaced, a-comparison, a-likeness, in-list, in-attribute, a-call, a-presence, a-negation, in-brackets, a-conjunction, a-disjunction, a-choice, ConditionPlaced, a-condition, PolicyPlaced}
 use Rattle.table.specs.declared.Entry.{Entry}
 use Rattle.table.specs.Entries.{placed, rootKind, hasKind, operandEntry, treeEntries, conditionEntries}
 use Rattle.stored.specs.ReadBack.{spanOf}
-use Rattle.stored.proofs.Standing.{each-left, each-right}
+use Rattle.placing.proofs.EachLaws.{each-first, each-rest, each-left, each-right, each-as}
 use Rattle.views.specs.Meaning.{Datum, text, absent, View}
 use Rattle.meaning.specs.Values.{rootByte, withAction, attributeValue, operandValue}
 use Rattle.meaning.specs.Conditions.{verdict, isYes}
@@ -26,17 +26,6 @@ use Rattle.marks.specs.Columns.{rootBy, isAttribute}
 -- two views show the same for the attribute of an entry
 pub record Shows (t : List ℕ) (u v : View) (x : Entry) : Type 0 where
   pub same : isAttribute t x ≡ true → u (rootBy (x .kind)) (pathAt t (spanOf x)) ≡ v (rootBy (x .kind)) (pathAt t (spanOf x))
-
-module _ {A : Type 0} {P : A → Type 0} {x : A} {l : List A} where
-  first-of : Each P (x ∷ l) → P x
-  first-of (and-each p h) = p
-
-  rest-of : Each P (x ∷ l) → Each P l
-  rest-of (and-each p h) = h
-
-each-as : {A : Type 0} {P Q : A → Type 0} {l : List A} → ((x : A) → P x → Q x) → Each P l → Each Q l
-each-as f none-left = none-left
-each-as f (and-each p h) = and-each (f _ p) (each-as f h)
 
 is-attribute : (t : List ℕ) (x : Entry) → x .kind ≤ 8 → Lies t (spanOf x) → isAttribute t x ≡ true
 unfolding isAttribute
@@ -71,12 +60,12 @@ module _ (t : List ℕ) (u v : View) where
   pub verdict-agrees : (c : Tree) → TreePlaced t c → (e : ℕ) → Each (Shows t u v) (treeEntries e c) → verdict t u c ≡ verdict t v c
   unfolding verdict treeEntries
   verdict-agrees (constant b) p e h = refl
-  verdict-agrees (compare k a b) (a-comparison p q) e h = simp (operand-agrees a p (first-of h), operand-agrees b q (first-of (rest-of h)))
-  verdict-agrees (like a s) (a-likeness p q r) e h = simp (operand-agrees a p (first-of h))
-  verdict-agrees (among a ls) (in-list p q) e h = simp (operand-agrees a p (first-of h))
-  verdict-agrees (within a root s) (in-attribute p q) e h = simp (operand-agrees a p (first-of h), attribute-agrees root s (q .lies) (first-of (rest-of h)))
-  verdict-agrees (contains w root s ls) (a-call p q) e h = simp (attribute-agrees root s (p .lies) (first-of h))
-  verdict-agrees (has root s) (a-presence p) e h = simp (presence-agrees root s (p .lies) (first-of h))
+  verdict-agrees (compare k a b) (a-comparison p q) e h = simp (operand-agrees a p (each-first h), operand-agrees b q (each-first (each-rest h)))
+  verdict-agrees (like a s) (a-likeness p q r) e h = simp (operand-agrees a p (each-first h))
+  verdict-agrees (among a ls) (in-list p q) e h = simp (operand-agrees a p (each-first h))
+  verdict-agrees (within a root s) (in-attribute p q) e h = simp (operand-agrees a p (each-first h), attribute-agrees root s (q .lies) (each-first (each-rest h)))
+  verdict-agrees (contains w root s ls) (a-call p q) e h = simp (attribute-agrees root s (p .lies) (each-first h))
+  verdict-agrees (has root s) (a-presence p) e h = simp (presence-agrees root s (p .lies) (each-first h))
   verdict-agrees (not a) (a-negation p) e h = rw (verdict-agrees a p e (each-left (treeEntries e a) _ h))
   verdict-agrees (brackets a) (in-brackets p) e h = verdict-agrees a p e (each-left (treeEntries e a) _ h)
   verdict-agrees (both a b) (a-conjunction p q) e h =

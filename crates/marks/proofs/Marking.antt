@@ -15,7 +15,8 @@ use Rattle.views.specs.Rows.{rowView}
 use Rattle.meaning.specs.Targets.{Request}
 use Rattle.meaning.specs.Decisions.{satisfied, Numbered}
 use Rattle.marks.specs.Marks.{Alike, Steady, ownOf, Depths, Says, RowSays, satBy, Marked, Carried, Chosen, Met}
-use Rattle.marks.proofs.Numbering.{numbered-some, numbered-one}
+use Rattle.meaning.proofs.Deciding.{numbered-some}
+use Rattle.marks.proofs.Numbering.{numbered-one}
 
 -- ---- depths, found from the last policy to the first
 

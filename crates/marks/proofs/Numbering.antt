@@ -9,15 +9,8 @@ use Rattle.table.specs.declared.Entry.{Entry}
 use Rattle.stored.specs.ReadBack.{policyOf, policiesIn, policiesAt}
 use Rattle.stored.specs.Ready.{ReadyPolicies, Last}
 use Rattle.meaning.specs.Decisions.{Numbered, first, later}
+use Rattle.meaning.proofs.Deciding.{numbered-some}
 use Rattle.deciding.proofs.Lowest.{some-left, number-falls}
-
-pub numbered-some : {n : ℕ} {p : Policy} {ps : List Policy} → Numbered n p ps → 0 < n
-numbered-some first = omega arith
-numbered-some (later h) = omega arith
-
-pub numbered-few : {n : ℕ} {p : Policy} {ps : List Policy} → Numbered n p ps → n ≤ length ps
-numbered-few first = omega arith
-numbered-few (later h) = let l = numbered-few h in omega arith
 
 pub numbered-left : {n : ℕ} {p : Policy} {ps : List Policy} (qs : List Policy) → Numbered n p ps → Numbered n p (ps ++ qs)
 numbered-left qs first = first

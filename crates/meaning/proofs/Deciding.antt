@@ -1,10 +1,11 @@
 -- Demand 2: who gets yes, and which policy the answer names. Assumes nothing.
 use mathlib.Core.Path.{_≡_, refl, sym, _∙_, ap}
 use mathlib.Core.Logic.{_⊎_, inl, inr, ⊎-elim, _↔_}
-use mathlib.Core.Bool.{Bool, true, false, cond, not, _&&_}
+use mathlib.Core.Bool.{Bool, true, false, cond, not, false≢true, and-eq-true-iff}
 use mathlib.Core.List.{List, [], _∷_}
 use Prim.Native.Nat.{ℕ, zero, suc, _+_, _<_, _≤_}
 use native.Mathlib.Omega.{arith}
+use lib.ListN.{length}
 use borrow.Author.Tests.{not-true}
 use Rattle.grammar.specs.Policies.{Policy}
 use Rattle.views.specs.Meaning.{View}
@@ -14,7 +15,7 @@ use Rattle.meaning.specs.declared.Decision.{Decision}
 use Rattle.meaning.specs.declared.Decision.the-variants.{Allowed, Forbidden, Nothing, System}
 
 pub never : {b : Bool} → b ≡ false → b ≡ true → ⊥
-never e f = let z : _≡_ {A = ℕ} 0 1 = cc in omega arith
+never e f = false≢true (sym e ∙ f)
 
 -- ---- the first policy that passes a test
 
@@ -22,9 +23,14 @@ split : {m : ℕ} {p q : Policy} {ps : List Policy} → Numbered m q (p ∷ ps) 
 split first = inl refl
 split (later {n} h) = inr (n, refl, h)
 
-positive : {m : ℕ} {p : Policy} {ps : List Policy} → Numbered m p ps → 0 < m
-positive first = omega arith
-positive (later h) = omega arith
+-- a policy's number is from 1 on, up to how many there are
+pub numbered-some : {m : ℕ} {p : Policy} {ps : List Policy} → Numbered m p ps → 0 < m
+numbered-some first = omega arith
+numbered-some (later h) = omega arith
+
+pub numbered-few : {m : ℕ} {p : Policy} {ps : List Policy} → Numbered m p ps → m ≤ length ps
+numbered-few first = omega arith
+numbered-few (later h) = let l = numbered-few h in omega arith
 
 nowhere : {m : ℕ} {p : Policy} → Numbered m p [] → ⊥
 nowhere = elim [ ]
@@ -51,17 +57,10 @@ module _ (test : Policy → Bool) where
   first-of n (p ∷ ps) = go (test p) refl (first-of (suc n) ps)
     where
       go : (b : Bool) → test p ≡ b → First (suc n) ps (firstOf test (suc (suc n)) ps) → First n (p ∷ ps) (cond b (suc n) (firstOf test (suc (suc n)) ps))
-      go true e f = somebody 1 p (omega arith) first e (λ l q h t. positive h)
+      go true e f = somebody 1 p (omega arith) first e (λ l q h t. numbered-some h)
       go false e f = passed-over e f
 
 -- ---- satisfied forbids and permits
-
-both-true : (a b : Bool) → a && b ≡ true → (a ≡ true) × (b ≡ true)
-both-true true b e = (refl, e)
-both-true false b e = absurd (never refl e)
-
-and-both : {a b : Bool} → a ≡ true → b ≡ true → a && b ≡ true
-and-both e f = rw (e, f)
 
 module _ (t : List ℕ) (view : View) (q : Request) (ps : List Policy) where
   -- a test that says: a policy of this effect, and satisfied
@@ -71,12 +70,15 @@ module _ (t : List ℕ) (view : View) (q : Request) (ps : List Policy) where
 
   forbids-tell : Tells false (forbids t view q)
   forbids-tell = record {
-    tells = λ p e. let w = both-true (not (p .permits)) (satisfied t view q p) e in (not-true (p .permits) (w .0), w .1);
-    sees = λ p e f. and-both {a = not (p .permits)} (ap not e) f;
+    tells = λ p e. let w = and-eq-true-iff (not (p .permits)) (satisfied t view q p) .0 e in (not-true (p .permits) (w .0), w .1);
+    sees = λ p e f. and-eq-true-iff (not (p .permits)) (satisfied t view q p) .1 (ap not e, f);
   }
 
   permits-tell : Tells true (permits t view q)
-  permits-tell = record { tells = λ p e. both-true (p .permits) (satisfied t view q p) e; sees = λ p e f. and-both e f }
+  permits-tell = record {
+    tells = λ p e. and-eq-true-iff (p .permits) (satisfied t view q p) .0 e;
+    sees = λ p e f. and-eq-true-iff (p .permits) (satisfied t view q p) .1 (e, f);
+  }
 
   module _ {effect : Bool} {test : Policy → Bool} (w : Tells effect test) where
     bites : {m : ℕ} {p : Policy} → Numbered m p ps → test p ≡ true → Bites t view q ps effect m
@@ -119,10 +121,10 @@ data Decided (t : List ℕ) (view : View) (q : Request) (ps : List Policy) (d : 
 module _ (t : List ℕ) (view : View) (q : Request) (ps : List Policy) where
   others : (f g : ℕ) → isSystem (q .subject) ≡ false → First (forbids t view q) 0 ps f → First (permits t view q) 0 ps g → Decided t view q ps (byNumbers f g)
   others f g s (somebody m p k h e low) r = by-a-forbid m s (lowest-bites t view q ps (forbids-tell t view q ps) h e low)
-      (let z = positive h in let l : f ≡ m = omega arith in by-forbid f g (omega arith) ∙ ap Forbidden l)
+      (let z = numbered-some h in let l : f ≡ m = omega arith in by-forbid f g (omega arith) ∙ ap Forbidden l)
   others f g s (nobody z n) (somebody m p k h e low) =
       by-a-permit m s (none-bites t view q ps (forbids-tell t view q ps) n) (lowest-bites t view q ps (permits-tell t view q ps) h e low)
-      (let y = positive h in let l : g ≡ m = omega arith in by-permit f g z (omega arith) ∙ ap Allowed l)
+      (let y = numbered-some h in let l : g ≡ m = omega arith in by-permit f g z (omega arith) ∙ ap Allowed l)
   others f g s (nobody z n) (nobody y o) =
       by-nobody s (none-bites t view q ps (forbids-tell t view q ps) n) (none-bites t view q ps (permits-tell t view q ps) o) (by-none f g z y)
 

@@ -1,2 +1,4 @@
 pub mod Deciding
+pub mod Paths
+pub mod Words
 pub mod Examples

@@ -2,3 +2,5 @@ pub mod Values
 pub mod Conditions
 pub mod Targets
 pub mod Decisions
+pub mod Paths
+pub mod Words

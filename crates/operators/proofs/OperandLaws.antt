@@ -1,7 +1,7 @@
 -- What is read for an operand stands for what the operand is; and its string lies where it is taken from. Assumes nothing.
 use Prim.Native.Nat.{ℕ, _+_, _-_, _≤_, _<_}
-use mathlib.Core.List.{List, [], _∷_}
-use mathlib.Core.Bool.{Bool, true, false, _&&_, cond}
+use mathlib.Core.List.{List}
+use mathlib.Core.Bool.{Bool, true, false, _&&_, cond, and-eq-true-iff}
 use mathlib.Core.Path.{_≡_, refl, sym, _∙_, ap, subst}
 use borrow.Author.Tests.{eq-eqb, ne-eqb, eqb-true, eqb-false, le-leb, lt-leb, leb-true, leb-false}
 use native.Mathlib.Omega.{arith}
@@ -9,29 +9,28 @@ use lib.Dec.{eqb, leb}
 use lib.Ieee.{Float, eq, ofBits}
 use lib.ListN.{length, take, drop}
 use Rattle.slices.specs.Ascii.{bytes}
-use Rattle.slices.specs.Same.{same}
 use Rattle.slices.proofs.Equal.{same-itself}
-use Rattle.numbers.specs.Literals.{numberIn, IsNumber}
+use Rattle.numbers.specs.Literals.{numberIn}
 use Rattle.bags.specs.Reading.{byte}
 use Rattle.bags.specs.Values.{listEnd}
 use Rattle.bags.specs.declared.After.the-variants.{At}
 use Rattle.bags.specs.declared.sections.Sections.{Sections}
-use Rattle.bags.proofs.ReadLaws.{and-true, part-to}
+use Rattle.bags.proofs.ReadLaws.{part-to}
 use Rattle.bags.proofs.ValueLaws.{value-list}
 use Rattle.lookups.specs.Values.{nought, unit, Whole}
 use Rattle.lookups.specs.declared.values.Value.{Value}
 use Rattle.lookups.proofs.StepLaws.{as-string}
-use Rattle.views.specs.Meaning.{Datum, text, number, flag, texts, absent, present, View}
+use Rattle.views.specs.Meaning.{Datum, text, number, flag, View}
 use Rattle.views.specs.Values.{stringAt, listAt, datumOf}
 use Rattle.views.specs.Rows.{rowValue, rowView, Stands}
 use Rattle.views.proofs.RowLaws.{row-reads}
-use Rattle.grammar.specs.Policies.{Span, Root, Root.Principal, Root.Resource, Root.Env, Root.Action, Literal, text as textLiteral, number as numberLiteral, truth, Operand, attribute, literal}
+use Rattle.grammar.specs.Policies.{Root.Principal, Root.Resource, Root.Env, Root.Action, Literal, text as textLiteral, number as numberLiteral, truth, Operand, attribute, literal}
 use Rattle.placing.specs.Placed.{bytesAt, quotedAt, pathAt, StringPlaced, NumberPlaced, PathPlaced, LiteralPlaced, a-string, a-number, a-truth, OperandPlaced, an-attribute, a-literal}
 use Rattle.table.specs.declared.Entry.{Entry}
 use Rattle.stored.specs.ReadBack.{spanOf, rootOf, literalOf, operandOf}
-use Rattle.meaning.specs.Values.{rootByte, withAction, literalValue, attributeValue, operandValue, ifText, ifTexts, compares}
+use Rattle.meaning.specs.Values.{rootByte, withAction, literalValue, attributeValue, operandValue}
 use Rattle.operators.specs.Operands.{aString, ofBag, attributeRead, literalRead, operandRead, stringOf, meant}
-use Rattle.operators.proofs.ValueLaws.{datum-text, datum-texts, not-text, not-texts}
+use Rattle.operators.proofs.ValueLaws.{datum-text}
 
 -- ---- what an entry is, by its kind
 
@@ -155,7 +154,7 @@ string-inside s v w k = let e = w (λ z. omega arith) in as-string (v .kind) s (
 
 -- its kind, and its entry's, as a test tells them
 pub string-kinds : (v : Value) (o : Entry) → (eqb (v .kind) 1 && ofBag (o .kind)) ≡ true → (v .kind ≡ 1) × (ofBag (o .kind) ≡ true)
-string-kinds v o b = let w = and-true (eqb (v .kind) 1) (ofBag (o .kind)) b in (eqb-true (v .kind) 1 (w .0), w .1)
+string-kinds v o b = let w = and-eq-true-iff (eqb (v .kind) 1) (ofBag (o .kind)) .0 b in (eqb-true (v .kind) 1 (w .0), w .1)
 
 module _ (t s action : List ℕ) (o : Entry) (v : Value) where
   pub string-of-bag : (eqb (v .kind) 1 && ofBag (o .kind)) ≡ true → stringAt s (v .place) ≡ stringOf t s action o v
@@ -181,7 +180,7 @@ bag-root k b = go (eqb k 1) (eqb k 2) (eqb k 3) refl refl refl
     go false true z p q r = sym (eqb-true k 2 q)
     go false false true p q r = sym (eqb-true k 3 r)
     go false false false p q r =
-        let w = and-true (leb 1 k) (leb k 3) b in
+        let w = and-eq-true-iff (leb 1 k) (leb k 3) .0 b in
         let l : 1 ≤ k = leb-true 1 k (w .0) in
         let h : k ≤ 3 = leb-true k 3 (w .1) in
         let a = eqb-false k 1 p in
@@ -221,7 +220,7 @@ module _ (t s : List ℕ) (p : Sections) (n : ℕ) (heads values : List ℕ) (ac
       → rowView s p n heads values (o .kind) (pathAt t (spanOf o)) ≡ attributeValue t (withAction action (rowView s p n heads values)) (rootOf (o .kind)) (spanOf o)
   unfolding attributeValue withAction
   seen-in-bag b =
-      let w = and-true (leb 1 (o .kind)) (leb (o .kind) 3) b in
+      let w = and-eq-true-iff (leb 1 (o .kind)) (leb (o .kind) 3) .0 b in
       let h : o .kind ≤ 3 = leb-true (o .kind) 3 (w .1) in
       let q : o .kind ≡ 4 → ⊥ = λ e. omega arith in
       rw (bag-root (o .kind) b, ne-eqb (o .kind) 4 q)
@@ -266,7 +265,7 @@ module _ (t s : List ℕ) (p : Sections) (n : ℕ) (heads values : List ℕ) (st
   -- a value of the bag lies in the bytes as a whole
   pub operand-whole : (o : Entry) (v : Value) → v ≡ operandRead t s p n heads values o → ofBag (o .kind) ≡ true → Whole s v
   operand-whole o v e b =
-      let w = and-true (leb 1 (o .kind)) (leb (o .kind) 3) b in
+      let w = and-eq-true-iff (leb 1 (o .kind)) (leb (o .kind) 3) .0 b in
       let h : o .kind ≤ 3 = leb-true (o .kind) 3 (w .1) in
       let l : o .kind ≤ 4 = omega arith in
       subst (Whole s) (read-bag t s p n heads values o b ∙ read-attribute t s p n heads values o l ∙ sym e)

@@ -21,7 +21,8 @@ unfolding rowOf choicesAt
 choices-of-row none = refl
 choices-of-row (chosen {c = c} h ok) = let below = row-below ok in rw (digits-div c below, digits-mod c below, choices-of-row ok)
 
-positive : (n w row : ℕ) → row < n * w → 0 < w
+-- where there is a row, the other columns have one
+pub positive : (n w row : ℕ) → row < n * w → 0 < w
 positive n zero row h = absurd (not-suc-le-zero (rw mul-zero at h))
 positive n (suc w) row h = omega arith
 

@@ -2,8 +2,8 @@
 use mathlib.Core.Path.{_≡_, refl, sym, ap, _∙_}
 use mathlib.Core.Bool.{Bool, true, false}
 use mathlib.Core.List.{List, [], _∷_, _++_}
-use Prim.Native.Nat.{ℕ, zero, suc, _+_, _-_, _*_, _%_, _≤_, _<_}
-use native.Mathlib.Nat.{mod-lt, mul-zero, one-mul, not-suc-le-zero}
+use Prim.Native.Nat.{ℕ, zero, suc, _+_, _-_, _%_, _≤_, _<_}
+use native.Mathlib.Nat.{mod-lt, one-mul, not-suc-le-zero}
 use native.Mathlib.Omega.{arith}
 use borrow.Author.Tests.{lt-ltb, le-ltb, ltb-true, ltb-false}
 use lib.Arith.{lt-one}
@@ -13,14 +13,14 @@ use lib.Seq.{getD-append-add, ext-getD}
 use Rattle.bags.specs.Reading.{place, many, each}
 use Rattle.bags.specs.declared.After.{After}
 use Rattle.bags.specs.declared.After.the-variants.{At}
-use Rattle.bags.proofs.ReadLaws.{first, nth, many-done, many-more, each-done, each-more}
+use Rattle.bags.proofs.ReadLaws.{first, many-done, many-more, each-done, each-more}
 use Rattle.questions.specs.Columns.{columnEnd}
 use Rattle.questions.specs.Questions.{headOf, countOf, product, rowsOf}
-use Rattle.questions.proofs.ColumnLaws.{Columned, column-at}
-use Rattle.questions.proofs.PlaceLaws.{firstOf}
+use Rattle.questions.proofs.ColumnLaws.{Columned}
+use Rattle.questions.proofs.PlaceLaws.{firstOf, first-is, column-of}
 use Rattle.views.specs.Rows.{Chooses}
 use Rattle.pages.specs.Rows.{countsOf, choicesAt, countsBy, Few, Counted}
-use Rattle.pages.proofs.Combinations.{choices-combine, choice-below, as-many}
+use Rattle.pages.proofs.Combinations.{positive, choices-combine, choice-below, as-many}
 use Rattle.pages.proofs.Digits.{counts-length, count-is}
 
 -- ---- columns of one choice behind others
@@ -29,10 +29,6 @@ product-padded : (ns : List ℕ) (k : ℕ) → product (ns ++ replicate k 1) ≡
 product-padded [] zero = refl
 product-padded [] (suc k) = one-mul (product (replicate k 1)) ∙ product-padded [] k
 product-padded (n ∷ ns) k = rw (product-padded ns k)
-
-positive : (n w row : ℕ) → row < n * w → 0 < w
-positive n zero row h = absurd (not-suc-le-zero (rw mul-zero at h))
-positive n (suc w) row h = omega arith
 
 zeros : (k : ℕ) → choicesAt (replicate k 1) 0 ≡ replicate k 0
 unfolding choicesAt
@@ -68,8 +64,8 @@ module _ {A : Type 0} (next : ℕ → After) (what : ℕ → A) where
       (each-at n i (f .stop) e z (omega arith) (rw m at (f .later)))
 
 module _ (s : List ℕ) (n at last : ℕ) (most : n ≤ 6) (columns : many n (columnEnd s) at ≡ At last) where
-  column-of : (i : ℕ) → i < n → (e : ℕ) × Columned s (headOf s at i) e
-  column-of i l = let r = nth (columnEnd s) n i at last l columns in (r .stop, rw (r .starts) (column-at s (r .start) (r .stop) (r .stops)))
+  column : (i : ℕ) → i < n → (e : ℕ) × Columned s (headOf s at i) e
+  column = column-of s n at last columns
 
   counts-many : length (countsOf n s at) ≡ n
   unfolding countsOf
@@ -92,12 +88,12 @@ module _ (s : List ℕ) (n at last : ℕ) (most : n ≤ 6) (columns : many n (co
       (heads-are : (i : ℕ) → i < 6 → getD heads i 0 ≡ firstOf n (headOf s at) i)
       (lasts-are : (i : ℕ) → i < 6 → getD lasts i 0 ≡ firstOf n (λ i. countOf s (getD heads i 0) - 1) i) where
     head-is : (i : ℕ) → i < n → getD heads i 0 ≡ headOf s at i
-    head-is i l = heads-are i (omega arith) ∙ simp (lt-ltb i n l)
+    head-is i l = first-is (headOf s at) heads most heads-are l
 
     last-is : (i : ℕ) → i < n → getD lasts i 0 + 1 ≡ countOf s (headOf s at i)
     last-is i l =
         let e : getD lasts i 0 ≡ countOf s (headOf s at i) - 1 = lasts-are i (omega arith) ∙ simp (lt-ltb i n l, head-is i l) in
-        let some = column-of i l .1 .some in
+        let some = column i l .1 .some in
         omega arith
 
     last-none : (i : ℕ) → i < 6 → n ≤ i → getD lasts i 0 ≡ 0
@@ -107,7 +103,7 @@ module _ (s : List ℕ) (n at last : ℕ) (most : n ≤ 6) (columns : many n (co
     lasts-few = record { six = six; few = λ i h. go (ltb i n) refl h }
       where
         go : {i : ℕ} (b : Bool) → ltb i n ≡ b → i < 6 → getD lasts i 0 ≤ 7
-        go {i} true q h = let l = ltb-true i n q in omega (arith, last-is i l, column-of i l .1 .few)
+        go {i} true q h = let l = ltb-true i n q in omega (arith, last-is i l, column i l .1 .few)
         go {i} false q h = omega (arith, last-none i h (ltb-false i n q))
 
     counts-padded : countsBy lasts ≡ countsOf n s at ++ replicate (6 - n) 1
@@ -145,9 +141,6 @@ module _ (s : List ℕ) (n at last : ℕ) (most : n ≤ 6) (columns : many n (co
   pub heads-counted : (heads : List ℕ) → ((i : ℕ) → i < 6 → getD heads i 0 ≡ firstOf n (headOf s at) i) → Counted s n heads
   heads-counted heads heads-are = record {
     few = most;
-    inside = λ i l. rw (is i l) (column-of i l .1 .counted);
-    some = λ i l. rw (is i l) (column-of i l .1 .some);
+    inside = λ i l. rw (first-is (headOf s at) heads most heads-are l) (column i l .1 .counted);
+    some = λ i l. rw (first-is (headOf s at) heads most heads-are l) (column i l .1 .some);
   }
-    where
-      is : (i : ℕ) → i < n → getD heads i 0 ≡ headOf s at i
-      is i l = heads-are i (omega arith) ∙ simp (lt-ltb i n l)

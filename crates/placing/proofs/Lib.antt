@@ -1,3 +1,4 @@
+pub mod EachLaws
 pub mod Standing
 pub mod Paths
 pub mod Walk

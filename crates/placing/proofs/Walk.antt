@@ -18,12 +18,12 @@ use Rattle.grammar.specs.Rules.{inside, spanOf, isLiteral, literalOf, typeAmong
 use Rattle.grammar.specs.Grammar.{sizes, spanned, Names, Attribute, rooted, AnOperand, given, Element, element, Listing, Simple, comparison, likeness, listed, held, call, having, Conjunction, Disjunction, Form, simple, negation, bracketed, conditional, Condition, Typed, ResourceRest, ActionRest, When, PolicyRest, Policies}
 use Rattle.grammar.specs.Grammar as grammar
 use Rattle.placing.specs.Placed.{quotedAt, StringPlaced, NumberPlaced, PathPlaced, Each, none-left, and-each, LiteralPlaced, a-string, a-number, a-truth, ActionPlaced, an-action, OperandPlaced, an-attribute, a-literal, Listed, TreePlaced, a-constant, a-comparison, a-likeness, in-list, in-attribute, a-call, a-presence, a-negation, in-brackets, a-conjunction, a-disjunction, a-choice, depth, PrincipalPlaced, any-principal, principal-type, ResourcePlaced, any-resource, resource-type, one-resource, ActionsPlaced, any-action, one-of, ConditionPlaced, no-condition, a-condition, PolicyPlaced, PoliciesPlaced}
+use Rattle.placing.proofs.EachLaws.{each-append}
 use Rattle.placing.proofs.Standing.{Lexed, FromText, head-of, tail-of, inside-text, string-of}
 use Rattle.placing.proofs.Paths.{walked}
 
 each-more : {A : Type 0} {P : A → Type 0} {l : List A} {a : A} → Each P l → P a → Each P (l ++ a ∷ [])
-each-more none-left h = and-each h none-left
-each-more (and-each k e) h = and-each k (each-more e h)
+each-more {l = l} e h = each-append l _ e (and-each h none-left)
 
 -- ---- types
 

@@ -1,7 +1,7 @@
 -- The cases of candidates, columns and questions, as the code's tests tell them apart, and what they tell. Assumes nothing.
 use Prim.Native.Nat.{ℕ, _+_, _-_, _<_, _≤_}
 use mathlib.Core.List.{List}
-use mathlib.Core.Bool.{Bool, true, false, _&&_, cond}
+use mathlib.Core.Bool.{Bool, true, false, _&&_, cond, and-eq-true-iff, and-false}
 use mathlib.Core.Path.{_≡_, refl, sym, _∙_}
 use borrow.Author.Tests.{lt-ltb, le-ltb, le-leb, lt-leb, eq-eqb, ne-eqb, eqb-true, eqb-false, ltb-true, leb-true}
 use native.Mathlib.Omega.{arith}
@@ -20,9 +20,9 @@ use Rattle.bags.specs.declared.After.the-variants.{At, Bad}
 use Rattle.bags.specs.declared.sections.Sections.{Sections}
 use Rattle.bags.specs.declared.sections.Divided.{Divided}
 use Rattle.bags.specs.declared.sections.Divided.the-variants.{In, Broken}
-use Rattle.bags.proofs.ReadLaws.{same-end, and-true, only-at}
+use Rattle.bags.proofs.ReadLaws.{same-end, only-at}
 use Rattle.bags.proofs.ValueLaws.{value-inside}
-use Rattle.bags.proofs.SectionLaws.{sections-at}
+use Rattle.bags.proofs.SectionLaws.{only-in, only-broken, sections-at}
 use Rattle.lookups.specs.Values.{Valued}
 use Rattle.questions.specs.Distinct.{among, distinct}
 use Rattle.questions.specs.Columns.{candidateEnd, columnPath, countAt, nameOf, candidatesEnd, headOk, columnEnd, columnsEnd, endOf, NameEnd}
@@ -98,9 +98,9 @@ pub record Columned (s : List ℕ) (at e : ℕ) : Type 0 where
 pub heads-told : (root count : ℕ) → headOk root count ≡ true → (1 ≤ root) × (root ≤ 3) × (1 ≤ count) × (count ≤ 8)
 unfolding headOk
 heads-told root count h =
-    let a = and-true (leb 1 root && leb root 3 && leb 1 count) (leb count 8) h in
-    let b = and-true (leb 1 root && leb root 3) (leb 1 count) (a .0) in
-    let c = and-true (leb 1 root) (leb root 3) (b .0) in
+    let a = and-eq-true-iff (leb 1 root && leb root 3 && leb 1 count) (leb count 8) .0 h in
+    let b = and-eq-true-iff (leb 1 root && leb root 3) (leb 1 count) .0 (a .0) in
+    let c = and-eq-true-iff (leb 1 root) (leb root 3) .0 (b .0) in
     (leb-true 1 root (c .0), leb-true root 3 (c .1), leb-true 1 count (b .1), leb-true count 8 (a .1))
 
 pub column-at : (s : List ℕ) (at e : ℕ) → columnEnd s at ≡ At e → Columned s at e
@@ -111,8 +111,8 @@ column-at s at e h =
     let t = ltb (countAt s at) (length s) in
     let k = headOk (byte s at) n in
     let o = only-at (t && k && isPath (columnPath s at)) (candidatesEnd n s from) e h in
-    let p = and-true (t && k) (isPath (columnPath s at)) (o .0) in
-    let q = and-true t k (p .0) in
+    let p = and-eq-true-iff (t && k) (isPath (columnPath s at)) .0 (o .0) in
+    let q = and-eq-true-iff t k .0 (p .0) in
     let f = heads-told (byte s at) n (q .1) in
     let d = only-at (distinct (each n (candidateEnd s) (nameOf Candidate s) from)) (many n (candidateEnd s) from) e (o .1) in
     record {
@@ -228,34 +228,21 @@ module _ (s : List ℕ) where
         question-whole k = simp (le-leb _ _ h, q, f, eq-eqb _ _ k)
 
   pub question-divided : (p : Sections) → questionOnly s ≡ In p → (isQuestion s ≡ true) × (sectionsOf s ≡ In p)
-  question-divided p h = go (isQuestion s) h
-    where
-      go : (b : Bool) → cond b (sectionsOf s) Broken ≡ In p → (b ≡ true) × (sectionsOf s ≡ In p)
-      go true e = (refl, e)
-      go false e = absurd (let z : _≡_ {A = ℕ} 0 1 = cc in omega arith)
+  question-divided = only-in (isQuestion s) (sectionsOf s)
 
   not-divided : sectionsOf s ≡ Broken → false ≡ isQuestion s
   unfolding isQuestion
-  not-divided h = rw h (go (leb (length s) 4096))
-    where
-      go : (b : Bool) → false ≡ b && false
-      go true = refl
-      go false = refl
+  not-divided h = rw h (sym (and-false (leb (length s) 4096)))
 
   pub no-question : questionOnly s ≡ Broken → false ≡ isQuestion s
-  no-question h = go (isQuestion s) refl (sectionsOf s) refl
-    where
-      go : (b : Bool) → isQuestion s ≡ b → (d : Divided) → sectionsOf s ≡ d → false ≡ isQuestion s
-      go false e d q = sym e
-      go true e (In p) q = absurd (let x : In p ≡ Broken = simp (e, q) at h in let z : _≡_ {A = ℕ} 0 1 = cc in omega arith)
-      go true e Broken q = not-divided q
+  no-question = only-broken (isQuestion s) (sectionsOf s) not-divided
 
 -- what a question tells
 pub question-is : (s : List ℕ) (p : Sections) → questionOnly s ≡ In p → Question s p
 unfolding isQuestion fourthEnd columnsEnd
 question-is s p h =
     let d = question-divided s p h in
-    let f : follows s (sectionsOf s) ≡ true = and-true (leb (length s) 4096) (follows s (sectionsOf s)) (d .0) .1 in
+    let f : follows s (sectionsOf s) ≡ true = and-eq-true-iff (leb (length s) 4096) (follows s (sectionsOf s)) .0 (d .0) .1 in
     go (fourthEnd s (p .end)) refl (rw (d .1) at f) (sections-at s p (d .1))
   where
     go : (a : After) → fourthEnd s (p .end) ≡ a → endsAt (fourthEnd s (p .end)) (length s) ≡ true → Sectioned s p → Question s p
@@ -264,5 +251,5 @@ question-is s p h =
         let n = byte s (p .end) in
         let o = only-at (ltb (p .end) (length s) && leb n 6) (columnsEnd n s (p .end + 1)) e q in
         let m = only-at (distinct (each n (columnEnd s) (nameOf Column s) (p .end + 1))) (many n (columnEnd s) (p .end + 1)) e (o .1) in
-        let c = and-true (ltb (p .end) (length s)) (leb n 6) (o .0) in
+        let c = and-eq-true-iff (ltb (p .end) (length s)) (leb n 6) .0 (o .0) in
         record { sections = w; counted = ltb-true (p .end) (length s) (c .0); few = leb-true n 6 (c .1); last = e; columns = m .1 }

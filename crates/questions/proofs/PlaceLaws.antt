@@ -15,6 +15,7 @@ use Rattle.bags.specs.declared.After.the-variants.{At}
 use Rattle.bags.proofs.ReadLaws.{same-end, nth, each-done, each-more}
 use Rattle.questions.specs.Columns.{candidateEnd, countAt, columnEnd}
 use Rattle.questions.specs.Questions.{headOf, countOf, choiceOf, cell, rowsOf}
+use Rattle.questions.proofs.ColumnLaws.{Columned, column-at}
 
 -- ---- a store
 
@@ -30,6 +31,10 @@ module _ {A : Type 0} (l : List A) (j : ℕ) (v d : A) (fits : j < length l) (P 
 -- the first n of some values, and 0 for the others
 abbrev pub firstOf : ℕ → (ℕ → ℕ) → ℕ → ℕ
 firstOf n f k = cond (ltb k n) (f k) 0
+
+-- one of the first n, where they are the cells of a list
+pub first-is : {n i most : ℕ} (f : ℕ → ℕ) (cells : List ℕ) → n ≤ most → ((k : ℕ) → k < most → getD cells k 0 ≡ firstOf n f k) → i < n → getD cells i 0 ≡ f i
+first-is {n} {i} f cells few are l = are i (omega arith) ∙ simp (lt-ltb i n l)
 
 pub first-none : (f : ℕ → ℕ) (k : ℕ) → 0 ≡ firstOf 0 f k
 first-none f k = let h : 0 ≤ k = omega arith in simp (le-ltb _ _ h)
@@ -54,6 +59,10 @@ fill-more most f cells j v fits is cells-are k h =
 -- number j of n that end, by where it starts
 pub at-number : (next : ℕ → After) (n j at x e : ℕ) → j < n → many n next at ≡ At e → many j next at ≡ At x → (stop : ℕ) × (next x ≡ At stop)
 at-number next n j at x e l h p = let r = nth next n j at e l h in (r .stop, rw (same-end (r .starts) p) at (r .stops))
+
+-- the columns that end are columns
+pub column-of : (s : List ℕ) (n at last : ℕ) → many n (columnEnd s) at ≡ At last → (i : ℕ) → i < n → (e : ℕ) × Columned s (headOf s at i) e
+column-of s n at last columns i l = let r = nth (columnEnd s) n i at last l columns in (r .stop, rw (r .starts) (column-at s (r .start) (r .stop) (r .stops)))
 
 -- ---- the grid
 

@@ -1,4 +1,3 @@
 pub mod RowLaws
-pub mod HeldLaws
 pub mod Cases
 pub mod Promised

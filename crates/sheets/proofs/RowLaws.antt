@@ -20,10 +20,10 @@ use Rattle.views.specs.Meaning.{View, look}
 use Rattle.views.specs.Rows.{rowView, Stands, bagOfRow, Chooses}
 use Rattle.views.proofs.RowLaws.{row-stands, row-shows}
 use Rattle.meaning.specs.Targets.{Request, isSystem}
-use Rattle.meaning.specs.Decisions.{decisionOf, policiesDecide, policyOf, Numbered, first, later, Names, the-system, a-forbid, a-permit, none-named, NamedRightly}
+use Rattle.meaning.specs.Decisions.{decisionOf, policiesDecide, policyOf, Names, the-system, a-forbid, a-permit, none-named, NamedRightly}
 use Rattle.meaning.specs.declared.Decision.{Decision}
 use Rattle.meaning.specs.declared.Decision.the-variants.{System}
-use Rattle.meaning.proofs.Deciding.{named-rightly}
+use Rattle.meaning.proofs.Deciding.{numbered-few, named-rightly}
 use Rattle.pages.specs.Rows.{countsOf, Combination, rowOf, choicesAt, countsBy, Few, Counted, Picked, Placed, Moved}
 use Rattle.marks.specs.Marks.{Depths, DecidedFrom}
 use Rattle.marks.proofs.Marking.{zeros-say}
@@ -174,14 +174,10 @@ module _ {s : List ℕ} {p : Sections} {all start n : ℕ} {starts ends : List �
 
 -- ---- a policy's number fits a byte
 
-number-few : {n : ℕ} {p : Policy} {ps : List Policy} → Numbered n p ps → n ≤ length ps
-number-few first = omega arith
-number-few (later h) = let l = number-few h in omega arith
-
 named-few : {t : List ℕ} {view : View} {q : Request} {ps : List Policy} {n : ℕ} → Names t view q ps n → n ≤ length ps
 named-few (the-system s) = omega arith
-named-few (a-forbid s l) = number-few (l .bites .numbered)
-named-few (a-permit s f l) = number-few (l .bites .numbered)
+named-few (a-forbid s l) = numbered-few (l .bites .numbered)
+named-few (a-permit s f l) = numbered-few (l .bites .numbered)
 named-few (none-named s f g) = omega arith
 
 module _ (text : List ℕ) (view : View) (q : Request) (ps : List Policy) where

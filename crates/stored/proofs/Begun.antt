@@ -14,7 +14,7 @@ use Rattle.table.specs.Entries.{entry, placed, literalEntry, literalEntries, op
 use Rattle.table.specs.Layout.{held, bytesOf, Begins, startsWith}
 use Rattle.stored.specs.Stored.{Says, Small, StoredPolicies}
 use Rattle.table.proofs.Holding.{held-starts, starts-decides}
-use Rattle.stored.proofs.Standing.{each-append}
+use Rattle.placing.proofs.EachLaws.{each-append}
 use Rattle.table.proofs.Counting.{entries-few}
 
 small : {k : ℕ} (a b : ℕ) → a < 65536 → b < 65536 → Small (entry k a b)

@@ -4,7 +4,7 @@ use mathlib.Core.List.{List, [], _∷_}
 use mathlib.Core.Option.{Option, some}
 use Prim.Native.Nat.{ℕ, _+_, _-_, _≤_, _<_}
 use native.Mathlib.Omega.{arith}
-use Rattle.placing.specs.Placed.{Each, and-each, TreePlaced, a-negation, in-brackets, a-conjunction, a-disjunction, a-choice, PolicyPlaced, ConditionPlaced}
+use Rattle.placing.specs.Placed.{Each, TreePlaced, a-negation, in-brackets, a-conjunction, a-disjunction, a-choice, PolicyPlaced, ConditionPlaced}
 use Rattle.placing.specs.Placed as placing
 use Rattle.grammar.specs.Policies.{Root, Root.Principal, Root.Resource, Root.Env, Root.Action, Comparator, Comparator.Equal, Comparator.NotEqual, Comparator.More, Comparator.AtLeast, Comparator.Less, Comparator.AtMost, Which, Which.All, Which.Any, Tree, Actions, Policy}
 use Rattle.table.specs.declared.Entry.{Entry}
@@ -13,7 +13,7 @@ use Rattle.table.specs.Layout.{entryAt}
 use Rattle.stored.specs.Stored.{Stored, StoredPolicies, View, is-true, is-false, is-comparison, is-like, is-among, is-within, is-contains, is-has, is-not, is-brackets, is-both, is-either, is-choice, ActionView, is-every, is-one-of, ConditionView, no-condition, a-condition}
 use Rattle.stored.specs.ReadBack.{treeAt, policiesAt}
 use Rattle.stored.specs.Ready.{Ready, ReadyPart, Room, Parts, Node, ReadyPolicies, Last}
-use Rattle.stored.proofs.Standing.{each-left, each-right}
+use Rattle.placing.proofs.EachLaws.{each-first, each-left, each-right}
 use Rattle.stored.proofs.Views.{view-of, stored-some, stored-few, stands-here, stored-here}
 use Rattle.stored.proofs.Policies.{last-policy}
 use Rattle.stored.proofs.ReadingBack.{tree-back, seen-back, policy-back, policies-back}
@@ -141,9 +141,6 @@ pub ready-policies : {text table : List ℕ} {end : ℕ} {ps : List Policy} → 
 ready-policies {text} {table} {end} h p =
     record { stored = subst (StoredPolicies table end) (sym (policies-back h)) h; placed = subst (Each (PolicyPlaced text)) (sym (policies-back h)) p }
 
-only : {A : Type 0} {P : A → Type 0} {a : A} → Each P (a ∷ []) → P a
-only (and-each p k) = p
-
 condition-ready : {text table : List ℕ} {first end : ℕ} {c : Option Tree} → ConditionView table first end c → ConditionPlaced text c → first < end → Ready text table end
 condition-ready (no-condition e) p l = absurd (omega arith)
 condition-ready (a-condition m h) (placing.a-condition p d) l = ready h p
@@ -159,7 +156,7 @@ last-of {text} {table} {end} r n =
     let k = last-policy (policiesAt table end) (r .stored) n in
     let v = k .policy in
     let each = subst (Each (PolicyPlaced text)) (k .is) (r .placed) in
-    let p = only (each-right (k .front) (k .last ∷ []) each) in
+    let p = each-first (each-right (k .front) (k .last ∷ []) each) in
     record {
       is = k .is ∙ rw (← policies-back (k .before), ← policy-back v);
       placed = subst (PolicyPlaced text) (sym (policy-back v)) p;

@@ -4,7 +4,8 @@ use mathlib.Core.List.{List, [], _∷_, _++_}
 use Prim.Native.Nat.{ℕ, _+_, _-_}
 use native.Mathlib.Omega.{arith}
 use lib.ListN.{length, length-append}
-use Rattle.placing.specs.Placed.{Each, none-left, and-each}
+use Rattle.placing.specs.Placed.{Each, and-each}
+use Rattle.placing.proofs.EachLaws.{each-left, each-right}
 use Rattle.grammar.specs.Policies.{Literal}
 use Rattle.table.specs.declared.Entry.{Entry}
 use Rattle.table.specs.Entries.{literalEntries}
@@ -12,19 +13,6 @@ use Rattle.table.specs.Layout.{entryAt}
 use Rattle.table.proofs.Holding.{held-left, held-right, held-entry}
 use Rattle.stored.specs.Stored.{Small, Stands, Literals}
 use Rattle.stored.specs.Stored as stored
-
-module _ {A : Type 0} {P : A → Type 0} where
-  pub each-left : (a b : List A) → Each P (a ++ b) → Each P a
-  each-left [] b h = none-left
-  each-left (x ∷ a) b (and-each p h) = and-each p (each-left a b h)
-
-  pub each-right : (a b : List A) → Each P (a ++ b) → Each P b
-  each-right [] b h = h
-  each-right (x ∷ a) b (and-each p h) = each-right a b h
-
-  pub each-append : (a b : List A) → Each P a → Each P b → Each P (a ++ b)
-  each-append [] b h k = k
-  each-append (x ∷ a) b (and-each p h) k = and-each p (each-append a b h k)
 
 module _ {T : List ℕ} {first end : ℕ} where
   -- two lists of entries, one after the other

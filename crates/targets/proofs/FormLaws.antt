@@ -1,6 +1,6 @@
 -- What stands before and after the first colon, and the type's number of what has the form of a subject or resource. Assumes nothing.
 use mathlib.Core.Path.{_≡_, refl, sym}
-use mathlib.Core.Bool.{Bool, true, false, cond, not, _&&_}
+use mathlib.Core.Bool.{Bool, true, false, cond, not, _&&_, and-false}
 use mathlib.Core.List.{List, [], _∷_}
 use Prim.Native.Nat.{ℕ, zero, suc, _+_, _-_, _≤_, _<_}
 use Prim.Native.Char.{code}
@@ -61,11 +61,6 @@ id-length (b ∷ s) = go (eqb b (code ":")) (id-length s)
 
 -- ---- subjects and resources
 
-third-false : (a b : Bool) → a && b && false ≡ false
-third-false true true = refl
-third-false true false = refl
-third-false false b = refl
-
 number-or-none : (n : ℕ) → cond (not (eqb n 0) && true) n 0 ≡ n
 number-or-none zero = refl
 number-or-none (suc n) = rw (ne-eqb (suc n) 0 (λ (e : suc n ≡ 0). omega arith))
@@ -77,7 +72,7 @@ module _ (types : List (List ℕ)) (s : List ℕ) where
 
   pub no-id : length s ≤ length (kindOf s) + 1 → 0 ≡ cond (isTyped types s) (typeIn types s) 0
   unfolding isTyped
-  no-id l = let h = id-length s in rw (le-ltb 0 (length (idOf s)) (omega arith), third-false (leb (length s) 100) (not (eqb (typeIn types s) 0)))
+  no-id l = let h = id-length s in rw (le-ltb 0 (length (idOf s)) (omega arith), and-false (leb (length s) 100 && not (eqb (typeIn types s) 0)))
 
   pub its-type : length s ≤ 100 → length (kindOf s) + 1 < length s → typeIn types s ≡ cond (isTyped types s) (typeIn types s) 0
   unfolding isTyped

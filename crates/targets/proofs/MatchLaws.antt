@@ -1,6 +1,6 @@
 -- What a target's entries ask, and that a part matches by its type's number. Assumes nothing.
 use mathlib.Core.Path.{_≡_, refl, sym, _∙_, ap, subst}
-use mathlib.Core.Bool.{Bool, true, false, cond, _&&_, _||_}
+use mathlib.Core.Bool.{Bool, true, false, cond, _&&_, _||_, and-true, and-false}
 use mathlib.Core.List.{List, [], _∷_}
 use Prim.Native.Nat.{ℕ, zero, suc, _+_, _-_, _≤_, _<_}
 use native.Mathlib.Omega.{arith}
@@ -12,7 +12,8 @@ use Rattle.slices.specs.Same.{same}
 use Rattle.slices.proofs.Equal.{other-length}
 use Rattle.grammar.specs.Policies.{Span, span, Literal, text, number, truth, Part, any, typed, pinned, Actions, oneOf}
 use Rattle.grammar.specs.Rules.{principalTypes, resourceTypes}
-use Rattle.placing.specs.Placed.{quotedAt, Each, and-each, StringPlaced, ActionPlaced, an-action, PrincipalPlaced, any-principal, principal-type, ResourcePlaced, any-resource, resource-type, one-resource, ActionsPlaced, any-action, one-of}
+use Rattle.placing.specs.Placed.{quotedAt, Each, StringPlaced, ActionPlaced, an-action, PrincipalPlaced, any-principal, principal-type, ResourcePlaced, any-resource, resource-type, one-resource, ActionsPlaced, any-action, one-of}
+use Rattle.placing.proofs.EachLaws.{each-first, each-rest}
 use Rattle.table.specs.declared.Entry.{Entry}
 use Rattle.table.specs.Layout.{entryAt}
 use Rattle.stored.specs.ReadBack.{spanOf, literalOf, literalsAt, listAt, partOf, actionsOf, policyOf}
@@ -103,12 +104,9 @@ module _ (t action table : List ℕ) where
   literals-on zero e l = absurd (omega arith)
   literals-on (suc n) e l = let m : suc n - 1 ≡ n = omega arith in rw m
 
-  both-of : {l : Literal} {ls : List Literal} → Each (ActionPlaced t) (l ∷ ls) → ActionPlaced t l × Each (ActionPlaced t) ls
-  both-of (and-each p k) = (p, k)
-
   module _ (left e : ℕ) (l : 0 < left) (each : Each (ActionPlaced t) (literalsAt left table e)) where
     parted : ActionPlaced t (literalOf (entryAt table e)) × Each (ActionPlaced t) (literalsAt (left - 1) table (e + 1))
-    parted = both-of (subst (Each (ActionPlaced t)) (literals-on left e l) each)
+    parted = let h = subst (Each (ActionPlaced t)) (literals-on left e l) each in (each-first h, each-rest h)
 
     here : StringAt t (entryAt table e)
     here = string-at refl (parted .0)
@@ -156,14 +154,6 @@ module _ (t action table : List ℕ) where
     each-listed n p = each-of (listed-is n) p
 
 -- ---- the target
-
-and-false : (b : Bool) → b && false ≡ false
-and-false true = refl
-and-false false = refl
-
-and-true : (b : Bool) → b && true ≡ b
-and-true true = refl
-and-true false = refl
 
 module _ (t table : List ℕ) (end : ℕ) (x : Entry) (subject action resource : List ℕ) (m n : ℕ)
     (sort : m ≡ typeIn principalTypes subject) (sort′ : n ≡ typeIn resourceTypes resource) where

@@ -2,19 +2,14 @@
 -- there exactly when it has an entry with that path. Assumes nothing.
 use Prim.Native.Nat.{ℕ}
 use mathlib.Core.List.{List, [], _∷_}
-use mathlib.Core.Bool.{Bool, true, false, _&&_, _||_, cond}
-use mathlib.Core.Path.{_≡_, refl, _∙_, ap}
-use native.Mathlib.Omega.{arith}
+use mathlib.Core.Bool.{Bool, true, false, _&&_, _||_, cond, false≢true, and-eq-true-iff}
+use mathlib.Core.Path.{_≡_, refl, sym, _∙_, ap}
 use lib.Dec.{eqb}
 use Rattle.slices.specs.Same.{same}
 use Rattle.slices.proofs.Equal.{same-decides}
 use Rattle.bags.specs.Paths.{every}
-use Rattle.bags.proofs.ReadLaws.{and-true}
 use Rattle.lookups.specs.Lookups.{Entry, lookIn}
 use Rattle.views.specs.Meaning.{Datum, absent, present, text, number, flag, texts, Bag, look, hasPath, Chosen, without, setIn, setTo, rowBag, columnsFirst}
-
-clash : {A : Type 0} {b : Bool} → b ≡ true → b ≡ false → A
-clash p q = absurd (let z : _≡_ {A = ℕ} 0 1 = cc in omega arith)
 
 -- what is said of an attribute that is removed, and of the others
 look-without : (es : List (Entry Datum)) (path p : List ℕ) → lookIn absent (without path es) p ≡ cond (same path p) absent (lookIn absent es p)
@@ -31,8 +26,8 @@ look-without (e ∷ es) path p = go (same (e .path) path) refl (same (e .path) p
         → lookIn absent (cond a (without path es) (e ∷ without path es)) p ≡ cond c absent (cond b (e .value) (lookIn absent es p))
     go true ea b eb true ec ih = simp ec at ih
     go true ea false eb false ec ih = simp ec at ih
-    go true ea true eb false ec ih = let x = same-decides (e .path) path .sound ea in clash (rw (← x) eb) ec
-    go false ea true eb true ec ih = let x = same-decides path p .sound ec in clash (rw x eb) ea
+    go true ea true eb false ec ih = let x = same-decides (e .path) path .sound ea in absurd (false≢true (sym ec ∙ rw (← x) eb))
+    go false ea true eb true ec ih = let x = same-decides path p .sound ec in absurd (false≢true (sym ea ∙ rw x eb))
     go false ea true eb false ec ih = simp eb
     go false ea false eb true ec ih = simp eb (simp ec at ih)
     go false ea false eb false ec ih = simp eb (simp ec at ih)
@@ -75,7 +70,7 @@ has-of : (es : List (Entry Datum)) (path : List ℕ) → filled es ≡ true → 
 unfolding lookIn hasPath every
 has-of [] path h = refl
 has-of (e ∷ es) path h =
-    let t = and-true (present (e .value)) (filled es) h in
+    let t = and-eq-true-iff (present (e .value)) (filled es) .0 h in
     go (same (e .path) path) (t .0) (has-of es path (t .1))
   where
     go : (b : Bool) → present (e .value) ≡ true → present (lookIn absent es path) ≡ hasPath es path
@@ -87,7 +82,7 @@ filled-without : (es : List (Entry Datum)) (path : List ℕ) → filled es ≡ t
 unfolding without every
 filled-without [] path h = refl
 filled-without (e ∷ es) path h =
-    let t = and-true (present (e .value)) (filled es) h in
+    let t = and-eq-true-iff (present (e .value)) (filled es) .0 h in
     go (same (e .path) path) (t .0) (filled-without es path (t .1))
   where
     go : (b : Bool) → present (e .value) ≡ true → filled (without path es) ≡ true → filled (cond b (without path es) (e ∷ without path es)) ≡ true

@@ -18,8 +18,8 @@ use Rattle.lookups.specs.declared.values.Value.{Value}
 use Rattle.lookups.proofs.BagLaws.{value-whole, value-finite, base-whole, base-finite}
 use Rattle.questions.specs.Columns.{candidateEnd, countAt, columnEnd}
 use Rattle.questions.specs.Questions.{headOf, countOf, choiceOf, cell}
-use Rattle.questions.proofs.ColumnLaws.{Columned, column-at, candidate-valued}
-use Rattle.questions.proofs.PlaceLaws.{firstOf}
+use Rattle.questions.proofs.ColumnLaws.{Columned, candidate-valued}
+use Rattle.questions.proofs.PlaceLaws.{firstOf, first-is, column-of}
 use Rattle.views.specs.Meaning.{present, look, hasPath, Chosen, rowBag, columnsFirst}
 use Rattle.views.specs.Values.{datumIn, Reads, baseBag, chosenMeant}
 use Rattle.views.specs.Rows.{chosenAt, chosenOf, baseValue, rowValue, rowView, Stands, columnsOf, bagOfRow, Chooses}
@@ -54,18 +54,18 @@ module _ (s : List ℕ) (p : Sections) (n : ℕ) (heads values : List ℕ) (w : 
 -- ---- a row of a question
 
 module _ (s : List ℕ) (p : Sections) (n at last : ℕ) (few : n ≤ 6) (columns : many n (columnEnd s) at ≡ At last) (choices : List ℕ) (chooses : Chooses n s at choices) where
-  column-of : (i : ℕ) → i < n → (e : ℕ) × Columned s (headOf s at i) e
-  column-of i l = let r = nth (columnEnd s) n i at last l columns in (r .stop, rw (r .starts) (column-at s (r .start) (r .stop) (r .stops)))
+  column : (i : ℕ) → i < n → (e : ℕ) × Columned s (headOf s at i) e
+  column = column-of s n at last columns
 
   -- a choice is below 8
   pub choices-small : (i : ℕ) → i < n → getD choices i 0 < 8
-  choices-small i l = omega (arith, chooses i l, column-of i l .1 .few)
+  choices-small i l = omega (arith, chooses i l, column i l .1 .few)
 
   choice-valued : (i : ℕ) → i < n → Valued s (choiceOf s (headOf s at i) (getD choices i 0))
   unfolding choiceOf
   choice-valued i l =
-      let c = column-of i l .1 in
-      let r = nth (candidateEnd s) (countOf s (headOf s at i)) (getD choices i 0) (countAt s (headOf s at i) + 1) (column-of i l .0) (chooses i l) (c .candidates) in
+      let c = column i l .1 in
+      let r = nth (candidateEnd s) (countOf s (headOf s at i)) (getD choices i 0) (countAt s (headOf s at i) + 1) (column i l .0) (chooses i l) (c .candidates) in
       simp (lt-ltb _ _ (chooses i l), r .starts) (candidate-valued s (r .start) (r .stop) (r .stops))
 
   module _ (heads values : List ℕ) (grid : List (List ℕ))
@@ -73,7 +73,7 @@ module _ (s : List ℕ) (p : Sections) (n at last : ℕ) (few : n ≤ 6) (column
       (grid-is : (i j : ℕ) → i < 6 → j < 8 → getD (getD grid i []) j 0 ≡ cell s at n i j)
       (values-are : (i : ℕ) → i < 6 → getD values i 0 ≡ firstOf n (λ i. getD (getD grid i []) (getD choices i 0) 0) i) where
     head-is : (i : ℕ) → i < n → getD heads i 0 ≡ headOf s at i
-    head-is i l = heads-are i (omega arith) ∙ simp (lt-ltb i n l)
+    head-is i l = first-is (headOf s at) heads few heads-are l
 
     value-is : (i : ℕ) → i < n → getD values i 0 ≡ choiceOf s (headOf s at i) (getD choices i 0)
     unfolding cell
@@ -85,7 +85,7 @@ module _ (s : List ℕ) (p : Sections) (n at last : ℕ) (few : n ≤ 6) (column
     row-stands w = record {
       sections = w;
       few = few;
-      named = λ i l. rw (head-is i l) (column-of i l .1 .counted);
+      named = λ i l. rw (head-is i l) (column i l .1 .counted);
       valued = λ i l. rw (value-is i l) (choice-valued i l);
     }
 

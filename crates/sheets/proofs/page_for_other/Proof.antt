@@ -1,7 +1,6 @@
 -- `sheets::page_for_other` meets its contract: a case for each refusal, and the page. Assumes nothing.
 use Rattle.sheets.proofs.Cases.{refused-21, refused-22, refused-23, refused-20, held-listed}
-use Rattle.sheets.proofs.HeldLaws.{held-few}
-use Rattle.deciding.proofs.HeldLaws.{held-ready, held-many}
+use Rattle.deciding.proofs.HeldLaws.{held-ready, held-many, held-few}
 use Rattle.deciding.proofs.Answering.{untyped, typed-form, typed-number}
 use mathlib.Core.Path.{sym, _∙_}
 use borrow.Author.Tests.{not-true, not-false}

@@ -1,12 +1,12 @@
 -- `lookups::finding::is_named` meets its contract. Assumes nothing.
 use Prim.Native.Nat.{ℕ, _+_, _<_, _≤_}
 use borrow.Author.Needs.{needs}
-use borrow.Author.Tests.{eqb-false}
+use borrow.Author.Tests.{eqb-false, not-true}
 use lib.Dec.{eqb}
 use lib.ListN.{length}
-use mathlib.Core.Bool.{Bool, true, false, not, _&&_}
+use mathlib.Core.Bool.{Bool, true, false, not, _&&_, and-eq-true-iff}
 use mathlib.Core.List.{List}
-use mathlib.Core.Path.{_≡_, refl, sym, _∙_, ap}
+use mathlib.Core.Path.{_≡_, sym, _∙_}
 use native.Mathlib.Omega.{arith}
 use Rattle.slices.specs.Parts.{part}
 use Rattle.slices.proofs.Equal.{same-is}
@@ -23,12 +23,7 @@ sized : (s : List ℕ) (at n : ℕ) → at + n ≤ length s → isPath (part s a
 sized s at n f p = let l = path-sized (part s at n) p .0 in let k = part-sized s at n f in omega arith
 
 both-differ : (a b : ℕ) (k : Bool) → (not (eqb a b) && not k) ≡ true → (a ≡ b → ⊥) × (k ≡ false)
-both-differ a b k h = go (eqb a b) k refl refl h
-  where
-    go : (i j : Bool) → eqb a b ≡ i → k ≡ j → (not i && not j) ≡ true → (a ≡ b → ⊥) × (k ≡ false)
-    go false false e f q = (eqb-false a b e, f)
-    go true j e f q = absurd (let z : _≡_ {A = ℕ} 0 1 = cc in omega arith)
-    go false true e f q = absurd (let z : _≡_ {A = ℕ} 0 1 = cc in omega arith)
+both-differ a b k h = let w = and-eq-true-iff (not (eqb a b)) (not k) .0 h in (eqb-false a b (not-true (eqb a b) (w .0)), not-true k (w .1))
 
 shared-slice-read-if1 : tie.Need-shared-slice-read-if1
 shared-slice-read-if1 c = omega (arith, sized _ _ _ (c .before .before .before .pre .0) (c .before .before .before .pre .1 .0))

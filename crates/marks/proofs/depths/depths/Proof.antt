@@ -4,7 +4,8 @@ use native.Mathlib.Omega.{arith}
 use Rattle.stored.specs.ReadBack.{policyOf, policiesAt}
 use Rattle.deciding.proofs.Lowest.{last-there}
 use Rattle.marks.proofs.Depth.{depth-few, last-steady}
-use Rattle.marks.proofs.Numbering.{numbered-few, numbered-some, Left, all-left, none-there, fewer-left, last-numbered, one-left}
+use Rattle.meaning.proofs.Deciding.{numbered-few, numbered-some}
+use Rattle.marks.proofs.Numbering.{Left, all-left, none-there, fewer-left, last-numbered, one-left}
 use Rattle.marks.proofs.Marking.{Found, found-more, zeros-say}
 use Rattle.marks.proofs.depths.depths.Statement.{statement}
 use Rattle.marks.proofs.depths.depths.Tie as tie

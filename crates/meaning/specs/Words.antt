@@ -1,0 +1,74 @@
+-- Policies are said without the text's other bytes (document 01, 'The table'): what is decided depends on a text by the words at the places that its policies hold. Definitions only.
+use mathlib.Core.Path.{_≡_}
+use mathlib.Core.List.{List, [], _∷_, _++_}
+use mathlib.Core.Option.{Option, none, some}
+use Prim.Native.Nat.{ℕ}
+use Rattle.grammar.specs.Policies.{Span, Literal, text, number, truth, Operand, attribute, literal, Tree, constant, compare, like, among, within, contains, has, not, brackets, both, either, choice, Part, any, typed, pinned, Actions, every, oneOf, Policy}
+use Rattle.placing.specs.Placed.{bytesAt, Each}
+use Rattle.views.specs.Meaning.{View}
+use Rattle.meaning.specs.Targets.{Request}
+use Rattle.meaning.specs.Decisions.{satisfied, policiesDecide, decisionOf}
+
+-- ---- the places that a policy holds: of its paths, strings and numbers
+
+unfoldable pub literalPlaces : Literal → List Span
+literalPlaces (text s) = s ∷ []
+literalPlaces (number s) = s ∷ []
+literalPlaces (truth b) = []
+
+unfoldable pub listPlaces : List Literal → List Span
+listPlaces [] = []
+listPlaces (l ∷ ls) = literalPlaces l ++ listPlaces ls
+
+unfoldable pub operandPlaces : Operand → List Span
+operandPlaces (attribute root s) = s ∷ []
+operandPlaces (literal l) = literalPlaces l
+
+unfoldable pub treePlaces : Tree → List Span
+treePlaces (constant b) = []
+treePlaces (compare c a b) = operandPlaces a ++ operandPlaces b
+treePlaces (like a s) = s ∷ operandPlaces a
+treePlaces (among a ls) = operandPlaces a ++ listPlaces ls
+treePlaces (within a root s) = s ∷ operandPlaces a
+treePlaces (contains w root s ls) = s ∷ listPlaces ls
+treePlaces (has root s) = s ∷ []
+treePlaces (not a) = treePlaces a
+treePlaces (brackets a) = treePlaces a
+treePlaces (both a b) = treePlaces a ++ treePlaces b
+treePlaces (either a b) = treePlaces a ++ treePlaces b
+treePlaces (choice c a b) = treePlaces c ++ (treePlaces a ++ treePlaces b)
+
+unfoldable pub partPlaces : Part → List Span
+partPlaces any = []
+partPlaces (typed n) = []
+partPlaces (pinned s) = s ∷ []
+
+unfoldable pub actionPlaces : Actions → List Span
+actionPlaces every = []
+actionPlaces (oneOf ls) = listPlaces ls
+
+unfoldable pub conditionPlaces : Option Tree → List Span
+conditionPlaces none = []
+conditionPlaces (some c) = treePlaces c
+
+unfoldable pub policyPlaces : Policy → List Span
+policyPlaces p = partPlaces (p .principal) ++ (actionPlaces (p .action) ++ (partPlaces (p .resource) ++ conditionPlaces (p .condition)))
+
+-- ---- two texts with the same words there
+
+-- the same bytes at a place
+pub record SameAt (t t' : List ℕ) (s : Span) : Type 0 where
+  pub same : bytesAt t s ≡ bytesAt t' s
+
+-- the same bytes at each place that a policy holds
+pub record SameWords (t t' : List ℕ) (p : Policy) : Type 0 where
+  pub there : Each (SameAt t t') (policyPlaces p)
+
+-- A policy is satisfied over one text exactly when it is over the other, whatever stands elsewhere in them.
+unfoldable pub SatisfiedAlike : Type 0
+SatisfiedAlike = (t t' : List ℕ) (p : Policy) → SameWords t t' p → (view : View) (q : Request) → satisfied t view q p ≡ satisfied t' view q p
+
+-- And the same is decided over both.
+unfoldable pub DecidedAlike : Type 0
+DecidedAlike = (t t' : List ℕ) (ps : List Policy) → Each (SameWords t t') ps → (view : View) (q : Request)
+    → (policiesDecide t view q ps ≡ policiesDecide t' view q ps) × (decisionOf t view q ps ≡ decisionOf t' view q ps)
