@@ -64,7 +64,11 @@ fn page_wanted(memory: &[u8], at: usize) -> Wanted
     let first = number(&memory[start..start_end]) as usize;
     let length = (number(&memory[size..size_end]) % 65536) as usize;
     let byte = number(&memory[named..named_end]) as usize;
-    Wanted { start: first, length, named: byte }
+    Wanted {
+        start: first,
+        length,
+        named: byte,
+    }
 }
 
 fn page<'a>(
