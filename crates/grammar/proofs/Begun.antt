@@ -47,7 +47,7 @@ pub record Eases (L M : Limits) (r s : List Lexeme) : Type 0 where
 abbrev pub taken : ℕ → Limits
 taken k = sizesTo (31 + k)
 
--- The limit m is not asked of a token before r: r is shorter than s. Where a limit n refused the first token of s, the other limits are asked of that token.
+-- The limit m is not asked of a token with r behind it: the token stands in s. But where a limit n refused the first token of s, the other limits are asked of it.
 pub record Beyond (n : ℕ) (s : List Lexeme) (m : ℕ) (r : List Lexeme) : Type 0 where
   pub behind : length r < length s
   pub first : (m ≡ n → ⊥) → 11 ≤ n → suc (length r) < length s
@@ -56,7 +56,7 @@ pub record Beyond (n : ℕ) (s : List Lexeme) (m : ℕ) (r : List Lexeme) : Type
 abbrev pub beyond : ℕ → ℕ → List Lexeme → Limits
 beyond k n s = lifting (31 + k) (Beyond n s)
 
--- Where a limit refuses the first token of r, it stands first in s too; for that the levels need one more.
+-- Where a limit refused the first token of r, it stands first in s too; for 12 that takes one level more.
 abbrev pub Kept : ℕ → ℕ → List Lexeme → List Lexeme → Type 0
 Kept k n r s = 11 ≤ n → (n ≡ 12 → 1 ≤ k) → Alike r s
 

@@ -3,25 +3,26 @@ use mathlib.Core.Path.{_≡_, refl, sym, _∙_}
 use mathlib.Core.Logic.{_⊎_, inl, inr}
 use mathlib.Core.Bool.{Bool, true, false, cond, _&&_}
 use mathlib.Core.List.{List, [], _∷_, _++_, reverse}
-use Prim.Native.Nat.{ℕ, suc, _+_, _≤_, _<_}
+use Prim.Native.Nat.{ℕ, _+_, _≤_, _<_}
 use native.Mathlib.Omega.{arith}
 use lib.Dec.{eqb, ltb}
 use lib.ListN.{length}
 use borrow.Author.Tests.{eqb-true, eqb-false, eq-eqb, ltb-true, ltb-false, lt-ltb}
 use Rattle.tokens.specs.Kinds as kinds
-use Rattle.tokens.proofs.TokenLaws.{and-left, and-right}
 use Rattle.reading.specs.Lexemes.{Lexeme, is}
-use Rattle.reading.specs.Reader.{refuse}
-use Rattle.reading.proofs.Readers.{goes-refused}
+use Rattle.reading.specs.Reader.{Answer, took, refuse}
+use Rattle.reading.proofs.Readers.{goes-took, goes-refused}
 use Rattle.reading.proofs.Local.{Alike, same}
+use Rattle.grammar.specs.Policies.{Policy}
 use Rattle.grammar.specs.Rules.{isReserved, isEffect, mostLiterals}
 use Rattle.grammar.specs.Grammar.{lifting, RuleText}
 use Rattle.grammar.specs.Parser.{read-text}
 use Rattle.grammar.specs.Numbers.{atName, afterLeft, atType, atCondition, atPattern, afterPolicy, afterAction, oneMore, endsBare, deepens, numberOf, numberAt, NumberedRightly}
-use Rattle.grammar.specs.Lowest.{Under, Admitted, Keeps, Applies, no-token, reserved, bare, no-type, not-admitted, limit, AppliesAt, token, end, Lowest, NumberedLowest, OneNumber}
+use Rattle.grammar.specs.Promise.{RefusedRightly, OnePlace}
+use Rattle.grammar.specs.Lowest.{Under, Admitted, Applies, no-token, reserved, bare, no-type, not-admitted, limit, AppliesAt, token, end, NumberedLowest, OneNumber, RefusedBy, RefusedExactly}
 use Rattle.grammar.proofs.Begun.{Beyond}
 use Rattle.grammar.proofs.Viable.{Opened, viable-text}
-use Rattle.grammar.proofs.Theorems.{cut, swap-is, less-asked}
+use Rattle.grammar.proofs.Theorems.{cut, swap-is, less-asked, refused-rightly, no-text-refused, one-place}
 use Rattle.grammar.proofs.Excess.{goes-on-nowhere}
 use Rattle.grammar.proofs.Numbered.{numbered-rightly}
 
@@ -191,3 +192,20 @@ numbered-lowest b (x ∷ s) n e = record { applies = token own-row-applies; leas
 pub one-number : OneNumber
 unfolding OneNumber
 one-number b r n m h k = let x = h .least m (k .applies) in let y = k .least n (h .applies) in omega arith
+
+-- ---- refusal, exactly
+
+pub refused-exactly : RefusedExactly
+unfolding RefusedExactly NumberedLowest OneNumber OnePlace RefusedRightly
+refused-exactly i r n = (by, λ t. back t (read-text i) refl)
+  where
+    by : read-text i ≡ refuse n r → RefusedBy i r n
+    by e = let w = refused-rightly i r n e in record { rightly = w; lowest = numbered-lowest (w .before) r n (rw (← w .split) e) }
+
+    back : RefusedBy i r n → (y : Answer (List Policy)) → read-text i ≡ y → read-text i ≡ refuse n r
+    back t (took ps q) e = absurd (no-text-refused i r ps (t .rightly) (goes-took (rw e at (viable-text 0 i)) .1))
+    back t (refuse m q) e =
+        let p : q ≡ r = one-place i q r (refused-rightly i q m e) (t .rightly) in
+        let d : read-text i ≡ refuse m r = e ∙ rw p in
+        let k : m ≡ n = one-number (t .rightly .before) r m n (numbered-lowest (t .rightly .before) r m (rw (← t .rightly .split) d)) (t .lowest) in
+        d ∙ rw k

@@ -9,9 +9,9 @@ use Rattle.reading.specs.Lexemes.{Lexeme}
 use Rattle.reading.proofs.Readers.{goes-refused}
 use Rattle.reading.proofs.Local.{same, ends}
 use Rattle.grammar.specs.Policies.{Policy}
-use Rattle.grammar.specs.Grammar.{Limits, lifting, Policies, policy}
+use Rattle.grammar.specs.Grammar.{Limits, sizes, lifting, Policies, policy, RuleText}
 use Rattle.grammar.specs.Grammar as grammar
-use Rattle.grammar.specs.Promise.{Sofar, RefusedRightly, OnePlace}
+use Rattle.grammar.specs.Promise.{Sofar, Refused, RefusedRightly, OnePlace}
 use Rattle.grammar.proofs.Begun.{Swap, here, step, Eases, Beyond}
 use Rattle.grammar.proofs.Framing.{framed-policy}
 use Rattle.grammar.proofs.Viable.{viable-text}
@@ -100,6 +100,14 @@ beginning b c h = record { on = c ++ h .on; policies = h .policies; belongs = le
   where
     longer : (on : List Lexeme) → length on ≤ length (c ++ on)
     longer on = let l = length-append c on in omega arith
+
+-- A rule text breaks no rule, so what is refused is none.
+pub no-text-refused : (i r : List Lexeme) (ps : List Policy) → Refused i r → ¬ RuleText sizes i ps
+no-text-refused i [] ps w h = w .no-text ps refl (rw (w .split, end) at h)
+no-text-refused i (x ∷ s) ps w h = w .dead x s refl (beginning (w .before ++ x ∷ []) s (rw (w .split, cut) at sofar))
+  where
+    sofar : Sofar i
+    sofar = record { on = []; policies = ps; belongs = rw end (weaker (λ r. record { name = λ v root used y t. inl t; pattern = λ v y t. inl t; count = λ v k t. inl t; number = λ v k t. inl t; levels = refl }) h) }
 
 pub one-place : OnePlace
 unfolding OnePlace

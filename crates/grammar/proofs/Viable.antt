@@ -1,10 +1,10 @@
--- What the reader of rule texts takes is in the grammar, and what stands before what it refuses begins a text of the grammar. Assumes nothing.
+-- What the reader of rule texts takes is in the grammar, and what stands before what it refuses begins a text of the grammar; where a limit refused it, with the refused token. Assumes nothing.
 use mathlib.Core.Path.{_≡_, refl, sym}
 use mathlib.Core.Bool.{Bool, true, false}
 use mathlib.Core.List.{List, [], _∷_, _++_}
 use mathlib.Core.Logic.{inl, inr}
 use mathlib.Core.Option.{Option, some}
-use Prim.Native.Nat.{ℕ, zero, suc, _+_, _≤_, _<_}
+use Prim.Native.Nat.{ℕ, zero, suc, _+_, _<_}
 use native.Mathlib.Omega.{arith}
 use lib.Dec.{ltb}
 use lib.ListN.{length}
@@ -15,11 +15,11 @@ use Rattle.tokens.specs.Kinds as kinds
 use Rattle.tokens.proofs.TokenLaws.{never, and-left, and-right}
 use Rattle.reading.specs.Lexemes.{Lexeme, is}
 use Rattle.reading.specs.Reads.{Reads, Chain, Chain.alone, Chain.more, Onto, Onto.onto, Before, Before.ended, After, After.begun}
-use Rattle.reading.specs.Reader.{Answer, Reader, refuseBy, ten, mapped, chain}
+use Rattle.reading.specs.Reader.{Answer, Reader, refuseBy, mapped, chain}
 use Rattle.reading.proofs.Readers.{Goes, good, goes-weaker, goes-below, goes-ten, goes-bind, goes-on, goes-need, goes-need-bind, goes-onwards}
 use Rattle.grammar.specs.Policies.{Span, Root, Literal, Operand, attribute, literal, Tree, compare, among, within, contains, has, choice, both, either, Part, Actions, oneOf, Policy}
 use Rattle.grammar.specs.Rules.{inside, isEffect, isRoot, rootOf, isLiteral, literalOf, isComparator, comparatorOf, isContains, whichOf, principalTypes, resourceTypes, typeAmong, isType, admitted, mostLiterals, mostPolicies, isPattern}
-use Rattle.grammar.specs.Grammar.{Limits, pathNumber, Path, firstPath, spanned, first, NextName, next, Names, Attribute, rooted, AnOperand, given, Element, element, Listing, Simple, comparison, likeness, listed, held, call, having, Conjunction, Disjunction, Form, simple, negation, bracketed, conditional, Condition, Conditions, Typed, ResourceRest, ActionRest, When, PolicyRest, Policies, policy, RuleText}
+use Rattle.grammar.specs.Grammar.{Limits, pathNumber, Path, firstPath, spanned, first, NextName, next, Names, Attribute, rooted, AnOperand, given, Element, element, Listing, Simple, comparison, likeness, listed, held, call, having, Conjunction, Disjunction, Form, simple, negation, bracketed, conditional, Condition, Typed, ResourceRest, ActionRest, When, PolicyRest, Policies, policy, RuleText}
 use Rattle.grammar.specs.Grammar as grammar
 use Rattle.grammar.specs.Parser.{Way, calling, noName, bare, noType, noLevel, noPattern, tooMany, noPolicy, fits, read-first-name, goesOn, read-next-name, read-way, noExit, spannedBy, read-path, read-attribute, read-operand, isElement, read-element, read-list, read-bare, read-in, isLike, read-pattern, read-operator, read-call, read-rest, read-rooted, read-simple, read-joined, read-conjunction, read-disjunction, read-negated, read-bracketed, read-conditional, read-deeper, read-condition, read-conditions, read-type, read-principal, read-action, read-resource, read-when, read-policy, begins, read-next-policy, atEnd, read-text}
 use Rattle.grammar.specs.Parser as parser
@@ -75,12 +75,12 @@ pub record Opened (k : ℕ) (i : List Lexeme) (n : ℕ) (r : List Lexeme) : Type
   pub kept : Kept k n r on
   pub belongs : RuleText (beyond k n on) whole policies
 
--- the levels that the grammar has more than the reader
+-- `extra`: the levels that the grammar has more than the reader
 module _ (extra : ℕ) where
   -- ---- paths
 
   module _ (root : Root) where
-    -- a name of which no (taken extra) are asked
+    -- a name of which its limit is not asked
     one-name : (n : ℕ) (s w : List Lexeme) → Beyond n s (pathNumber root) w → Names (beyond extra n s) root (made kinds.name ∷ w) w (firstPath (made kinds.name))
     one-name n s w l = alone (first {r = w} refl (inr l))
 
