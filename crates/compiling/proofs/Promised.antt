@@ -16,18 +16,17 @@ use Rattle.reading.specs.Reader as reader
 use Rattle.reading.specs.Reader.{took, refuse, refuseBy, bind}
 use Rattle.grammar.specs.Policies.{Policy}
 use Rattle.grammar.specs.Parser.{atEnd, read-text}
-use Rattle.grammar.specs.Numbers.{NumberedRightly}
 use Rattle.grammar.specs.Grammar.{sizes}
 use Rattle.grammar.specs.Promise as grammar
+use Rattle.grammar.specs.Lowest as lowest
 use Rattle.grammar.proofs.Exactly.{accepted-exactly}
-use Rattle.grammar.proofs.Theorems.{refused-rightly}
-use Rattle.grammar.proofs.Numbered.{numbered-rightly}
+use Rattle.grammar.proofs.Rows.{refused-exactly}
 use Rattle.table.specs.Entries.{policiesEntries}
 use Rattle.table.specs.Layout.{entrySize, bytesOf, held, startsWith}
 use Rattle.table.proofs.Holding.{length-bytesOf, starts-itself, starts-decides, held-starts}
 use Rattle.parts.specs.Answers.{refusalAt}
 use Rattle.compiling.specs.Outcome.{saidOf, mostBytes, roomFor, said, compiledBytes, foundBy, foundOf, toldOf, compiledOf, tableBy, tableAfter, beginsBy, beginsOf, heldBy, heldOf}
-use Rattle.compiling.specs.Promise.{ZerosElsewhere, AcceptedExactly, UnfitExactly, startOf, RefusedThere, RefusedRightly, bytesSaid, bytesFor, TextAlone, NothingChanged, NoPoliciesNoBytes, OneResult, Begun, BeginsExactly, CompiledBegins, EnoughRoom, Holds, HeldRightly}
+use Rattle.compiling.specs.Promise.{ZerosElsewhere, AcceptedExactly, UnfitExactly, startOf, RefusedThere, RefusedExactly, bytesSaid, bytesFor, TextAlone, NothingChanged, NoPoliciesNoBytes, OneResult, Begun, BeginsExactly, CompiledBegins, EnoughRoom, Holds, HeldRightly}
 use Rattle.compiling.specs.declared.Found.{Found}
 use Rattle.compiling.specs.declared.Found.the-variants.{Accepted, Unfit, Turned}
 use Rattle.compiling.specs.declared.Compiled.the-variants.{Policies, Refused}
@@ -167,25 +166,30 @@ number-is text n (x ∷ r) = refl
 
 refused-at : (text : List ℕ) (p : reader.Answer (List Policy)) (number line column : ℕ) → said text ≡ p → toldOf text (foundBy text p) ≡ Refused number line column
     → RefusedThere text number line column
-unfolding toldOf foundBy said NumberedRightly grammar.RefusedRightly
+unfolding toldOf foundBy said lowest.RefusedExactly
 refused-at text (took ps r) number line column q e = absurd (let z : _≡_ {A = ℕ} 0 1 = cc in omega arith)
 refused-at text (refuse n r) number line column q e =
-    let w = refused-rightly (tokensOf text) r n q in
     let same : number ≡ n = (let x : refusalAt text n r .number ≡ number = cc in sym x ∙ number-is text n r) in
     record {
       rest = r;
-      rightly = w;
-      number-is = same ∙ numbered-rightly (w .before) r n (rw (← w .split) q);
+      refused = refused-exactly (tokensOf text) r number .0 (q ∙ rw same);
       place-is = at-place (let x : placeOf text (refusalAt text n r .start) .line ≡ line = cc in x) (let x : placeOf text (refusalAt text n r .start) .column ≡ column = cc in x);
     }
   where
     at-place : placeOf text (refusalAt text n r .start) .line ≡ line → placeOf text (refusalAt text n r .start) .column ≡ column → placeOf text (startOf text r) ≡ place line column
     at-place x y = rw (← start-is text n r, ← x, ← y)
 
-pub refused-there : RefusedRightly
-unfolding RefusedRightly compiledOf
-refused-there text room number line column l h e =
-    refused-at text (said text) number line column refl (sym (ap (toldOf text) (fitting text room l h)) ∙ e)
+-- what the refusal of these tokens is told as
+told-there : (text : List ℕ) (number line column : ℕ) → RefusedThere text number line column → toldOf text (foundBy text (said text)) ≡ Refused number line column
+unfolding toldOf foundBy said lowest.RefusedExactly
+told-there text number line column t =
+    rw (refused-exactly (tokensOf text) (t .rest) number .1 (t .refused), number-is text number (t .rest), start-is text number (t .rest), t .place-is)
+
+pub refused-there : RefusedExactly
+unfolding RefusedExactly compiledOf
+refused-there text room number line column l h =
+    let f = ap (toldOf text) (fitting text room l h) in
+    (λ e. refused-at text (said text) number line column refl (sym f ∙ e), λ t. f ∙ told-there text number line column t)
 
 table-said : (text old : List ℕ) (ps : List Policy) → length text ≤ mostBytes → roomFor text ≤ length old → said text ≡ took ps []
     → tableAfter text old ≡ compiledBytes ps ++ drop (length (compiledBytes ps)) old

@@ -2,7 +2,7 @@
 use mathlib.Core.Path.{_≡_}
 use mathlib.Core.Logic.{_↔_}
 use mathlib.Core.Bool.{true}
-use mathlib.Core.List.{List, [], _∷_, reverse}
+use mathlib.Core.List.{List, [], _∷_}
 use Prim.Native.Nat.{ℕ, _≤_}
 use lib.ListN.{length, take, drop}
 use Rattle.tokens.specs.Places.{place, placeOf}
@@ -11,8 +11,7 @@ use Rattle.reading.specs.Reader as reader
 use Rattle.reading.specs.Reader.{took, refuse}
 use Rattle.grammar.specs.Policies.{Policy}
 use Rattle.grammar.specs.Grammar.{RuleText, sizes}
-use Rattle.grammar.specs.Numbers.{numberAt}
-use Rattle.grammar.specs.Promise as grammar
+use Rattle.grammar.specs.Lowest.{RefusedBy}
 use Rattle.table.specs.Entries.{policiesEntries}
 use Rattle.table.specs.Layout.{held, Begins}
 use Rattle.compiling.specs.Outcome.{mostBytes, roomFor, said, compiledBytes, compiledOf, saidOf, tableAfter, CompiledInto, heldOf, beginsOf}
@@ -47,16 +46,16 @@ unfoldable pub startOf : List ℕ → List Lexeme → ℕ
 startOf text [] = length text
 startOf text (x ∷ r) = x .start
 
--- the refusal names the first of the tokens `rest`, as the grammar asks, by the number of document 01's table, and tells its line and column
+-- the refusal names the first of the tokens `rest`, which is the first that breaks a rule, by the lowest number that applies to it, and tells its line and column
 pub record RefusedThere (text : List ℕ) (number line column : ℕ) : Type 0 where
   pub rest : List Lexeme
-  pub rightly : grammar.Refused (tokensOf text) rest
-  pub number-is : number ≡ numberAt (reverse (rightly .before)) rest
+  pub refused : RefusedBy (tokensOf text) rest number
   pub place-is : placeOf text (startOf text rest) ≡ place line column
 
-unfoldable pub RefusedRightly : Type 0
-RefusedRightly = (text : List ℕ) (room number line column : ℕ) → length text ≤ mostBytes → roomFor text ≤ room
-    → compiledOf text room ≡ Refused number line column → RefusedThere text number line column
+-- A text within the sizes is refused by a number, with a line and a column, exactly when that holds.
+unfoldable pub RefusedExactly : Type 0
+RefusedExactly = (text : List ℕ) (room number line column : ℕ) → length text ≤ mostBytes → roomFor text ≤ room
+    → (compiledOf text room ≡ Refused number line column) ↔ RefusedThere text number line column
 
 -- A refusal gives its number and place, and zeros elsewhere.
 unfoldable pub ZerosElsewhere : Type 0

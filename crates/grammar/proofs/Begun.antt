@@ -3,13 +3,16 @@ use mathlib.Core.Path.{_≡_, refl}
 use mathlib.Core.Bool.{Bool, true}
 use mathlib.Core.List.{List, [], _∷_, _++_}
 use mathlib.Core.Logic.{inl}
-use Prim.Native.Nat.{ℕ}
+use Prim.Native.Nat.{ℕ, suc, _+_, _≤_, _<_}
+use native.Mathlib.Omega.{arith}
+use lib.ListN.{length}
 use Rattle.reading.specs.Lexemes.{Lexeme}
 use Rattle.reading.specs.Reads.{Reads, Chain, Chain.alone, Chain.more, Onto, Onto.onto, Before, Before.ended, After, After.begun}
 use Rattle.reading.specs.Reader.{Reader, need, before, mapped, onwards, chain}
+use Rattle.reading.proofs.Local.{Alike}
 use Rattle.reading.proofs.Readers.{Goes, good, goes-weaker, goes-bind, goes-need, goes-onwards}
 use Rattle.grammar.specs.Policies.{Root}
-use Rattle.grammar.specs.Grammar.{Limits, sizes, sizesBefore}
+use Rattle.grammar.specs.Grammar.{Limits, sizesTo, lifting}
 
 -- What the grammar reads, under each limits.
 abbrev pub Family : Type 0 → Type 1
@@ -36,9 +39,29 @@ pub record Eases (L M : Limits) (r s : List Lexeme) : Type 0 where
   pub pattern : {m n : List Lexeme} → Swap r s m n → (x : Lexeme) → L .Pattern x m → M .Pattern x n
   pub count : {m n : List Lexeme} → Swap r s m n → (k : ℕ) → L .Count k m → M .Count k n
   pub number : {m n : List Lexeme} → Swap r s m n → (k : ℕ) → L .Number k m → M .Number k n
+  pub levels : L .levels ≡ M .levels
 
-pub eased : (on : List Lexeme) {r s : List Lexeme} → Eases sizes (sizesBefore on) r s
-eased on = record { name = λ w root used x h. inl h; pattern = λ w x h. inl h; count = λ w k h. inl h; number = λ w k h. inl h }
+-- ---- which limits are asked of what
+
+-- document 01's, with k levels more
+abbrev pub taken : ℕ → Limits
+taken k = sizesTo (31 + k)
+
+-- The limit m is not asked of a token with r behind it: the token stands in s. But where a limit n refused the first token of s, the other limits are asked of it.
+pub record Beyond (n : ℕ) (s : List Lexeme) (m : ℕ) (r : List Lexeme) : Type 0 where
+  pub behind : length r < length s
+  pub first : (m ≡ n → ⊥) → 11 ≤ n → suc (length r) < length s
+
+-- the same, with k levels more, where what is refused by n is gone on with by s
+abbrev pub beyond : ℕ → ℕ → List Lexeme → Limits
+beyond k n s = lifting (31 + k) (Beyond n s)
+
+-- Where a limit refused the first token of r, it stands first in s too; for 12 that takes one level more.
+abbrev pub Kept : ℕ → ℕ → List Lexeme → List Lexeme → Type 0
+Kept k n r s = 11 ≤ n → (n ≡ 12 → 1 ≤ k) → Alike r s
+
+pub eased : (k n : ℕ) (on : List Lexeme) {r s : List Lexeme} → Eases (taken k) (beyond k n on) r s
+eased k n on = record { name = λ w root used x h. inl h; pattern = λ w x h. inl h; count = λ w k h. inl h; number = λ w k h. inl h; levels = refl }
 
 -- with s in the place of r, i is a list that R reads up to n
 abbrev pub Moved : {A : Type 0} → Reads A → (r s i n : List Lexeme) → A → Type 0
@@ -81,111 +104,123 @@ pub data Then {A B : Type 0} (R : Reads A) (S : Reads B) : List Lexeme → List 
 -- ---- what can stand at a place
 
 -- Something that R reads can stand before any rest w.
-pub record Possible {A : Type 0} (R : Family A) : Type 0 where
+pub record Possible (k : ℕ) {A : Type 0} (R : Family A) : Type 0 where
   pub text : List Lexeme → List Lexeme
   pub tree : A
-  pub reads : (on w : List Lexeme) → R (sizesBefore on) (text w) w tree
+  pub reads : (n : ℕ) (s w : List Lexeme) → R (beyond k n s) (text w) w tree
 
-module _ {A : Type 0} {R : Family A} (p : Possible R) where
-  pub possible-onto : {B : Type 0} (f : A → B) → Possible (λ L. Onto f (R L))
-  possible-onto f = record { text = p .text; tree = f (p .tree); reads = λ on w. onto (p .reads on w) }
+module _ {k : ℕ} {A : Type 0} {R : Family A} (p : Possible k R) where
+  pub possible-onto : {B : Type 0} (f : A → B) → Possible k (λ L. Onto f (R L))
+  possible-onto f = record { text = p .text; tree = f (p .tree); reads = λ n s w. onto (p .reads n s w) }
 
-  pub possible-before : (k : ℕ) → Possible (λ L. Before k (R L))
-  possible-before k = record { text = λ w. p .text (made k ∷ w); tree = p .tree; reads = λ on w. ended (p .reads on (made k ∷ w)) refl }
+  pub possible-before : (kind : ℕ) → Possible k (λ L. Before kind (R L))
+  possible-before kind = record { text = λ w. p .text (made kind ∷ w); tree = p .tree; reads = λ n s w. ended (p .reads n s (made kind ∷ w)) refl }
 
-  pub possible-after : (k : ℕ) → Possible (λ L. After k (R L))
-  possible-after k = record { text = λ w. made k ∷ p .text w; tree = p .tree; reads = λ on w. begun refl (p .reads on w) }
+  pub possible-after : (kind : ℕ) → Possible k (λ L. After kind (R L))
+  possible-after kind = record { text = λ w. made kind ∷ p .text w; tree = p .tree; reads = λ n s w. begun refl (p .reads n s w) }
 
-  pub possible-then : {B : Type 0} {S : Family B} → Possible S → Possible (λ L. Then (R L) (S L))
-  possible-then q = record { text = λ w. p .text (q .text w); tree = (p .tree, q .tree); reads = λ on w. followed (p .reads on (q .text w)) (q .reads on w) }
+  pub possible-then : {B : Type 0} {S : Family B} → Possible k S → Possible k (λ L. Then (R L) (S L))
+  possible-then q = record { text = λ w. p .text (q .text w); tree = (p .tree, q .tree); reads = λ n s w. followed (p .reads n s (q .text w)) (q .reads n s w) }
 
-  pub possible-chain : {sep : A → Lexeme → Bool} {Q : A → Lexeme → Family A} → Possible (λ L. Chain sep (R L) (λ a x. Q a x L))
-  possible-chain = record { text = p .text; tree = p .tree; reads = λ on w. alone (p .reads on w) }
+  pub possible-chain : {sep : A → Lexeme → Bool} {Q : A → Lexeme → Family A} → Possible k (λ L. Chain sep (R L) (λ a x. Q a x L))
+  possible-chain = record { text = p .text; tree = p .tree; reads = λ n s w. alone (p .reads n s w) }
 
 -- ---- what has begun
 
--- The tokens of i before r can be gone on with by some s, of which no sizes are asked, so that R reads them, whatever w is to follow.
-pub record Begun {A : Type 0} (R : Family A) (i r : List Lexeme) : Type 0 where
-  pub at : (w : List Lexeme) → (s : List Lexeme) × (j : List Lexeme) × (a : A) × Swap r s i j × R (sizesBefore s) j w a
+-- Where i is refused by n at r: its tokens before r can be gone on with by some s so that R reads them, whatever w is to follow.
+pub record Begun (k : ℕ) {A : Type 0} (R : Family A) (i : List Lexeme) (n : ℕ) (r : List Lexeme) : Type 0 where
+  pub at : (w : List Lexeme) → (s : List Lexeme) × (j : List Lexeme) × (a : A) × Swap r s i j × Kept k n r s × R (beyond k n s) j w a
 
-pub begun-weaker : {A : Type 0} {R R′ : Family A} {i r : List Lexeme} → Begun R i r
-    → ((s j w : List Lexeme) (a : A) → R (sizesBefore s) j w a → R′ (sizesBefore s) j w a) → Begun R′ i r
-begun-weaker h k = record { at = λ w. let q = h .at w in (q .0, q .1, q .2, q .3, k (q .0) (q .1) w (q .2) (q .4)) }
+-- a number of no limit
+pub few : {k n : ℕ} {r s : List Lexeme} → n < 11 → Kept k n r s
+few l = λ h e. absurd (omega arith)
 
--- behind the tokens ts
-pub begun-first : {B : Type 0} {R′ : Family B} (ts : List Lexeme) {i : List Lexeme} → ((w : List Lexeme) → (j : List Lexeme) × (b : B) × R′ (sizesBefore j) (ts ++ j) w b) → Begun R′ (ts ++ i) i
-begun-first ts k = record { at = λ w. let c = k w in (c .0, ts ++ c .0, c .1, swap-behind ts here, c .2) }
+pub beyond-few : {m n : ℕ} {s w : List Lexeme} → n < 11 → length w < length s → Beyond n s m w
+beyond-few l h = record { behind = h; first = λ d e. absurd (omega arith) }
 
-pub begun-start : {A : Type 0} {R : Family A} {i : List Lexeme} → Possible R → Begun R i i
-begun-start p = begun-first [] (λ w. (p .text w, p .tree, p .reads (p .text w) w))
+module _ {k n : ℕ} where
+  pub begun-weaker : {A : Type 0} {R R′ : Family A} {i r : List Lexeme} → Begun k R i n r
+      → ((s j w : List Lexeme) (a : A) → R (beyond k n s) j w a → R′ (beyond k n s) j w a) → Begun k R′ i n r
+  begun-weaker h f = record { at = λ w. let q = h .at w in (q .0, q .1, q .2, q .3, q .4, f (q .0) (q .1) w (q .2) (q .5)) }
 
--- behind the tokens ts, in what R reads; `u w` goes on behind that
-pub begun-more : {A B : Type 0} {R : Family A} {R′ : Family B} (ts : List Lexeme) (u : List Lexeme → List Lexeme) {i r : List Lexeme} → Begun R i r
-    → ((s j w : List Lexeme) (a : A) → R (sizesBefore s) j (u w) a → (b : B) × R′ (sizesBefore s) (ts ++ j) w b) → Begun R′ (ts ++ i) r
-begun-more ts u h k = record {
-  at = λ w.
-      let q = h .at (u w) in let c = k (q .0) (q .1) w (q .2) (q .4) in (q .0, ts ++ q .1, c .0, swap-behind ts (q .3), c .1);
-}
+  -- behind the tokens ts
+  pub begun-first : {B : Type 0} {R′ : Family B} (ts : List Lexeme) {i : List Lexeme}
+      → ((w : List Lexeme) → (j : List Lexeme) × (b : B) × Kept k n i j × R′ (beyond k n j) (ts ++ j) w b) → Begun k R′ (ts ++ i) n i
+  begun-first ts f = record { at = λ w. let c = f w in (c .0, ts ++ c .0, c .1, swap-behind ts here, c .2, c .3) }
 
--- behind what R read and the tokens ts; `u w` goes on
-pub begun-next : {A B : Type 0} {R : Family A} {R′ : Family B} (ts : List Lexeme) (u : List Lexeme → List Lexeme) {i m : List Lexeme} {a : A} → Framed R → R sizes i (ts ++ m) a
-    → ((j w : List Lexeme) → R (sizesBefore (u w)) j (ts ++ u w) a → (b : B) × R′ (sizesBefore (u w)) j w b) → Begun R′ i m
-begun-next ts u f h k = record { at = λ w. let q = f .at (eased (u w)) h (swap-behind ts here) in let c = k (q .0) w (q .2) in (u w, q .0, c .0, q .1, c .1) }
+  pub begun-start : {A : Type 0} {R : Family A} {i : List Lexeme} → Possible k R → n < 11 → Begun k R i n i
+  begun-start p l = begun-first [] (λ w. (p .text w, p .tree, few l, p .reads n (p .text w) w))
 
--- behind what R read and the tokens ts, in what R₂ reads
-pub begun-inside : {A B C : Type 0} {R : Family A} {R₂ : Family B} {R′ : Family C} (ts : List Lexeme) {i m r : List Lexeme} {a : A}
-    → Framed R → R sizes i (ts ++ m) a → Begun R₂ m r
-    → ((s j n w : List Lexeme) (b : B) → R (sizesBefore s) j (ts ++ n) a → R₂ (sizesBefore s) n w b → (c : C) × R′ (sizesBefore s) j w c) → Begun R′ i r
-begun-inside ts f h g k = record {
-  at = λ w.
-      let q = g .at w in let p = f .at (eased (q .0)) h (swap-behind ts (q .3)) in let c = k (q .0) (p .0) (q .1) w (q .2) (p .2) (q .4) in
-      (q .0, p .0, c .0, p .1, c .1);
-}
+  -- behind the tokens ts, in what R reads; `u w` goes on behind that
+  pub begun-more : {A B : Type 0} {R : Family A} {R′ : Family B} (ts : List Lexeme) (u : List Lexeme → List Lexeme) {i r : List Lexeme} → Begun k R i n r
+      → ((s j w : List Lexeme) (a : A) → R (beyond k n s) j (u w) a → (b : B) × R′ (beyond k n s) (ts ++ j) w b) → Begun k R′ (ts ++ i) n r
+  begun-more ts u h f = record {
+    at = λ w.
+        let q = h .at (u w) in let c = f (q .0) (q .1) w (q .2) (q .5) in (q .0, ts ++ q .1, c .0, swap-behind ts (q .3), q .4, c .1);
+  }
 
-pub begun-left : {A B : Type 0} {R : Family A} {S : Family B} {i r : List Lexeme} → Possible S → Begun R i r → Begun (λ L. Then (R L) (S L)) i r
-begun-left p b = begun-more [] (p .text) b (λ s j w a h. (_, followed h (p .reads s w)))
+  -- behind what R read and the tokens ts; `u w` goes on
+  pub begun-next : {A B : Type 0} {R : Family A} {R′ : Family B} (ts : List Lexeme) (u : List Lexeme → List Lexeme) {i m : List Lexeme} {a : A} → Framed R → R (taken k) i (ts ++ m) a
+      → ((w : List Lexeme) → Kept k n m (u w)) → ((j w : List Lexeme) → R (beyond k n (u w)) j (ts ++ u w) a → (b : B) × R′ (beyond k n (u w)) j w b) → Begun k R′ i n m
+  begun-next ts u f h g c = record {
+    at = λ w. let q = f .at (eased k n (u w)) h (swap-behind ts here) in let d = c (q .0) w (q .2) in (u w, q .0, d .0, q .1, g w, d .1);
+  }
 
-pub begun-right : {A B : Type 0} {R : Family A} {S : Family B} {i m r : List Lexeme} {a : A} → Framed R → R sizes i m a → Begun S m r → Begun (λ L. Then (R L) (S L)) i r
-begun-right f h b = begun-inside [] f h b (λ s j n w b h′ k. (_, followed h′ k))
+  -- behind what R read and the tokens ts, in what R₂ reads
+  pub begun-inside : {A B C : Type 0} {R : Family A} {R₂ : Family B} {R′ : Family C} (ts : List Lexeme) {i m r : List Lexeme} {a : A}
+      → Framed R → R (taken k) i (ts ++ m) a → Begun k R₂ m n r
+      → ((s j l w : List Lexeme) (b : B) → R (beyond k n s) j (ts ++ l) a → R₂ (beyond k n s) l w b → (c : C) × R′ (beyond k n s) j w c) → Begun k R′ i n r
+  begun-inside ts f h g c = record {
+    at = λ w.
+        let q = g .at w in let p = f .at (eased k n (q .0)) h (swap-behind ts (q .3)) in let d = c (q .0) (p .0) (q .1) w (q .2) (p .2) (q .5) in
+        (q .0, p .0, d .0, p .1, q .4, d .1);
+  }
+
+  pub begun-left : {A B : Type 0} {R : Family A} {S : Family B} {i r : List Lexeme} → Possible k S → Begun k R i n r → Begun k (λ L. Then (R L) (S L)) i n r
+  begun-left p b = begun-more [] (p .text) b (λ s j w a h. (_, followed h (p .reads n s w)))
+
+  pub begun-right : {A B : Type 0} {R : Family A} {S : Family B} {i m r : List Lexeme} {a : A} → Framed R → R (taken k) i m a → Begun k S m n r → Begun k (λ L. Then (R L) (S L)) i n r
+  begun-right f h b = begun-inside [] f h b (λ s j l w b h′ k. (_, followed h′ k))
 
 -- ---- readers
 
 -- What p takes R reads, and what stands before what it refuses begins something that R reads.
-pub record Viable {A : Type 0} (p : Reader A) (R : Family A) : Type 0 where
-  pub at : (i : List Lexeme) → Goes (λ a r. R sizes i r a) (Begun R i) (p i)
+pub record Viable (k : ℕ) {A : Type 0} (p : Reader A) (R : Family A) : Type 0 where
+  pub at : (i : List Lexeme) → Goes (λ a r. R (taken k) i r a) (Begun k R i) (p i)
 
-module _ {A : Type 0} {p : Reader A} {R : Family A} (v : Viable p R) where
-  pub viable-mapped : {B : Type 0} (f : A → B) → Viable (mapped f p) (λ L. Onto f (R L))
+module _ {k : ℕ} {A : Type 0} {p : Reader A} {R : Family A} (v : Viable k p R) where
+  pub viable-mapped : {B : Type 0} (f : A → B) → Viable k (mapped f p) (λ L. Onto f (R L))
   unfolding mapped
-  viable-mapped f = record { at = λ i. goes-bind _ (v .at i) (λ r b. begun-more [] (λ w. w) b (λ s j w a h. (_, onto h))) (λ a r h. good (onto h)) }
+  viable-mapped f = record { at = λ i. goes-bind _ (v .at i) (λ n r b. begun-more [] (λ w. w) b (λ s j w a h. (_, onto h))) (λ a r h. good (onto h)) }
 
-  pub viable-before : Framed R → (k : ℕ) → Viable (before k p) (λ L. Before k (R L))
+  pub viable-before : Framed R → (kind : ℕ) → Viable k (before kind p) (λ L. Before kind (R L))
   unfolding before
-  viable-before f k = record {
+  viable-before f kind = record {
     at = λ i.
-        goes-bind _ (v .at i) (λ r b. begun-more [] (λ w. made k ∷ w) b (λ s j w a h. (_, ended h refl))) (λ a r h.
-        goes-need _ _ _ _ r (begun-next [] (λ w. made k ∷ w) f h (λ j w h′. (_, ended h′ refl))) (λ x m e t. good (ended (rw e at h) t)));
+        goes-bind _ (v .at i) (λ n r b. begun-more [] (λ w. made kind ∷ w) b (λ s j w a h. (_, ended h refl))) (λ a r h.
+        goes-need _ _ _ _ r (λ n l. begun-next [] (λ w. made kind ∷ w) f h (λ w. few l) (λ j w h′. (_, ended h′ refl))) (λ x m e t. good (ended (rw e at h) t)));
   }
 
-  pub viable-after : Possible R → (k : ℕ) → Viable (need k p) (λ L. After k (R L))
-  viable-after q k = record {
+  pub viable-after : Possible k R → (kind : ℕ) → Viable k (need kind p) (λ L. After kind (R L))
+  viable-after q kind = record {
     at = λ i.
-        goes-need _ _ _ _ i (begun-start (possible-after q k)) (λ x m e t. rw e
-        (goes-weaker (v .at m) (λ a r h. begun t h) (λ r b. begun-more (x ∷ []) (λ w. w) b (λ s j w a h. (_, begun t h)))));
+        goes-need _ _ _ _ i (λ n l. begun-start (possible-after q kind) l) (λ x m e t. rw e
+        (goes-weaker (v .at m) (λ a r h. begun t h) (λ n r b. begun-more (x ∷ []) (λ w. w) b (λ s j w a h. (_, begun t h)))));
   }
 
 -- a loop, of which a was read
-pub viable-onwards : {A : Type 0} (sep Sep : A → Lexeme → Bool) (q : A → Lexeme → Reader A) {R : Family A} {Q : A → Lexeme → Family A}
-    → Framed R → ((a : A) (x : Lexeme) → Framed (Q a x)) → ((a : A) (x : Lexeme) → sep a x ≡ true → (Sep a x ≡ true) × Viable (q a x) (Q a x))
-    → {i : List Lexeme} (a : A) (m : List Lexeme) → Chain Sep (R sizes) (λ a x. Q a x sizes) i m a
-    → Goes (λ b r. Chain Sep (R sizes) (λ a x. Q a x sizes) i r b) (Begun (λ L. Chain Sep (R L) (λ a x. Q a x L)) i) (onwards sep q a m)
+pub viable-onwards : {k : ℕ} {A : Type 0} (sep Sep : A → Lexeme → Bool) (q : A → Lexeme → Reader A) {R : Family A} {Q : A → Lexeme → Family A}
+    → Framed R → ((a : A) (x : Lexeme) → Framed (Q a x)) → ((a : A) (x : Lexeme) → sep a x ≡ true → (Sep a x ≡ true) × Viable k (q a x) (Q a x))
+    → {i : List Lexeme} (a : A) (m : List Lexeme) → Chain Sep (R (taken k)) (λ a x. Q a x (taken k)) i m a
+    → Goes (λ b r. Chain Sep (R (taken k)) (λ a x. Q a x (taken k)) i r b) (Begun k (λ L. Chain Sep (R L) (λ a x. Q a x L)) i) (onwards sep q a m)
 viable-onwards sep Sep q f g v a m h = goes-onwards _ _ sep q (λ a x m h t. goes-weaker (v a x t .1 .at m) (λ b r k. more h (v a x t .0) k)
-    (λ r b. begun-inside (x ∷ []) (framed-chain f g) h b (λ s j n w c h′ k. (_, more h′ (v a x t .0) k)))) a m h
+    (λ n r b. begun-inside (x ∷ []) (framed-chain f g) h b (λ s j n w c h′ k. (_, more h′ (v a x t .0) k)))) a m h
 
-pub viable-chain : {A : Type 0} (sep : A → Lexeme → Bool) (p : Reader A) (q : A → Lexeme → Reader A) {R : Family A} {Q : A → Lexeme → Family A}
-    → Framed R → ((a : A) (x : Lexeme) → Framed (Q a x)) → Viable p R → ((a : A) (x : Lexeme) → Viable (q a x) (Q a x)) → Viable (chain sep p q) (λ L. Chain sep (R L) (λ a x. Q a x L))
+pub viable-chain : {k : ℕ} {A : Type 0} (sep : A → Lexeme → Bool) (p : Reader A) (q : A → Lexeme → Reader A) {R : Family A} {Q : A → Lexeme → Family A}
+    → Framed R → ((a : A) (x : Lexeme) → Framed (Q a x)) → Viable k p R → ((a : A) (x : Lexeme) → Viable k (q a x) (Q a x))
+    → Viable k (chain sep p q) (λ L. Chain sep (R L) (λ a x. Q a x L))
 unfolding chain
 viable-chain sep p q f g u v = record {
   at = λ i.
-      goes-bind _ (u .at i) (λ r b. begun-weaker b (λ s j w a h. alone h)) (λ a r h. viable-onwards sep sep q f g (λ a x t. (t, v a x)) a r (alone h));
+      goes-bind _ (u .at i) (λ n r b. begun-weaker b (λ s j w a h. alone h)) (λ a r h. viable-onwards sep sep q f g (λ a x t. (t, v a x)) a r (alone h));
 }

@@ -22,6 +22,7 @@ use Rattle.grammar.specs.Grammar.{Limits, Path, spanned, FirstName, firs
 use Rattle.grammar.specs.Grammar as grammar
 use Rattle.grammar.specs.Parser.{Way, calling, noName, bare, noLevel, noPattern, tooMany, noPolicy, fits, read-first-name, goesOn, read-next-name, read-way, noExit, spannedBy, read-path, read-attribute, read-operand, isElement, read-element, read-list, read-bare, read-in, isLike, read-pattern, read-operator, read-call, read-rest, read-rooted, read-simple, read-joined, read-conjunction, read-disjunction, read-negated, read-bracketed, read-conditional, read-deeper, read-condition, read-conditions, read-type, read-principal, read-action, read-resource, read-when, read-policy, begins, read-next-policy, atEnd, read-text}
 use Rattle.grammar.specs.Parser as parser
+use Rattle.grammar.specs.Numbers.{deepens}
 use Rattle.grammar.proofs.Begun.{made}
 use Rattle.grammar.proofs.Framing.{shrinks-element, shrinks-condition, shrinks-conjunction, shrinks-policy}
 
@@ -29,8 +30,9 @@ use Rattle.grammar.proofs.Framing.{shrinks-element, shrinks-condition, 
 pub record Excuses (L : Limits) (Z : ℕ → List Lexeme → Type 0) : Type 0 where
   pub no-name : (root : Root) (used : ℕ) (x : Lexeme) (r : List Lexeme) → x .kind ≡ kinds.name → L .Name root used x r → admitted root used x ≡ false → Z (numbered (noName root) x) (x ∷ r)
   pub no-pattern : (x : Lexeme) (r : List Lexeme) → x .kind ≡ kinds.string → L .Pattern x r → isPattern (inside x) ≡ false → Z (numbered noPattern x) (x ∷ r)
-  pub too-many : (sort : Lexeme → Bool) (k : ℕ) (x : Lexeme) (r : List Lexeme) → sort x ≡ true → L .Count k r → ltb k mostLiterals ≡ false → Z (numbered (tooMany sort) x) (x ∷ r)
+  pub too-many : (sort : Lexeme → Bool) (k : ℕ) (x : Lexeme) (r : List Lexeme) → isLiteral x ≡ true → sort x ≡ true → L .Count k r → ltb k mostLiterals ≡ false → Z (numbered (tooMany sort) x) (x ∷ r)
   pub no-policy : (k : ℕ) (x : Lexeme) (r : List Lexeme) → isEffect x ≡ true → L .Number k r → ltb k mostPolicies ≡ false → Z (numbered noPolicy x) (x ∷ r)
+  pub no-level : 31 < L .levels → (x : Lexeme) (r : List Lexeme) → deepens x ≡ true → Z (numbered noLevel x) (x ∷ r)
 
 abbrev Any : List Lexeme → Type 0
 Any r = Unit {0}
@@ -168,19 +170,20 @@ module _ {L : Limits} {Z : ℕ → List Lexeme → Type 0} (ok : Excuses L Z) wh
       rw (on-other isLiteral _ _ x _ (root-no-literal x t), on-token isRoot _ _ x _ t) (complete-attribute (rootOf x) attribute d e j w)
   complete-operand (grammar.AnOperand.plain {x = x} {r = r} t) w = rw (on-token isLiteral _ _ x r t) exact
 
-  complete-element : (sort : Lexeme → Bool) (ls : List Literal) → Complete Z Any (read-element sort ls) (Element L sort ls)
-  unfolding read-element isElement
-  complete-element sort ls = record { at = go }
-    where
-      go : {i r : List Lexeme} {ks : List Literal} → Element L sort ls i r ks → Any r → Nearly Z ks r (read-element sort ls i)
-      go (element {x = x} {r = r} t c) u = nearly-on _ _ _ x r exact (λ f. ok .too-many sort (length ls) x r t c (rw t at f))
+  module _ (sort : Lexeme → Bool) (sorts : (x : Lexeme) → sort x ≡ true → isLiteral x ≡ true) where
+    complete-element : (ls : List Literal) → Complete Z Any (read-element sort ls) (Element L sort ls)
+    unfolding read-element isElement
+    complete-element ls = record { at = go }
+      where
+        go : {i r : List Lexeme} {ks : List Literal} → Element L sort ls i r ks → Any r → Nearly Z ks r (read-element sort ls i)
+        go (element {x = x} {r = r} t c) u = nearly-on _ _ _ x r exact (λ f. ok .too-many sort (length ls) x r (sorts x t) t c (rw t at f))
 
-  complete-list : (sort : Lexeme → Bool) {i r : List Lexeme} {ls : List Literal}
-      → Before kinds.rightSquare (Chain (λ ls. is kinds.comma) (Element L sort []) (λ ls comma. Element L sort ls)) i r ls → Nearly Z ls r (read-list sort i)
-  unfolding read-list Without
-  complete-list sort h =
-      complete-before {S = Without (is kinds.comma)} (record { at = λ j w. complete-chain _ _ _ (complete-element sort []) (λ ls x. complete-element sort ls) (λ ls x. shrinks-element L sort ls) (λ ls x m e. tt) j tt w })
-      kinds.rightSquare (λ x m e. rw e) h
+    complete-list : {i r : List Lexeme} {ls : List Literal}
+        → Before kinds.rightSquare (Chain (λ ls. is kinds.comma) (Element L sort []) (λ ls comma. Element L sort ls)) i r ls → Nearly Z ls r (read-list sort i)
+    unfolding read-list Without
+    complete-list h =
+        complete-before {S = Without (is kinds.comma)} (record { at = λ j w. complete-chain _ _ _ (complete-element []) (λ ls x. complete-element ls) (λ ls x. shrinks-element L sort ls) (λ ls x m e. tt) j tt w })
+        kinds.rightSquare (λ x m e. rw e) h
 
   -- Where an operand stands, the reader goes on after it.
   complete-left : {i r s : List Lexeme} {a : Operand} {t : Tree} (deeper : Reader Tree) → AnOperand L i r a → NoDot r → Nearly Z t s (read-operator a r) → Nearly Z t s (read-simple deeper i)
@@ -204,7 +207,7 @@ module _ {L : Limits} {Z : ℕ → List Lexeme → Type 0} (ok : Excuses L Z) wh
       (nearly-on _ _ _ s r exact (λ u. ok .no-pattern s r e′ l (rw (eq-eqb _ _ e′) at u))))
   complete-simple deeper (listed {x = x} h e (begun {x = y} e′ k)) f =
       complete-left deeper h (rw e) (rw (on-other isComparator _ _ x _ (rw e), on-other (is kinds.likeWord) _ _ x _ (rw e), on-token (is kinds.inWord) _ _ x _ (eq-eqb _ _ e), on-token (is kinds.leftSquare) _ _ y _ (eq-eqb _ _ e′))
-      (nearly-bind _ (complete-list isLiteral k) exact))
+      (nearly-bind _ (complete-list isLiteral (λ x e. e) k) exact))
   complete-simple deeper (held {x = x} {a = a} h e (rooted {x = y} {d = d} t e′ j)) f =
       complete-left deeper h (rw e) (rw (
         on-other isComparator _ _ x _ (rw e),
@@ -218,7 +221,7 @@ module _ {L : Limits} {Z : ℕ → List Lexeme → Type 0} (ok : Excuses L Z) wh
       rw (on-other isLiteral _ _ x _ (root-no-literal x t), on-token isRoot _ _ x _ t, on-token (is kinds.dot) _ _ d _ (eq-eqb _ _ e))
       (nearly-bind _ (complete-calling isContains contains-passes (rootOf x) j e′ t′)
       (rw (on-token (is kinds.leftRound) _ _ o _ (eq-eqb _ _ e″), on-token (is kinds.leftSquare) _ _ l _ (eq-eqb _ _ k))
-      (complete-before (complete-mapped {S = Any} (record { at = λ h u. complete-list isLiteral h }) (contains (whichOf w) (rootOf x) (spanned p))) kinds.rightRound (λ x m e. tt) (ended (onto h) k′))))
+      (complete-before (complete-mapped {S = Any} (record { at = λ h u. complete-list isLiteral (λ x e. e) h }) (contains (whichOf w) (rootOf x) (spanned p))) kinds.rightRound (λ x m e. tt) (ended (onto h) k′))))
   complete-simple deeper (having {x = x} {h = h} t e j) f =
       rw (on-other isLiteral _ _ x _ (root-no-literal x t), on-token isRoot _ _ x _ t, on-other (is kinds.dot) _ _ h _ (rw e), on-token (is kinds.hasWord) _ _ h _ (eq-eqb _ _ e))
       (nearly-bind _ (complete-path (rootOf x) j (f .3)) exact)
@@ -250,17 +253,28 @@ module _ {L : Limits} {Z : ℕ → List Lexeme → Type 0} (ok : Excuses L Z) wh
       rw e (nearly-bind _ (complete-before c kinds.thenWord (frees kinds.thenWord (refl, refl, refl, refl)) h₁)
       (nearly-bind _ (complete-before c kinds.elseWord (frees kinds.elseWord (refl, refl, refl, refl)) h₂) (nearly-bind _ (c .at h₃ f) exact)))
 
-  -- at the last level all conditions are simple
-  complete-last : {i r : List Lexeme} {t : Tree} → Form L Nothing i r t → Free r → Nearly Z t r (read-simple (refuseBy noLevel) i)
-  complete-last (simple h) f = complete-simple _ h f
-  complete-last (negation e h) f = elim h [ ]
-  complete-last (bracketed e (ended h k)) f = absurd (none-read (λ i r t h. none-read (λ i r t h. elim h [ ]) h) h)
-  complete-last (conditional e (ended h k) h₂ h₃) f = elim h [ ]
+  -- where no level is left inside, all conditions are simple
+  only-simple : {i r : List Lexeme} {t : Tree} → Form L Nothing i r t → Simple L i r t
+  only-simple (simple h) = h
+  only-simple (negation e h) = elim h [ ]
+  only-simple (bracketed e (ended h k)) = absurd (none-read (λ i r t h. none-read (λ i r t h. elim h [ ]) h) h)
+  only-simple (conditional e (ended h k) h₂ h₃) = elim h [ ]
 
-  complete-condition : (d : ℕ) → Complete Z Free (read-condition d) (Condition L d)
+  -- what goes deeper than the reader does gets an excused refusal
+  too-deep : {R : Reads Tree} → 31 < L .levels → {i r : List Lexeme} {t : Tree} → Form L R i r t → Free r → Nearly Z t r (read-simple (refuseBy noLevel) i)
+  unfolding read-simple refuseBy deepens
+  too-deep l (simple h) f = complete-simple _ h f
+  too-deep l (negation {x = x} {i = i} e h) f = rw (on-other isLiteral _ _ x i (rw e), on-other isRoot _ _ x i (rw e)) (excused (ok .no-level l x i (rw e)))
+  too-deep l (bracketed {x = x} {i = i} e h) f = rw (on-other isLiteral _ _ x i (rw e), on-other isRoot _ _ x i (rw e)) (excused (ok .no-level l x i (rw e)))
+  too-deep l (conditional {x = x} {i = i} e h₁ h₂ h₃) f = rw (on-other isLiteral _ _ x i (rw e), on-other isRoot _ _ x i (rw e)) (excused (ok .no-level l x i (rw e)))
+
+  -- the reader has d levels left inside, the grammar e
+  complete-condition : (d e : ℕ) → (d < e → 31 < L .levels) → Complete Z Free (read-condition d) (Condition L e)
   unfolding read-condition
-  complete-condition zero = record { at = complete-last }
-  complete-condition (suc d) = record { at = λ h f. complete-form (shrinks-condition L d) (complete-condition d) h f }
+  complete-condition zero zero g = record { at = λ h f. complete-simple _ (only-simple h) f }
+  complete-condition zero (suc e) g = record { at = λ h f. too-deep (g (omega arith)) h f }
+  complete-condition (suc d) zero g = record { at = λ h f. complete-simple _ (only-simple h) f }
+  complete-condition (suc d) (suc e) g = record { at = λ h f. complete-form (shrinks-condition L e) (complete-condition d e (λ l. g (omega arith))) h f }
 
   -- ---- policies
 
@@ -283,7 +297,7 @@ module _ {L : Limits} {Z : ℕ → List Lexeme → Type 0} (ok : Excuses L Z) wh
       go : {i r : List Lexeme} {a : Actions} → ActionRest L i r a → Without (is kinds.inWord) r → Nearly Z a r (read-action i)
       go (grammar.ActionRest.bare {r = r}) w = rw (on-without (is kinds.inWord) _ _ r w) exact
       go (grammar.ActionRest.list {x = x} e (begun {i = i} {x = y} k h)) w =
-          rw (on-token (is kinds.inWord) _ _ x (y ∷ i) (eq-eqb _ _ e), on-token (is kinds.leftSquare) _ _ y i (eq-eqb _ _ k)) (nearly-bind _ (complete-list (is kinds.string) h) exact)
+          rw (on-token (is kinds.inWord) _ _ x (y ∷ i) (eq-eqb _ _ e), on-token (is kinds.leftSquare) _ _ y i (eq-eqb _ _ k)) (nearly-bind _ (complete-list (is kinds.string) (λ x e. rw e) h) exact)
 
   complete-resource : Complete Z (λ r. Without (is kinds.isWord) r × Without (is kinds.equal) r) read-resource ResourceRest
   unfolding read-resource
@@ -303,7 +317,7 @@ module _ {L : Limits} {Z : ℕ → List Lexeme → Type 0} (ok : Excuses L Z) wh
       go (grammar.When.bare {r = r}) w = rw (on-without (is kinds.whenWord) _ _ r w) exact
       go (grammar.When.braces {x = x} e (begun {i = i} {x = y} k h)) w =
           rw (on-token (is kinds.whenWord) _ _ x (y ∷ i) (eq-eqb _ _ e), on-token (is kinds.leftBrace) _ _ y i (eq-eqb _ _ k))
-          (nearly-bind _ (complete-before (complete-disjunction (shrinks-condition L 31) (complete-condition 31)) kinds.rightBrace (closes kinds.rightBrace (((refl, refl, refl, refl), refl), refl)) h) exact)
+          (nearly-bind _ (complete-before (complete-disjunction (shrinks-condition L (L .levels)) (complete-condition 31 (L .levels) (λ l. l))) kinds.rightBrace (closes kinds.rightBrace (((refl, refl, refl, refl), refl), refl)) h) exact)
 
   complete-policy : (permits : Bool) {i r : List Lexeme} {p : Policy} → PolicyRest L permits i r p → Nearly Z p r (read-policy permits i)
   unfolding read-policy need Without

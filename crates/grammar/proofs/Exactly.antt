@@ -22,8 +22,9 @@ pub strictly : Excuses sizes (λ n s. ⊥)
 strictly = record {
   no-name = λ root used x r e h u. never (rw u at h);
   no-pattern = λ x r e h u. never (rw u at h);
-  too-many = λ sort k x r t h u. let l = ltb-false k mostLiterals u in omega arith;
+  too-many = λ sort k x r q t h u. let l = ltb-false k mostLiterals u in omega arith;
   no-policy = λ k x r t h u. let l = ltb-false k mostPolicies u in omega arith;
+  no-level = λ l x r t. omega arith;
 }
 
 -- Under the sizes of what stands before `on`, a refusal in `on` is.
@@ -31,8 +32,9 @@ pub before-on : (on : List Lexeme) → Excuses (sizesBefore on) (λ n s. length 
 before-on on = record {
   no-name = λ root used x r e h u. elim h [ inl t ↦ absurd (never (rw u at t)) | inr l ↦ l ];
   no-pattern = λ x r e h u. elim h [ inl t ↦ absurd (never (rw u at t)) | inr l ↦ l ];
-  too-many = λ sort k x r t h u. elim h [ inl c ↦ absurd (let l = ltb-false k mostLiterals u in omega arith) | inr l ↦ l ];
+  too-many = λ sort k x r q t h u. elim h [ inl c ↦ absurd (let l = ltb-false k mostLiterals u in omega arith) | inr l ↦ l ];
   no-policy = λ k x r t h u. elim h [ inl c ↦ absurd (let l = ltb-false k mostPolicies u in omega arith) | inr l ↦ l ];
+  no-level = λ l x r t. absurd (omega arith);
 }
 
 exactly : {A : Type 0} {a : A} {r : List Lexeme} {x : Answer A} → Nearly (λ n s. ⊥) a r x → x ≡ took a r
@@ -41,7 +43,7 @@ exactly (excused z) = absurd z
 
 pub accepted-exactly : AcceptedExactly
 unfolding AcceptedExactly
-accepted-exactly i ps = (λ e. goes-took (rw e at (viable-text i)) .1, λ h. exactly (complete-text strictly i h))
+accepted-exactly i ps = (λ e. goes-took (rw e at (viable-text 0 i)) .1, λ h. exactly (complete-text strictly i h))
 
 pub one-reading : Unambiguous
 unfolding Unambiguous AcceptedExactly

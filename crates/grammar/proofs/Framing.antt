@@ -1,4 +1,5 @@
 -- What the grammar reads has a token, and it is read before any other rest too, where no more is asked of sizes. Assumes nothing.
+use mathlib.Core.Path.{_≡_}
 use mathlib.Core.Bool.{Bool}
 use mathlib.Core.List.{List, []}
 use mathlib.Core.Option.{Option}
@@ -100,7 +101,7 @@ module _ (L : Limits) where
 
       when-part : {i r : List Lexeme} {c : Option Tree} → When L i r c → length r ≤ length i
       when-part grammar.When.bare = omega arith
-      when-part (grammar.When.braces k (begun e h)) = let y = shrinks-before (shrinks-disjunction (shrinks-condition 31)) .at h in omega arith
+      when-part (grammar.When.braces k (begun e h)) = let y = shrinks-before (shrinks-disjunction (shrinks-condition (L .levels))) .at h in omega arith
 
       go : {i r : List Lexeme} {p : Policy} → PolicyRest L permits i r p → length r < length i
       go (grammar.PolicyRest.rest (begun k₁ (begun k₂ (ended h₁ e₁))) (begun k₃ (ended h₂ e₂)) (begun k₄ (ended h₃ e₃)) (ended h₄ e₄)) =
@@ -198,13 +199,18 @@ framed-action = record { at = go }
     go e grammar.ActionRest.bare w = (_, w, grammar.ActionRest.bare)
     go e (grammar.ActionRest.list k h) w = let q = framed-listing (is kinds.string) .at e h w in (_, step (q .1), grammar.ActionRest.list k (q .2))
 
+pub same-depth : (L : Limits) {d e : ℕ} {i r : List Lexeme} {t : Tree} → d ≡ e → After kinds.leftBrace (Before kinds.rightBrace (Disjunction (Condition L d))) i r t
+    → After kinds.leftBrace (Before kinds.rightBrace (Disjunction (Condition L e))) i r t
+same-depth L q h = rw (← q) h
+
 pub framed-when : Framed When
 framed-when = record { at = go }
   where
     go : {L M : Limits} {r s i m n : List Lexeme} {c : Option Tree} → Eases L M r s → When L i m c → Swap r s m n → Moved (When M) r s i n c
     go e grammar.When.bare w = (_, w, grammar.When.bare)
-    go e (grammar.When.braces k h) w =
-        let q = framed-after (framed-before (framed-disjunction (framed-condition 31)) kinds.rightBrace) kinds.leftBrace .at e h w in (_, step (q .1), grammar.When.braces k (q .2))
+    go {L = L} {M = M} e (grammar.When.braces k h) w =
+        let q = framed-after (framed-before (framed-disjunction (framed-condition (M .levels))) kinds.rightBrace) kinds.leftBrace .at e (same-depth L (e .levels) h) w in
+        (_, step (q .1), grammar.When.braces k (q .2))
 
 -- the parts of a policy's target
 pub framed-principals : Framed (λ L. After kinds.leftRound (After kinds.principalWord (Before kinds.comma (Typed principalTypes))))

@@ -1,12 +1,15 @@
 pub mod Begun
 pub mod Framing
+pub mod Limits
 pub mod Viable
 pub mod Steps
 pub mod Completeness
 pub mod Exactly
 pub mod Refused
 pub mod Theorems
+pub mod Excess
 pub mod Telling
 pub mod Spots
 pub mod Numbered
+pub mod Rows
 pub mod Examples

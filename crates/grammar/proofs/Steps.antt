@@ -22,30 +22,30 @@ pub way-takes : (exit : Lexeme → Bool) (root : Root) (w : Way) → Takes (read
 unfolding read-next-name
 way-takes exit root w = record { at = λ i r a e. goes-took (rw e at (go w i)) }
   where
-    go : (w : Way) (i : List Lexeme) → Goes (λ a r. length r < length i) (λ r. Unit {0}) (read-next-name exit root w i)
+    go : (w : Way) (i : List Lexeme) → Goes (λ a r. length r < length i) (λ n r. Unit {0}) (read-next-name exit root w i)
     go (plain p) i =
-        goes-on _ _ _ _ _ i (λ x r e t. rw e (good {r = r} (omega arith))) (goes-on _ _ _ _ _ i (λ x r e t. rw e (good {r = r} (omega arith))) (goes-refuseBy (noName root) i tt))
-    go (calling p w) i = goes-refuseBy ten i tt
+        goes-on _ _ _ _ _ i (λ x r e t. rw e (good {r = r} (omega arith))) (goes-on _ _ _ _ _ i (λ x r e t. rw e (good {r = r} (omega arith))) (goes-refuseBy (noName root) i (λ e. tt) (λ x r e. tt)))
+    go (calling p w) i = goes-refuseBy ten i (λ e. tt) (λ x r e. tt)
 
 pub element-takes : (sort : Lexeme → Bool) (ls : List Literal) → Takes (read-element sort ls)
 unfolding read-element
 element-takes sort ls = record { at = λ i r a e. goes-took (rw e at (go i)) }
   where
-    go : (i : List Lexeme) → Goes (λ a r. length r < length i) (λ r. Unit {0}) (read-element sort ls i)
-    go i = goes-on _ _ _ _ _ i (λ x r e t. rw e (good {r = r} (omega arith))) (goes-refuseBy (tooMany sort) i tt)
+    go : (i : List Lexeme) → Goes (λ a r. length r < length i) (λ n r. Unit {0}) (read-element sort ls i)
+    go i = goes-on _ _ _ _ _ i (λ x r e t. rw e (good {r = r} (omega arith))) (goes-refuseBy (tooMany sort) i (λ e. tt) (λ x r e. tt))
 
-takes-mapped : {A B : Type 0} (f : A → B) {p : Reader A} {R : Family A} → Viable p R → Shrinks (R sizes) → Takes (mapped f p)
+takes-mapped : {A B : Type 0} (f : A → B) {p : Reader A} {R : Family A} → Viable 0 p R → Shrinks (R sizes) → Takes (mapped f p)
 takes-mapped f v s = takes (viable-mapped v f .at) (shrinks-onto s)
 
 pub condition-takes : (d : ℕ) (t : Tree) → Takes (mapped (both t) (read-condition d))
-condition-takes d t = takes-mapped (both t) (viable-condition d) (shrinks-condition sizes d)
+condition-takes d t = takes-mapped (both t) (viable-condition 0 d d (omega arith)) (shrinks-condition sizes d)
 
 pub conjunction-takes : (d : ℕ) (t : Tree) → Takes (mapped (either t) (read-conjunction (read-condition d)))
-conjunction-takes d t = takes-mapped (either t) (viable-conjunction (framed-condition d) (viable-condition d)) (shrinks-conjunction sizes (shrinks-condition sizes d))
+conjunction-takes d t = takes-mapped (either t) (viable-conjunction 0 (framed-condition d) (viable-condition 0 d d (omega arith))) (shrinks-conjunction sizes (shrinks-condition sizes d))
 
 pub policy-takes : (ps : List Policy) (x : Lexeme) → Takes (read-next-policy ps x)
 unfolding read-next-policy
-policy-takes ps x = takes-mapped _ (viable-policy (is kinds.permitWord x)) (shrinks-policy sizes (is kinds.permitWord x))
+policy-takes ps x = takes-mapped _ (viable-policy 0 (is kinds.permitWord x)) (shrinks-policy sizes (is kinds.permitWord x))
 
 -- ---- the loops
 

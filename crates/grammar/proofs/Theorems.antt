@@ -2,17 +2,17 @@
 use mathlib.Core.Path.{_≡_, refl, ap, sym, _∙_}
 use mathlib.Core.List.{List, [], _∷_, _++_, append-assoc}
 use mathlib.Core.Logic.{inl, inr}
-use Prim.Native.Nat.{_≤_, _<_}
+use Prim.Native.Nat.{ℕ, _≤_, _<_}
 use native.Mathlib.Omega.{arith}
 use lib.ListN.{length, length-append}
 use Rattle.reading.specs.Lexemes.{Lexeme}
 use Rattle.reading.proofs.Readers.{goes-refused}
 use Rattle.reading.proofs.Local.{same, ends}
 use Rattle.grammar.specs.Policies.{Policy}
-use Rattle.grammar.specs.Grammar.{sizesBefore, Policies, policy}
+use Rattle.grammar.specs.Grammar.{Limits, sizes, lifting, Policies, policy, RuleText}
 use Rattle.grammar.specs.Grammar as grammar
-use Rattle.grammar.specs.Promise.{Sofar, RefusedRightly, OnePlace}
-use Rattle.grammar.proofs.Begun.{Swap, here, step, Eases}
+use Rattle.grammar.specs.Promise.{Sofar, Refused, RefusedRightly, OnePlace}
+use Rattle.grammar.proofs.Begun.{Swap, here, step, Eases, Beyond}
 use Rattle.grammar.proofs.Framing.{framed-policy}
 use Rattle.grammar.proofs.Viable.{viable-text}
 use Rattle.grammar.proofs.Exactly.{strictly, before-on}
@@ -24,7 +24,7 @@ swap-length : {r s i j : List Lexeme} → Swap r s i j → length r ≤ length i
 swap-length here = omega arith
 swap-length (step w) = let x = swap-length w in omega arith
 
-swap-is : (before : List Lexeme) {r s i j : List Lexeme} → Swap r s i j → i ≡ before ++ r → j ≡ before ++ s
+pub swap-is : (before : List Lexeme) {r s i j : List Lexeme} → Swap r s i j → i ≡ before ++ r → j ≡ before ++ s
 swap-is [] here e = refl
 swap-is (x ∷ b) {r = r} here e = absurd (let y = ap (λ (l : List Lexeme). length l) e in let z = length-append b r in omega arith)
 swap-is [] {r = r} (step w) e = absurd (let y = ap (λ (l : List Lexeme). length l) e in let z = swap-length w in omega arith)
@@ -34,9 +34,28 @@ swap-same : {r i j : List Lexeme} → Swap r r i j → i ≡ j
 swap-same here = refl
 swap-same (step {x = x} w) = ap (λ (l : List Lexeme). x ∷ l) (swap-same w)
 
+-- ---- where less is asked, a rule text is one still
+
+weaker : {L M : Limits} → ((r : List Lexeme) → Eases L M r r) → {i : List Lexeme} {ps qs : List Policy} → Policies L ps i qs → Policies M ps i qs
+weaker e grammar.Policies.end = grammar.Policies.end
+weaker e (policy {i = i} {m = m} t c h k) = let q = framed-policy _ .at (e m) h here in policy t (e i .number here _ c) (rw (← swap-same (q .1)) at (q .2)) (weaker e k)
+
+module _ (levels : ℕ) (Lifted Freed : ℕ → List Lexeme → Type 0) (f : (n : ℕ) (r : List Lexeme) → Lifted n r → Freed n r) where
+  freed : (n : ℕ) {r m l : List Lexeme} → Swap r r m l → Lifted n m → Freed n l
+  freed n w h = rw (← swap-same w) (f n _ h)
+
+  pub less-asked : {i : List Lexeme} {ps qs : List Policy} → Policies (lifting levels Lifted) ps i qs → Policies (lifting levels Freed) ps i qs
+  less-asked = weaker (λ r. record {
+    name = λ w root used x h. elim h [ inl t ↦ inl t | inr g ↦ inr (freed _ w g) ];
+    pattern = λ w x h. elim h [ inl t ↦ inl t | inr g ↦ inr (freed _ w g) ];
+    count = λ w k h. elim h [ inl t ↦ inl t | inr g ↦ inr (freed _ w g) ];
+    number = λ w k h. elim h [ inl t ↦ inl t | inr g ↦ inr (freed _ w g) ];
+    levels = refl;
+  })
+
 -- ---- refused rightly
 
-cut : (b : List Lexeme) (x : Lexeme) (s : List Lexeme) → b ++ x ∷ s ≡ (b ++ x ∷ []) ++ s
+pub cut : (b : List Lexeme) (x : Lexeme) (s : List Lexeme) → b ++ x ∷ s ≡ (b ++ x ∷ []) ++ s
 cut [] x s = refl
 cut (y ∷ b) x s = ap (λ (l : List Lexeme). y ∷ l) (cut b x s)
 
@@ -47,11 +66,11 @@ end (y ∷ b) = ap (λ (l : List Lexeme). y ∷ l) (end b)
 pub refused-rightly : RefusedRightly
 unfolding RefusedRightly
 refused-rightly i r n e =
-    let near = near-text i in let split = rw e at (near .split) in let o = goes-refused (rw e at (viable-text i)) in
+    let near = near-text i in let split = rw e at (near .split) in let o = goes-refused (rw e at (viable-text 0 i)) in
     record {
       before = near .before;
       split = split;
-      alive = record { on = o .on; policies = o .policies; belongs = rw (swap-is (near .before) (o .swapped) split) at (o .belongs) };
+      alive = record { on = o .on; policies = o .policies; belongs = less-asked 31 (Beyond n (o .on)) (λ m s. length s < length (o .on)) (λ m s h. h .behind) (rw (swap-is (near .before) (o .swapped) split) at (o .belongs)) };
       dead = λ x s q f.
           let l = refused-again (before-on (f .on)) i r n e (x ∷ f .on) (f .policies) (rw q same) (rw cut (f .belongs)) in omega arith;
       no-text = λ ps q c. refused-again strictly i r n e [] ps (rw q ends) (rw end c);
@@ -75,30 +94,20 @@ same-place P closed (x ∷ b) (y ∷ c) r s e h k =
     (record { alive = h .alive; dead = h .dead })
     (record { alive = rw f (k .alive); dead = λ z u q p. k .dead z u q (rw (← f) p) })
 
--- Where sizes are asked of less, a rule text is one still.
-module _ (on s : List Lexeme) (l : length on ≤ length s) where
-  less : {r m n : List Lexeme} → Swap r r m n → length m < length on → length n < length s
-  less w k = let e = ap (λ (l : List Lexeme). length l) (swap-same w) in omega arith
-
-  easier : {r : List Lexeme} → Eases (sizesBefore on) (sizesBefore s) r r
-  easier = record {
-    name = λ w root used x h. elim h [ inl t ↦ inl t | inr m ↦ inr (less w m) ];
-    pattern = λ w x h. elim h [ inl t ↦ inl t | inr m ↦ inr (less w m) ];
-    count = λ w k h. elim h [ inl t ↦ inl t | inr m ↦ inr (less w m) ];
-    number = λ w k h. elim h [ inl t ↦ inl t | inr m ↦ inr (less w m) ];
-  }
-
-  weaker : {i : List Lexeme} {ps qs : List Policy} → Policies (sizesBefore on) ps i qs → Policies (sizesBefore s) ps i qs
-  weaker grammar.Policies.end = grammar.Policies.end
-  weaker (policy {i = i} {m = m} e c h k) =
-      let q = framed-policy _ .at (easier {r = m}) h here in policy e (easier {r = i} .number here _ c) (rw (← swap-same (q .1)) at (q .2)) (weaker k)
-
 -- What breaks no rule breaks none in its beginning.
 beginning : (b c : List Lexeme) → Sofar (b ++ c) → Sofar b
-beginning b c h = record { on = c ++ h .on; policies = h .policies; belongs = weaker (h .on) (c ++ h .on) (longer (h .on)) (rw append-assoc at (h .belongs)) }
+beginning b c h = record { on = c ++ h .on; policies = h .policies; belongs = less-asked 31 (λ n r. length r < length (h .on)) (λ n r. length r < length (c ++ h .on)) (λ n r l. let k = longer (h .on) in omega arith) (rw append-assoc at (h .belongs)) }
   where
     longer : (on : List Lexeme) → length on ≤ length (c ++ on)
     longer on = let l = length-append c on in omega arith
+
+-- A rule text breaks no rule, so what is refused is none.
+pub no-text-refused : (i r : List Lexeme) (ps : List Policy) → Refused i r → ¬ RuleText sizes i ps
+no-text-refused i [] ps w h = w .no-text ps refl (rw (w .split, end) at h)
+no-text-refused i (x ∷ s) ps w h = w .dead x s refl (beginning (w .before ++ x ∷ []) s (rw (w .split, cut) at sofar))
+  where
+    sofar : Sofar i
+    sofar = record { on = []; policies = ps; belongs = rw end (weaker (λ r. record { name = λ v root used y t. inl t; pattern = λ v y t. inl t; count = λ v k t. inl t; number = λ v k t. inl t; levels = refl }) h) }
 
 pub one-place : OnePlace
 unfolding OnePlace

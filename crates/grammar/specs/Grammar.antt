@@ -9,36 +9,54 @@ use lib.ListN.{length}
 use Rattle.tokens.specs.Kinds as kinds
 use Rattle.reading.specs.Lexemes.{Lexeme, is, size}
 use Rattle.reading.specs.Reads.{Reads, Chain, Onto, Before, After}
-use Rattle.grammar.specs.Policies.{Span, span, Root, Literal, Operand, attribute, literal, Tree, constant, compare, like, among, within, contains, has, not, brackets, both, either, choice, Part, any, typed, pinned, Actions, every, oneOf, Policy}
+use Rattle.grammar.specs.Policies.{Span, span, Root, Root.Principal, Root.Resource, Root.Env, Root.Action, Literal, Operand, attribute, literal, Tree, constant, compare, like, among, within, contains, has, not, brackets, both, either, choice, Part, any, typed, pinned, Actions, every, oneOf, Policy}
 use Rattle.grammar.specs.Rules.{inside, spanOf, isEffect, isRoot, rootOf, isTruth, isLiteral, literalOf, isComparator, comparatorOf, isContains, whichOf, principalTypes, resourceTypes, typeOf, isType, admitted, mostLiterals, mostPolicies, isPattern}
 
 -- ---- limits
 
 -- What the limits ask of a name on a path of which so many bytes are used, of a pattern, of a literal with so many before it in its list, and of a policy's effect
--- with so many policies before it; each with the tokens behind it. (Depth is counted by Condition.)
+-- with so many policies before it, each with the tokens behind it; and how many levels conditions may have inside them.
 pub record Limits : Type 1 where
   pub Name : Root → ℕ → Lexeme → List Lexeme → Type 0
   pub Pattern : Lexeme → List Lexeme → Type 0
   pub Count : ℕ → List Lexeme → Type 0
   pub Number : ℕ → List Lexeme → Type 0
+  pub levels : ℕ
 
--- document 01's
-abbrev pub sizes : Limits
-sizes = record {
+-- document 01's, but for the levels
+abbrev pub sizesTo : ℕ → Limits
+sizesTo levels = record {
   Name = λ root used x r. admitted root used x ≡ true;
   Pattern = λ x r. isPattern (inside x) ≡ true;
   Count = λ k r. k < mostLiterals;
   Number = λ k r. k < mostPolicies;
+  levels = levels;
 }
 
--- the same, asked only of what stands before the last tokens `on`
-abbrev pub sizesBefore : List Lexeme → Limits
-sizesBefore on = record {
-  Name = λ root used x r. (admitted root used x ≡ true) ⊎ (length r < length on);
-  Pattern = λ x r. (isPattern (inside x) ≡ true) ⊎ (length r < length on);
-  Count = λ k r. (k < mostLiterals) ⊎ (length r < length on);
-  Number = λ k r. (k < mostPolicies) ⊎ (length r < length on);
+-- document 01's: the braces after `when` are the first of 32 levels
+abbrev pub sizes : Limits
+sizes = sizesTo 31
+
+-- the number of the limit of a path after the root
+unfoldable pub pathNumber : Root → ℕ
+pathNumber Principal = 16
+pathNumber Resource = 16
+pathNumber Env = 16
+pathNumber Action = 11
+
+-- the same where Lifted n r says that the limit with the number n is not asked of a token before r
+abbrev pub lifting : ℕ → (ℕ → List Lexeme → Type 0) → Limits
+lifting levels Lifted = record {
+  Name = λ root used x r. (admitted root used x ≡ true) ⊎ Lifted (pathNumber root) r;
+  Pattern = λ x r. (isPattern (inside x) ≡ true) ⊎ Lifted 13 r;
+  Count = λ k r. (k < mostLiterals) ⊎ Lifted 14 r;
+  Number = λ k r. (k < mostPolicies) ⊎ Lifted 15 r;
+  levels = levels;
 }
+
+-- document 01's, asked only of what stands before the last tokens `on`
+abbrev pub sizesBefore : List Lexeme → Limits
+sizesBefore on = lifting 31 (λ n r. length r < length on)
 
 -- ---- paths: names joined by dots
 
@@ -133,9 +151,9 @@ abbrev pub Condition : Limits → ℕ → Reads Tree
 Condition L zero = Form L Nothing
 Condition L (suc d) = Form L (Condition L d)
 
--- what stands in the braces after `when`, which are the first of 32 levels
+-- what stands in the braces after `when`
 abbrev pub Conditions : Limits → Reads Tree
-Conditions L = Disjunction (Condition L 31)
+Conditions L = Disjunction (Condition L (L .levels))
 
 -- ---- policies
 

@@ -4,3 +4,4 @@ pub mod Grammar
 pub mod Parser
 pub mod Promise
 pub mod Numbers
+pub mod Lowest

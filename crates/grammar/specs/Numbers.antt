@@ -1,5 +1,5 @@
 -- Which number a refused token gets, by the token and what stands before it: document 01's table, row by row. What stands before is given as a list with the last token first;
--- it breaks no rule, and the refused token breaks one. Definitions only.
+-- it breaks no rule, and the refused token breaks one. When a row applies is said in Lowest.antt; here the lowest of them is computed. Definitions only.
 use mathlib.Core.Path.{_≡_}
 use mathlib.Core.Bool.{Bool, false, cond, not, _&&_, _||_}
 use mathlib.Core.List.{List, [], _∷_, _++_, reverse}

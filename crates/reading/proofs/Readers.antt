@@ -1,14 +1,15 @@
 -- What holds of the answers of readers that are built of others, and a loop's equation with no bound on its turns. Assumes nothing.
 use mathlib.Core.Path.{_≡_, refl}
-use mathlib.Core.Bool.{Bool, true, false}
+use mathlib.Core.Bool.{Bool, true, false, cond}
 use mathlib.Core.List.{List, [], _∷_}
 use Prim.Native.Nat.{ℕ, zero, suc, _≤_, _<_}
 use native.Mathlib.Omega.{arith}
+use lib.Dec.{ltb}
 use lib.ListN.{length}
-use borrow.Author.Tests.{eqb-true}
+use borrow.Author.Tests.{eqb-true, ltb-true}
 use Rattle.reading.specs.Lexemes.{Lexeme, is, choose}
 use Rattle.reading.specs.Reads.{Reads, Chain, Chain.alone, Chain.more, Onto, Onto.onto, Before, Before.ended}
-use Rattle.reading.specs.Reader.{Answer, took, refuse, Reader, refuseBy, bind, on, need, ten, upTo, onwards}
+use Rattle.reading.specs.Reader.{Answer, took, refuse, Reader, numbered, refuseBy, bind, on, need, ten, upTo, onwards}
 
 -- ---- what `on` does with the next token
 
@@ -32,34 +33,52 @@ on-other k f g x r h = rw h
 
 -- ---- what holds of an answer
 
--- P of what is taken and the tokens after it, Q of the tokens from the refused one on
-pub data Goes {A : Type 0} (P : A → List Lexeme → Type 0) (Q : List Lexeme → Type 0) : Answer A → Type 0 where
+-- P of what is taken and the tokens after it, Q of a refusal's number and the tokens from the refused one on
+pub data Goes {A : Type 0} (P : A → List Lexeme → Type 0) (Q : ℕ → List Lexeme → Type 0) : Answer A → Type 0 where
   good : {a : A} {r : List Lexeme} → P a r → Goes P Q (took a r)
-  stops : {n : ℕ} {r : List Lexeme} → Q r → Goes P Q (refuse n r)
+  stops : {n : ℕ} {r : List Lexeme} → Q n r → Goes P Q (refuse n r)
 
-pub goes-took : {A : Type 0} {P : A → List Lexeme → Type 0} {Q : List Lexeme → Type 0} {a : A} {r : List Lexeme} → Goes P Q (took a r) → P a r
+pub goes-took : {A : Type 0} {P : A → List Lexeme → Type 0} {Q : ℕ → List Lexeme → Type 0} {a : A} {r : List Lexeme} → Goes P Q (took a r) → P a r
 goes-took (good h) = h
 
-pub goes-refused : {A : Type 0} {P : A → List Lexeme → Type 0} {Q : List Lexeme → Type 0} {n : ℕ} {r : List Lexeme} → Goes P Q (refuse n r) → Q r
+pub goes-refused : {A : Type 0} {P : A → List Lexeme → Type 0} {Q : ℕ → List Lexeme → Type 0} {n : ℕ} {r : List Lexeme} → Goes P Q (refuse n r) → Q n r
 goes-refused (stops h) = h
 
-pub goes-weaker : {A : Type 0} {P P′ : A → List Lexeme → Type 0} {Q Q′ : List Lexeme → Type 0} {x : Answer A}
-    → Goes P Q x → ((a : A) (r : List Lexeme) → P a r → P′ a r) → ((r : List Lexeme) → Q r → Q′ r) → Goes P′ Q′ x
+pub goes-weaker : {A : Type 0} {P P′ : A → List Lexeme → Type 0} {Q Q′ : ℕ → List Lexeme → Type 0} {x : Answer A}
+    → Goes P Q x → ((a : A) (r : List Lexeme) → P a r → P′ a r) → ((n : ℕ) (r : List Lexeme) → Q n r → Q′ n r) → Goes P′ Q′ x
 goes-weaker (good h) k q = good (k _ _ h)
-goes-weaker (stops h) k q = stops (q _ h)
+goes-weaker (stops h) k q = stops (q _ _ h)
 
-pub goes-refuseBy : {A : Type 0} {P : A → List Lexeme → Type 0} {Q : List Lexeme → Type 0} (number : Lexeme → ℕ) (i : List Lexeme) → Q i → Goes P Q (refuseBy number i)
+pub goes-refuseBy : {A : Type 0} {P : A → List Lexeme → Type 0} {Q : ℕ → List Lexeme → Type 0} (number : Lexeme → ℕ) (i : List Lexeme)
+    → (i ≡ [] → Q 10 i) → ((x : Lexeme) (r : List Lexeme) → i ≡ x ∷ r → Q (numbered number x) i) → Goes P Q (refuseBy number i)
 unfolding refuseBy
-goes-refuseBy number [] h = stops h
-goes-refuseBy number (x ∷ r) h = stops h
+goes-refuseBy number [] h k = stops (h refl)
+goes-refuseBy number (x ∷ r) h k = stops (k x r refl)
 
-pub goes-bind : {A B : Type 0} {P : A → List Lexeme → Type 0} {Q Q′ : List Lexeme → Type 0} {P′ : B → List Lexeme → Type 0} {x : Answer A}
-    (f : A → Reader B) → Goes P Q x → ((r : List Lexeme) → Q r → Q′ r) → ((a : A) (r : List Lexeme) → P a r → Goes P′ Q′ (f a r)) → Goes P′ Q′ (bind x f)
+-- what is no token has a number below 7
+pub number-below : (number : Lexeme → ℕ) (x : Lexeme) → number x < 11 → numbered number x < 11
+unfolding numbered
+number-below number x l = go (ltb (x .kind) 7) refl
+  where
+    go : (b : Bool) → ltb (x .kind) 7 ≡ b → cond b (x .kind) (number x) < 11
+    go true e = let m = ltb-true (x .kind) 7 e in omega arith
+    go false e = l
+
+-- a refusal by a number of no limit
+pub goes-below : {A : Type 0} {P : A → List Lexeme → Type 0} {Q : ℕ → List Lexeme → Type 0} (number : Lexeme → ℕ) → ((x : Lexeme) → number x < 11)
+    → (i : List Lexeme) → ((n : ℕ) → n < 11 → Q n i) → Goes P Q (refuseBy number i)
+goes-below number l i h = goes-refuseBy number i (λ e. h 10 (omega arith)) (λ x r e. h _ (number-below number x (l x)))
+
+pub goes-ten : {A : Type 0} {P : A → List Lexeme → Type 0} {Q : ℕ → List Lexeme → Type 0} (i : List Lexeme) → ((n : ℕ) → n < 11 → Q n i) → Goes P Q (refuseBy ten i)
+goes-ten i h = goes-below ten (λ x. omega arith) i h
+
+pub goes-bind : {A B : Type 0} {P : A → List Lexeme → Type 0} {Q Q′ : ℕ → List Lexeme → Type 0} {P′ : B → List Lexeme → Type 0} {x : Answer A}
+    (f : A → Reader B) → Goes P Q x → ((n : ℕ) (r : List Lexeme) → Q n r → Q′ n r) → ((a : A) (r : List Lexeme) → P a r → Goes P′ Q′ (f a r)) → Goes P′ Q′ (bind x f)
 unfolding bind
 goes-bind f (good h) q k = k _ _ h
-goes-bind f (stops h) q k = stops (q _ h)
+goes-bind f (stops h) q k = stops (q _ _ h)
 
-pub goes-on : {A : Type 0} (P : A → List Lexeme → Type 0) (Q : List Lexeme → Type 0) (k : Lexeme → Bool) (f : Lexeme → Reader A) (g : Reader A) (i : List Lexeme)
+pub goes-on : {A : Type 0} (P : A → List Lexeme → Type 0) (Q : ℕ → List Lexeme → Type 0) (k : Lexeme → Bool) (f : Lexeme → Reader A) (g : Reader A) (i : List Lexeme)
     → ((x : Lexeme) (r : List Lexeme) → i ≡ x ∷ r → k x ≡ true → Goes P Q (f x r)) → Goes P Q (g i) → Goes P Q (on k f g i)
 unfolding on choose
 goes-on P Q k f g [] hf hg = hg
@@ -69,10 +88,10 @@ goes-on P Q k f g (x ∷ r) hf hg = go (k x) refl
     go false e = hg
     go true e = hf x r refl e
 
-pub goes-need : {A : Type 0} (P : A → List Lexeme → Type 0) (Q : List Lexeme → Type 0) (k : ℕ) (f : Reader A) (i : List Lexeme)
-    → Q i → ((x : Lexeme) (r : List Lexeme) → i ≡ x ∷ r → x .kind ≡ k → Goes P Q (f r)) → Goes P Q (need k f i)
+pub goes-need : {A : Type 0} (P : A → List Lexeme → Type 0) (Q : ℕ → List Lexeme → Type 0) (k : ℕ) (f : Reader A) (i : List Lexeme)
+    → ((n : ℕ) → n < 11 → Q n i) → ((x : Lexeme) (r : List Lexeme) → i ≡ x ∷ r → x .kind ≡ k → Goes P Q (f r)) → Goes P Q (need k f i)
 unfolding need
-goes-need P Q k f i q h = goes-on P Q (is k) (λ _. f) (refuseBy ten) i (λ x r e t. h x r e (eqb-true _ _ t)) (goes-refuseBy ten i q)
+goes-need P Q k f i q h = goes-on P Q (is k) (λ _. f) (refuseBy ten) i (λ x r e t. h x r e (eqb-true _ _ t)) (goes-ten i q)
 
 need-bind : {A B : Type 0} (k : ℕ) (p : Reader A) (f : A → Reader B) (i : List Lexeme) → need k (λ j. bind (p j) f) i ≡ bind (need k p i) f
 unfolding need on choose refuseBy bind
@@ -83,19 +102,19 @@ need-bind k p f (x ∷ i) = go (is k x)
     go true = refl
     go false = refl
 
-pub goes-need-bind : {A B : Type 0} {P : A → List Lexeme → Type 0} {Q Q′ : List Lexeme → Type 0} {P′ : B → List Lexeme → Type 0} (k : ℕ) (p : Reader A) (f : A → Reader B) (i : List Lexeme)
-    → Goes P Q (need k p i) → ((r : List Lexeme) → Q r → Q′ r) → ((a : A) (r : List Lexeme) → P a r → Goes P′ Q′ (f a r)) → Goes P′ Q′ (need k (λ j. bind (p j) f) i)
+pub goes-need-bind : {A B : Type 0} {P : A → List Lexeme → Type 0} {Q Q′ : ℕ → List Lexeme → Type 0} {P′ : B → List Lexeme → Type 0} (k : ℕ) (p : Reader A) (f : A → Reader B) (i : List Lexeme)
+    → Goes P Q (need k p i) → ((n : ℕ) (r : List Lexeme) → Q n r → Q′ n r) → ((a : A) (r : List Lexeme) → P a r → Goes P′ Q′ (f a r)) → Goes P′ Q′ (need k (λ j. bind (p j) f) i)
 goes-need-bind k p f i h q g = rw (need-bind k p f i) (goes-bind f h q g)
 
 -- what holds before a loop and after each of its turns holds where it ends
-pub goes-onwards : {A : Type 0} (P : A → List Lexeme → Type 0) (Q : List Lexeme → Type 0) (sep : A → Lexeme → Bool) (q : A → Lexeme → Reader A)
+pub goes-onwards : {A : Type 0} (P : A → List Lexeme → Type 0) (Q : ℕ → List Lexeme → Type 0) (sep : A → Lexeme → Bool) (q : A → Lexeme → Reader A)
     → ((a : A) (x : Lexeme) (m : List Lexeme) → P a (x ∷ m) → sep a x ≡ true → Goes P Q (q a x m)) → (a : A) (m : List Lexeme) → P a m → Goes P Q (onwards sep q a m)
 unfolding onwards upTo
 goes-onwards {A = A} P Q sep q s a m h = go (length m) a m h
   where
     go : (n : ℕ) (a : A) (m : List Lexeme) → P a m → Goes P Q (upTo n sep q a m)
     go zero a m h = good h
-    go (suc n) a m h = goes-on P Q _ _ _ m (λ x r e t. goes-bind _ (s a x r (rw e at h) t) (λ r z. z) (go n)) (good h)
+    go (suc n) a m h = goes-on P Q _ _ _ m (λ x r e t. goes-bind _ (s a x r (rw e at h) t) (λ n r z. z) (go n)) (good h)
 
 -- ---- what has a token
 
@@ -126,7 +145,7 @@ shrinks-chain {A = A} {sep = sep} {R = R} {Q = Q} s t = record { at = go }
 pub record Takes {A : Type 0} (p : Reader A) : Type 0 where
   pub at : (i r : List Lexeme) (a : A) → p i ≡ took a r → length r < length i
 
-pub takes : {A : Type 0} {p : Reader A} {R : Reads A} {Q : List Lexeme → List Lexeme → Type 0} → ((i : List Lexeme) → Goes (λ a r. R i r a) (Q i) (p i)) → Shrinks R → Takes p
+pub takes : {A : Type 0} {p : Reader A} {R : Reads A} {Q : List Lexeme → ℕ → List Lexeme → Type 0} → ((i : List Lexeme) → Goes (λ a r. R i r a) (Q i) (p i)) → Shrinks R → Takes p
 takes s t = record { at = λ i r a e. t .at (goes-took (rw e at (s i))) }
 
 -- ---- a chain's loop, with no bound on its turns: what a proof of code cites

@@ -138,7 +138,7 @@ module _ (L : Limits) where
   when-tokens : {i r : List Lexeme} {c : Option Tree} → When L i r c → (e : ℕ) → length (conditionEntries e c) + length r ≤ length i
   unfolding conditionEntries
   when-tokens grammar.When.bare e = omega arith
-  when-tokens (grammar.When.braces k (begun l (ended h m))) e = let x = disjunction-pays (condition-pays 31) .at h e in omega arith
+  when-tokens (grammar.When.braces k (begun l (ended h m))) e = let x = disjunction-pays (condition-pays (L .levels)) .at h e in omega arith
 
   policy-tokens : {permits : Bool} {i r : List Lexeme} {p : Policy} → PolicyRest L permits i r p → (e : ℕ) → length (policyEntries e p) + length r ≤ length i
   unfolding policyEntries targetEntries

@@ -1,0 +1,211 @@
+-- The number of a refusal is the lowest of the rows that apply to the token. Assumes nothing.
+use mathlib.Core.Path.{_≡_, refl, sym, _∙_}
+use mathlib.Core.Logic.{_⊎_, inl, inr}
+use mathlib.Core.Bool.{Bool, true, false, cond, _&&_}
+use mathlib.Core.List.{List, [], _∷_, _++_, reverse}
+use Prim.Native.Nat.{ℕ, _+_, _≤_, _<_}
+use native.Mathlib.Omega.{arith}
+use lib.Dec.{eqb, ltb}
+use lib.ListN.{length}
+use borrow.Author.Tests.{eqb-true, eqb-false, eq-eqb, ltb-true, ltb-false, lt-ltb}
+use Rattle.tokens.specs.Kinds as kinds
+use Rattle.reading.specs.Lexemes.{Lexeme, is}
+use Rattle.reading.specs.Reader.{Answer, took, refuse}
+use Rattle.reading.proofs.Readers.{goes-took, goes-refused}
+use Rattle.reading.proofs.Local.{Alike, same}
+use Rattle.grammar.specs.Policies.{Policy}
+use Rattle.grammar.specs.Rules.{isReserved, isEffect, mostLiterals}
+use Rattle.grammar.specs.Grammar.{lifting, RuleText}
+use Rattle.grammar.specs.Parser.{read-text}
+use Rattle.grammar.specs.Numbers.{atName, afterLeft, atType, atCondition, atPattern, afterPolicy, afterAction, oneMore, endsBare, deepens, numberOf, numberAt, NumberedRightly}
+use Rattle.grammar.specs.Promise.{RefusedRightly, OnePlace}
+use Rattle.grammar.specs.Lowest.{Under, Admitted, Applies, no-token, reserved, bare, no-type, not-admitted, limit, AppliesAt, token, end, NumberedLowest, OneNumber, RefusedBy, RefusedExactly}
+use Rattle.grammar.proofs.Begun.{Beyond}
+use Rattle.grammar.proofs.Viable.{Opened, viable-text}
+use Rattle.grammar.proofs.Theorems.{cut, swap-is, less-asked, refused-rightly, no-text-refused, one-place}
+use Rattle.grammar.proofs.Excess.{goes-on-nowhere}
+use Rattle.grammar.proofs.Numbered.{numbered-rightly}
+
+-- ---- where a limit refuses
+
+-- less asked of the same tokens
+less-under : {Asked Kept : ℕ → Type 0} {b : List Lexeme} → ((n : ℕ) → Kept n → Asked n) → Under Asked b → Under Kept b
+less-under {Asked = Asked} {Kept = Kept} f u = record {
+  on = u .on;
+  levels = u .levels;
+  policies = u .policies;
+  shallow = λ a. u .shallow (f 12 a);
+  belongs = less-asked (u .levels) (λ n r. (¬ Asked n) ⊎ (length r < length (u .on))) (λ n r. (¬ Kept n) ⊎ (length r < length (u .on)))
+      (λ n r h. elim h [ inl g ↦ inl (λ a. g (f n a)) | inr l ↦ inr l ]) (u .belongs);
+}
+
+-- the text that goes on with the refused token x keeps every limit but n up to x
+opened-under : (k n : ℕ) (b : List Lexeme) (x : Lexeme) (s : List Lexeme) → 11 ≤ n → (n ≡ 12 → 1 ≤ k) → ((12 ≡ n → ⊥) → 31 + k ≤ 31) → Opened k (b ++ x ∷ s) n (x ∷ s)
+    → Under (λ m. m ≡ n → ⊥) (b ++ x ∷ [])
+opened-under k n b x s l d shallow o = go (o .on) (o .kept l d) (rw (swap-is b (o .swapped) refl) at (o .belongs))
+  where
+    but : (on r : List Lexeme) (m : ℕ) → Beyond n (x ∷ on) m r → (b : Bool) → eqb m n ≡ b → (¬ (m ≡ n → ⊥)) ⊎ (length r < length on)
+    but on r m h true e = inl (λ f. f (eqb-true m n e))
+    but on r m h false e = inr (let y = h .first (eqb-false m n e) l in omega arith)
+
+    go : (on : List Lexeme) → Alike (x ∷ s) on → RuleText (lifting (31 + k) (Beyond n on)) (b ++ on) (o .policies) → Under (λ m. m ≡ n → ⊥) (b ++ x ∷ [])
+    go (y ∷ on) same h = record {
+      on = on;
+      levels = 31 + k;
+      policies = o .policies;
+      shallow = shallow;
+      belongs = less-asked (31 + k) (Beyond n (x ∷ on)) (λ m r. (¬ (m ≡ n → ⊥)) ⊎ (length r < length on)) (λ m r c. but on r m c (eqb m n) refl) (rw (← cut b x on) h);
+    }
+
+-- Refused by the limit n at x: some rule text goes on with x where every other limit is asked.
+goes-on-else : (b : List Lexeme) (x : Lexeme) (s : List Lexeme) (n : ℕ) → read-text (b ++ x ∷ s) ≡ refuse n (x ∷ s) → 11 ≤ n → Under (λ m. m ≡ n → ⊥) (b ++ x ∷ [])
+goes-on-else b x s n e l = go (eqb n 12) refl
+  where
+    go : (o : Bool) → eqb n 12 ≡ o → Under (λ m. m ≡ n → ⊥) (b ++ x ∷ [])
+    go true q = opened-under 1 n b x s l (λ d. omega arith) (λ f. absurd (f (sym (eqb-true n 12 q)))) (goes-refused (rw e at (viable-text 1 (b ++ x ∷ s))))
+    go false q = opened-under 0 n b x s l (λ d. absurd (eqb-false n 12 q d)) (λ f. omega arith) (goes-refused (rw e at (viable-text 0 (b ++ x ∷ s))))
+
+-- ---- the rows of numberOf
+
+-- what a number of the table says of the place and the token
+data Row (c : List Lexeme) (x : Lexeme) : ℕ → Type 0 where
+  own : x .kind < 7 → Row c x (x .kind)
+  seven : atName c ≡ true → isReserved x ≡ true → Row c x 7
+  eight : afterLeft c ≡ true → endsBare x ≡ true → Row c x 8
+  nine : atType c ≡ true → is kinds.name x ≡ true → Row c x 9
+  ten : Row c x 10
+  limited : {n : ℕ} → 11 ≤ n → n ≤ 16 → Row c x n
+
+-- a test of two, and else what holds of the next row
+either-row : {c : List Lexeme} {x : Lexeme} (a b : Bool) (n m : ℕ) → (a ≡ true → b ≡ true → Row c x n) → Row c x m → Row c x (cond (a && b) n m)
+either-row true true n m f h = f refl refl
+either-row true false n m f h = h
+either-row false b n m f h = h
+
+limit-row : {c : List Lexeme} {x : Lexeme} (a : Bool) (n m : ℕ) → 11 ≤ n → n ≤ 16 → Row c x m → Row c x (cond a n m)
+limit-row true n m l k h = limited l k
+limit-row false n m l k h = h
+
+own-row : {c : List Lexeme} (x : Lexeme) (m : ℕ) → Row c x m → Row c x (cond (ltb (x .kind) 7) (x .kind) m)
+own-row {c = c} x m h = go (ltb (x .kind) 7) refl
+  where
+    go : (o : Bool) → ltb (x .kind) 7 ≡ o → Row c x (cond o (x .kind) m)
+    go true e = own (ltb-true _ _ e)
+    go false e = h
+
+row-of : (c : List Lexeme) (x : Lexeme) → Row c x (numberOf c x)
+unfolding numberOf
+row-of c x =
+    own-row x _
+    (either-row (atName c) (isReserved x) 7 _ seven
+    (either-row (afterLeft c) (endsBare x) 8 _ eight
+    (either-row (atType c) (is kinds.name x) 9 _ nine
+    (limit-row (atName c && is kinds.name x && afterAction c) 11 _ (omega arith) (omega arith)
+    (limit-row (atCondition c && deepens x) 12 _ (omega arith) (omega arith)
+    (limit-row (atPattern c && is kinds.string x) 13 _ (omega arith) (omega arith)
+    (limit-row (oneMore mostLiterals c x) 14 _ (omega arith) (omega arith)
+    (limit-row (afterPolicy c && isEffect x) 15 _ (omega arith) (omega arith)
+    (limit-row (atName c && is kinds.name x) 16 10 (omega arith) (omega arith) ten)))))))))
+
+-- a row that applies bounds the number
+first-bound : (x : Lexeme) (m n : ℕ) → 6 ≤ n → m ≤ n → cond (ltb (x .kind) 7) (x .kind) m ≤ n
+first-bound x m n l k = go (ltb (x .kind) 7) refl
+  where
+    go : (o : Bool) → ltb (x .kind) 7 ≡ o → cond o (x .kind) m ≤ n
+    go true e = let y = ltb-true (x .kind) 7 e in omega arith
+    go false e = k
+
+next-bound : (a : Bool) (l m n : ℕ) → l ≤ n → m ≤ n → cond a l m ≤ n
+next-bound true l m n h k = h
+next-bound false l m n h k = k
+
+module _ (c : List Lexeme) (x : Lexeme) where
+  own-bound : x .kind < 7 → numberOf c x ≤ x .kind
+  unfolding numberOf
+  own-bound l = rw (lt-ltb (x .kind) 7 l) (omega arith)
+
+  seven-bound : atName c ≡ true → isReserved x ≡ true → numberOf c x ≤ 7
+  unfolding numberOf
+  seven-bound e f = first-bound x _ 7 (omega arith) (rw (e, f) (omega arith))
+
+  eight-bound : afterLeft c ≡ true → endsBare x ≡ true → numberOf c x ≤ 8
+  unfolding numberOf
+  eight-bound e f = first-bound x _ 8 (omega arith) (next-bound (atName c && isReserved x) 7 _ 8 (omega arith) (rw (e, f) (omega arith)))
+
+  nine-bound : atType c ≡ true → x .kind ≡ kinds.name → numberOf c x ≤ 9
+  unfolding numberOf
+  nine-bound e f =
+      first-bound x _ 9 (omega arith)
+      (next-bound (atName c && isReserved x) 7 _ 9 (omega arith)
+      (next-bound (afterLeft c && endsBare x) 8 _ 9 (omega arith) (rw (e, eq-eqb (x .kind) kinds.name f) (omega arith))))
+
+-- ---- the theorem
+
+module _ (b : List Lexeme) (x : Lexeme) (s : List Lexeme) (n : ℕ) (e : read-text (b ++ x ∷ s) ≡ refuse n (x ∷ s)) (q : n ≡ numberOf (reverse b) x) where
+  none-admitted : n < 11 → ¬ Admitted b x
+  none-admitted l a = goes-on-nowhere (λ m. ⊥) b x s n e (inl l) (a .under)
+
+  is-admitted : 11 ≤ n → Admitted b x
+  is-admitted l = record { under = less-under (λ m a. absurd a) (goes-on-else b x s n e l) }
+
+  applies : {m : ℕ} → n ≡ m → Row (reverse b) x m → Applies b x m
+  applies p (own l) = no-token l
+  applies p (seven c t) = reserved (none-admitted (omega arith)) c t
+  applies p (eight c t) = bare (none-admitted (omega arith)) c t
+  applies p (nine c t) = no-type (none-admitted (omega arith)) c (eqb-true _ _ t)
+  applies p ten = not-admitted (none-admitted (omega arith))
+  applies {m = m} p (limited l h) = limit l h (is-admitted (omega arith)) (λ k. goes-on-nowhere (λ j. j ≡ m) b x s n e (inr p) (k .under))
+
+  least : (m : ℕ) → Applies b x m → n ≤ m
+  least m (no-token l) = let y = own-bound (reverse b) x l in omega arith
+  least m (reserved f c t) = let y = seven-bound (reverse b) x c t in omega arith
+  least m (bare f c t) = let y = eight-bound (reverse b) x c t in omega arith
+  least m (no-type f c t) = let y = nine-bound (reverse b) x c t in omega arith
+  least m (not-admitted f) = go (ltb 10 n) refl
+    where
+      go : (o : Bool) → ltb 10 n ≡ o → n ≤ 10
+      go true d = absurd (f (is-admitted (ltb-true 10 n d)))
+      go false d = ltb-false 10 n d
+  least m (limit l h a k) = go (ltb m n) refl
+    where
+      go : (o : Bool) → ltb m n ≡ o → n ≤ m
+      go true d = absurd (let y = ltb-true m n d in k (record { under = less-under (λ j g i. omega arith) (goes-on-else b x s n e (omega arith)) }))
+      go false d = ltb-false m n d
+
+pub numbered-lowest : NumberedLowest
+unfolding NumberedLowest NumberedRightly numberAt
+numbered-lowest b [] n e = rw (numbered-rightly b [] n e) (record { applies = end; least = λ m h. at-end m h })
+  where
+    at-end : (m : ℕ) → AppliesAt b [] m → 10 ≤ m
+    at-end m end = omega arith
+numbered-lowest b (x ∷ s) n e = record { applies = token own-row-applies; least = λ m h. at-token m h }
+  where
+    q : n ≡ numberOf (reverse b) x
+    q = numbered-rightly b (x ∷ s) n e
+
+    own-row-applies : Applies b x n
+    own-row-applies = rw q (applies b x s n e q q (row-of (reverse b) x))
+
+    at-token : (m : ℕ) → AppliesAt b (x ∷ s) m → n ≤ m
+    at-token m (token h) = least b x s n e q m h
+
+pub one-number : OneNumber
+unfolding OneNumber
+one-number b r n m h k = let x = h .least m (k .applies) in let y = k .least n (h .applies) in omega arith
+
+-- ---- refusal, exactly
+
+pub refused-exactly : RefusedExactly
+unfolding RefusedExactly NumberedLowest OneNumber OnePlace RefusedRightly
+refused-exactly i r n = (by, λ t. back t (read-text i) refl)
+  where
+    by : read-text i ≡ refuse n r → RefusedBy i r n
+    by e = let w = refused-rightly i r n e in record { rightly = w; lowest = numbered-lowest (w .before) r n (rw (← w .split) e) }
+
+    back : RefusedBy i r n → (y : Answer (List Policy)) → read-text i ≡ y → read-text i ≡ refuse n r
+    back t (took ps q) e = absurd (no-text-refused i r ps (t .rightly) (goes-took (rw e at (viable-text 0 i)) .1))
+    back t (refuse m q) e =
+        let p : q ≡ r = one-place i q r (refused-rightly i q m e) (t .rightly) in
+        let d : read-text i ≡ refuse m r = e ∙ rw p in
+        let k : m ≡ n = one-number (t .rightly .before) r m n (numbered-lowest (t .rightly .before) r m (rw (← t .rightly .split) d)) (t .lowest) in
+        d ∙ rw k

@@ -1,0 +1,81 @@
+-- Which rows of document 01's table of refusal numbers apply to a token behind tokens that break no rule, and that the number of a refusal is the lowest of them. Definitions only.
+use mathlib.Core.Path.{_≡_}
+use mathlib.Core.Logic.{_⊎_, _↔_}
+use mathlib.Core.Bool.{true}
+use mathlib.Core.List.{List, [], _∷_, _++_, reverse}
+use Prim.Native.Nat.{ℕ, _≤_, _<_}
+use lib.ListN.{length}
+use Rattle.tokens.specs.Kinds as kinds
+use Rattle.reading.specs.Lexemes.{Lexeme}
+use Rattle.reading.specs.Reader.{refuse}
+use Rattle.grammar.specs.Policies.{Policy}
+use Rattle.grammar.specs.Rules.{isReserved}
+use Rattle.grammar.specs.Grammar.{lifting, RuleText}
+use Rattle.grammar.specs.Parser.{read-text}
+use Rattle.grammar.specs.Promise.{Refused}
+use Rattle.grammar.specs.Numbers.{atName, afterLeft, atType, endsBare}
+
+-- ---- what is admitted, and which limits it keeps
+
+-- Some rule text begins with b, where of b the limits with the numbers Asked are asked and no other. Of what follows b none is asked; but where 12 is asked, the text's conditions
+-- have at most 31 levels inside them.
+pub record Under (Asked : ℕ → Type 0) (b : List Lexeme) : Type 0 where
+  pub on : List Lexeme
+  pub levels : ℕ
+  pub policies : List Policy
+  pub shallow : Asked 12 → levels ≤ 31
+  pub belongs : RuleText (lifting levels (λ n r. (¬ Asked n) ⊎ (length r < length on))) (b ++ on) policies
+
+-- The token x is admitted behind b: by the productions alone.
+pub record Admitted (b : List Lexeme) (x : Lexeme) : Type 0 where
+  pub under : Under (λ n. ⊥) (b ++ x ∷ [])
+
+-- It keeps the limit with the number n: by the productions and that limit alone.
+pub record Keeps (n : ℕ) (b : List Lexeme) (x : Lexeme) : Type 0 where
+  pub under : Under (λ m. m ≡ n) (b ++ x ∷ [])
+
+-- ---- the table
+
+-- the row of that number applies to the token x behind b, which breaks no rule
+pub data Applies (b : List Lexeme) (x : Lexeme) : ℕ → Type 0 where
+  -- 3 to 6: what is no token has its refusal's number as its kind
+  no-token : x .kind < 7 → Applies b x (x .kind)
+  -- reserved word where a path name must stand
+  reserved : ¬ Admitted b x → atName (reverse b) ≡ true → isReserved x ≡ true → Applies b x 7
+  -- bare attribute
+  bare : ¬ Admitted b x → afterLeft (reverse b) ≡ true → endsBare x ≡ true → Applies b x 8
+  -- name after `is` that is no type there
+  no-type : ¬ Admitted b x → atType (reverse b) ≡ true → x .kind ≡ kinds.name → Applies b x 9
+  -- any token not admitted
+  not-admitted : ¬ Admitted b x → Applies b x 10
+  -- admitted, but over a limit: 11 the path after action, 12 levels, 13 the pattern, 14 literals, 15 policies, 16 any other path (after action 11 is lower)
+  limit : {n : ℕ} → 11 ≤ n → n ≤ 16 → Admitted b x → ¬ Keeps n b x → Applies b x n
+
+-- the same of the first of the tokens r behind b; at the end of the text it is 10
+pub data AppliesAt (b : List Lexeme) : List Lexeme → ℕ → Type 0 where
+  token : {x : Lexeme} {r : List Lexeme} {n : ℕ} → Applies b x n → AppliesAt b (x ∷ r) n
+  end : AppliesAt b [] 10
+
+-- the lowest number that applies there
+pub record Lowest (b r : List Lexeme) (n : ℕ) : Type 0 where
+  pub applies : AppliesAt b r n
+  pub least : (m : ℕ) → AppliesAt b r m → n ≤ m
+
+-- A refusal has the lowest number that applies to the token that is refused.
+unfoldable pub NumberedLowest : Type 0
+NumberedLowest = (b r : List Lexeme) (n : ℕ) → read-text (b ++ r) ≡ refuse n r → Lowest b r n
+
+-- So it leaves one number.
+unfoldable pub OneNumber : Type 0
+OneNumber = (b r : List Lexeme) (n m : ℕ) → Lowest b r n → Lowest b r m → n ≡ m
+
+-- ---- refusal, exactly
+
+-- refused from r on by the number n: at the right place, by the lowest number there
+pub record RefusedBy (i r : List Lexeme) (n : ℕ) : Type 0 where
+  pub rightly : Refused i r
+  pub lowest : Lowest (rightly .before) r n
+
+-- A list of tokens is so refused exactly when document 01 says.
+unfoldable pub RefusedExactly : Type 0
+RefusedExactly = (i r : List Lexeme) (n : ℕ) → (read-text i ≡ refuse n r) ↔ RefusedBy i r n
