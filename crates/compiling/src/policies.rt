@@ -13,7 +13,7 @@ ghost use Rattle.table.specs.Entries.{partEntry, actionEntries, conditionEntrie
 ghost use Rattle.tokens.specs.Kinds as kinds;
 ghost use Rattle.parts.specs.Answers.{Ready, Done};
 ghost use Rattle.compiling.specs.Whole.{Told};
-use conditions::read_disjunction;
+use conditions::read_whole;
 use parts::answers::Answer;
 use parts::answers::Refusal;
 use parts::answers::closed;
@@ -144,7 +144,7 @@ fn read_when(
     if next.kind != b'{' {
         return Answer::Refused(turned_away(text, next, 10));
     }
-    let inside = read_disjunction(classes, text, table, seen, next.end, 31, number, same);
+    let inside = read_whole(classes, text, table, seen, next.end, 31, number, same);
     expected(classes, text, inside, b'}')
 }
 
