@@ -1,5 +1,5 @@
 // The stack that compiling and deciding take, on texts of the deepest nesting. A call runs on a stack of its own that was painted before; what it wrote lies below its first
-// frame. Built and run by bench/stack, on x86-64 or under the emulator. A figure above the limit ends it with status 1.
+// frame. Built and run by bench/stack, on x86-64 or under the emulator. A figure above its limit ends it with status 1.
 #include <stdbool.h>
 #include <stddef.h>
 #include <stdint.h>
@@ -12,7 +12,7 @@ bool stack_begins(const uint8_t *text, size_t length, const uint8_t *table, size
 uint64_t stack_decide(const uint8_t *text, size_t length, const uint8_t *table, size_t room, const uint8_t *bag, size_t bag_length, const uint8_t *subject, size_t subject_length,
                       const uint8_t *action, size_t action_length, const uint8_t *resource, size_t resource_length);
 
-enum { STACK = 1 << 20, PAINT = 0xA5, MOST = 24000 };
+enum { STACK = 1 << 20, PAINT = 0xA5, MOST_TO_COMPILE = 24000, MOST_TO_DECIDE = 16000 };
 
 static uint8_t stack[STACK] __attribute__((aligned(16)));
 static uint8_t text[8192], table[65536];
@@ -62,7 +62,7 @@ static void begin(void) {
 static void show(const char *what) {
     put("};");
     size_t first = used(compile), second = used(begins), third = used(decide);
-    above |= first > MOST || second > MOST || third > MOST || answer != 0;
+    above |= first > MOST_TO_COMPILE || second > MOST_TO_DECIDE || third > MOST_TO_DECIDE || answer != 0;
     printf("| %s | %zu | %zu | %zu |\n", what, first, second, third);
 }
 

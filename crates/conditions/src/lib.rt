@@ -1,17 +1,17 @@
 // The readers of conditions. They call each other, at most `depth` levels deep: so many levels may still stand inside what is read. Chains of `&&` and `||` are loops,
 // and so are the three parts of a choice. Each gets the place from which the next token is read, puts the entries of what it reads into one table and compares them
-// with another. Their frames are what nested conditions cost on the stack, so they hold little: text and tables are lent as references to slices, of which no level
-// needs a copy, and answers are short ones.
+// with another. Their frames are what nested conditions cost on the stack, so they hold little: the text and the table that is seen are lent by a reference to their
+// slice, of which no level then needs a copy, answers are short, and a token that is handed on is taken apart before.
 ghost use mathlib.Core.Path.{_≡_};
 ghost use mathlib.Core.List.{[]};
-ghost use Prim.Native.Nat.{ℕ, _+_, _-_, _<_, _≤_, _^_};
+ghost use Prim.Native.Nat.{ℕ, _+_, _-_, _<_, _≤_};
 ghost use lib.ListN.{length};
 ghost use Rattle.tokens.specs.Table.{classTable};
 ghost use Rattle.tokens.specs.Tokens.{tokenAt, Reads};
 ghost use Rattle.reading.specs.Lexemes.{lexeme, stream};
 ghost use Rattle.grammar.specs.Parser.{noLevel, read-condition, read-conjunction, read-disjunction, read-negated, read-bracketed, read-conditional};
 ghost use Rattle.table.specs.Entries.{treeEntries};
-ghost use Rattle.parts.specs.Answers.{Ready, Done, freeOf, turnedAway, refusal};
+ghost use Rattle.parts.specs.Answers.{Ready, Done, freeOf, turnedAway};
 ghost use Rattle.conditions.specs.Joining.{ReadyAt, Joins, wordAfter};
 ghost use Rattle.conditions.specs.Shortened.{wide, token, tokenOf, withEntries};
 use parts::answers::Answer;
@@ -28,8 +28,8 @@ use tokens::kinds;
 use tokens::reader::Token;
 use tokens::reader::next_token;
 
-// An answer in half the bytes: whether something was read; then whether the table that is seen has the entries so far, the kind of the token after what was read, the
-// next free entry, and where that token starts and ends. Of a refusal `kind` is the number, `start` the place and `end` the size.
+// An answer in half the bytes. Where something was read: whether the table that is seen has the entries so far, the kind of the token after what was read, the next
+// free entry, and where that token starts and ends. Where nothing was, a refusal: `kind` is its number, `start` the place and `end` the size of the token.
 pub struct Short {
     pub read: bool,
     pub same: bool,
@@ -45,6 +45,7 @@ pub struct Count {
     pub same: bool,
 }
 
+// An answer as a short one.
 fn shortened(a: Answer) -> Short
     requires { ⌜ freeOf a < 65536 ⌝ }
     ensures { λ r. ⌜ wide r ≡ a ⌝ }
@@ -69,6 +70,7 @@ fn shortened(a: Answer) -> Short
     }
 }
 
+// The answer that a short one stands for.
 fn widened(a: Short) -> Answer
     ensures { λ r. ⌜ r ≡ wide a ⌝ }
 {
@@ -190,7 +192,7 @@ fn read_flat(
     Answer::Refused(turned_away(text, t, no_level(t)))
 }
 
-// The same for the readers below, from a token in its parts: a token that is handed on whole stays on the stack at every level.
+// The same with a short answer, from the parts of the first token: a token that is handed on whole would stay on the stack at every level.
 fn read_plain(
     classes: &[u8; 256],
     text: &&[u8],
@@ -211,7 +213,7 @@ fn read_plain(
     shortened(a)
 }
 
-// The disjunction from a place on, for callers that have slices and want a whole answer.
+// The disjunction from a place on, for callers outside: it takes slices, and its answer is no short one.
 pub fn read_whole(
     classes: &[u8; 256],
     text: &[u8],
