@@ -13,7 +13,7 @@ ghost use Rattle.grammar.specs.Parser.{noLevel, read-condition, read-conjunctio
 ghost use Rattle.table.specs.Entries.{treeEntries};
 ghost use Rattle.parts.specs.Answers.{Ready, Done, freeOf, turnedAway};
 ghost use Rattle.conditions.specs.Joining.{ReadyAt, Joins, wordAfter};
-ghost use Rattle.conditions.specs.Shortened.{wide, token, tokenOf, withEntries};
+ghost use Rattle.conditions.specs.Shortened.{wide, shortOf, token, tokenOf, withEntries};
 use parts::answers::Answer;
 use parts::answers::Refusal;
 use parts::answers::turned_away;
@@ -48,7 +48,7 @@ pub struct Count {
 // An answer as a short one.
 fn shortened(a: Answer) -> Short
     requires { ⌜ freeOf a < 65536 ⌝ }
-    ensures { λ r. ⌜ wide r ≡ a ⌝ }
+    ensures { λ r. ⌜ r ≡ shortOf a ⌝ }
 {
     match a {
         Answer::Read(t, free, same) => Short {
@@ -106,7 +106,7 @@ fn with_entries(a: Short, free: u16, same: bool) -> Short
 // The refusal by 10 of the token after what was read.
 fn stopped(text: &[u8], a: Short) -> Short
     requires { ⌜ a .start ≤ a .end ⌝ }
-    ensures { λ r. ⌜ wide r ≡ Answer.Refused (turnedAway (length (now (text .entry))) 10 (tokenOf a)) ⌝ }
+    ensures { λ r. ⌜ r ≡ shortOf (Answer.Refused (turnedAway (length (now (text .entry))) 10 (tokenOf a))) ⌝ }
 {
     let t = Token {
         kind: a.kind,
@@ -205,8 +205,9 @@ fn read_plain(
     same: bool,
 ) -> Short
     requires { ⌜ Ready (now classes) (now (now text)) number (token kind start end) × (length (now (now text)) ≤ 8192) ⌝ }
-    ensures { λ r. ⌜ Done treeEntries (now (now (text .entry))) (now (now (seen .entry))) start number same (now (table .entry)) (now (table .exit))
+    ensures done { λ r. ⌜ Done treeEntries (now (now (text .entry))) (now (now (seen .entry))) start number same (now (table .entry)) (now (table .exit))
         (read-condition 0 (stream (now (now (text .entry))) (token kind start end))) (wide r) ⌝ }
+    ensures plain { λ r. ⌜ r ≡ shortOf (wide r) ⌝ }
 {
     let t = Token { kind, start, end };
     let a = read_flat(classes, *text, table, *seen, t, number, same);
@@ -243,8 +244,9 @@ fn read_disjunction(
     same: bool,
 ) -> Short
     requires { ⌜ ReadyAt (now classes) (now (now text)) number from ⌝ }
-    ensures { λ r. ⌜ Done treeEntries (now (now (text .entry))) (now (now (seen .entry))) from number same (now (table .entry)) (now (table .exit))
+    ensures done { λ r. ⌜ Done treeEntries (now (now (text .entry))) (now (now (seen .entry))) from number same (now (table .entry)) (now (table .exit))
         (read-disjunction (read-condition depth) (stream (now (now (text .entry))) (tokenAt (now (now (text .entry))) from))) (wide r) ⌝ }
+    ensures plain { λ r. ⌜ r ≡ shortOf (wide r) ⌝ }
 {
     let mut at = from;
     let mut free = number;
@@ -288,8 +290,9 @@ fn read_conjunction(
     same: bool,
 ) -> Short
     requires { ⌜ ReadyAt (now classes) (now (now text)) number from ⌝ }
-    ensures { λ r. ⌜ Done treeEntries (now (now (text .entry))) (now (now (seen .entry))) from number same (now (table .entry)) (now (table .exit))
+    ensures done { λ r. ⌜ Done treeEntries (now (now (text .entry))) (now (now (seen .entry))) from number same (now (table .entry)) (now (table .exit))
         (read-conjunction (read-condition depth) (stream (now (now (text .entry))) (tokenAt (now (now (text .entry))) from))) (wide r) ⌝ }
+    ensures plain { λ r. ⌜ r ≡ shortOf (wide r) ⌝ }
 {
     let mut at = from;
     let mut free = number;
@@ -333,8 +336,9 @@ fn read_condition(
     same: bool,
 ) -> Short
     requires { ⌜ ReadyAt (now classes) (now (now text)) number from ⌝ }
-    ensures { λ r. ⌜ Done treeEntries (now (now (text .entry))) (now (now (seen .entry))) from number same (now (table .entry)) (now (table .exit))
+    ensures done { λ r. ⌜ Done treeEntries (now (now (text .entry))) (now (now (seen .entry))) from number same (now (table .entry)) (now (table .exit))
         (read-condition depth (stream (now (now (text .entry))) (tokenAt (now (now (text .entry))) from))) (wide r) ⌝ }
+    ensures plain { λ r. ⌜ r ≡ shortOf (wide r) ⌝ }
 {
     let t = token_at(classes, text, from);
     if depth == 0 {
@@ -384,8 +388,9 @@ fn read_negation(
     same: bool,
 ) -> Short
     requires { ⌜ ReadyAt (now classes) (now (now text)) (number + 1) from ⌝ }
-    ensures { λ r. ⌜ Done treeEntries (now (now (text .entry))) (now (now (seen .entry))) (from - 1) number same (now (table .entry)) (now (table .exit))
+    ensures done { λ r. ⌜ Done treeEntries (now (now (text .entry))) (now (now (seen .entry))) (from - 1) number same (now (table .entry)) (now (table .exit))
         (read-negated (read-condition depth) (stream (now (now (text .entry))) (tokenAt (now (now (text .entry))) from))) (wide r) ⌝ }
+    ensures plain { λ r. ⌜ r ≡ shortOf (wide r) ⌝ }
 {
     let inside = read_condition(classes, text, table, seen, from, depth, number, same);
     if !inside.read {
@@ -417,8 +422,9 @@ fn read_group(
     same: bool,
 ) -> Short
     requires { ⌜ ReadyAt (now classes) (now (now text)) (number + 1) from ⌝ }
-    ensures { λ r. ⌜ Done treeEntries (now (now (text .entry))) (now (now (seen .entry))) (from - 1) number same (now (table .entry)) (now (table .exit))
+    ensures done { λ r. ⌜ Done treeEntries (now (now (text .entry))) (now (now (seen .entry))) (from - 1) number same (now (table .entry)) (now (table .exit))
         (read-bracketed (read-condition depth) (stream (now (now (text .entry))) (tokenAt (now (now (text .entry))) from))) (wide r) ⌝ }
+    ensures plain { λ r. ⌜ r ≡ shortOf (wide r) ⌝ }
 {
     let inside = read_disjunction(classes, text, table, seen, from, depth, number, same);
     if !inside.read {
@@ -461,8 +467,9 @@ fn read_choice(
     same: bool,
 ) -> Short
     requires { ⌜ ReadyAt (now classes) (now (now text)) (number + 1) from ⌝ }
-    ensures { λ r. ⌜ Done treeEntries (now (now (text .entry))) (now (now (seen .entry))) (from - 1) number same (now (table .entry)) (now (table .exit))
+    ensures done { λ r. ⌜ Done treeEntries (now (now (text .entry))) (now (now (seen .entry))) (from - 1) number same (now (table .entry)) (now (table .exit))
         (read-conditional (read-condition depth) (stream (now (now (text .entry))) (tokenAt (now (now (text .entry))) from))) (wide r) ⌝ }
+    ensures plain { λ r. ⌜ r ≡ shortOf (wide r) ⌝ }
 {
     let mut at = from;
     let mut before = number;

@@ -7,7 +7,7 @@ use Rattle.conditions.proofs.Choosing as choosing
 use Rattle.conditions.proofs.Choosing.{Choosing}
 use Rattle.conditions.proofs.Apart.{closing-read, follows, fails}
 use Rattle.conditions.proofs.Earlier.{at-place, ready-from, weaker, told-as}
-use Rattle.conditions.proofs.Shorter.{read-is, refused-is, with-is}
+use Rattle.conditions.proofs.Shorter.{read-is, refused-is, with-is, with-plain, short-is, short-plain}
 use Rattle.parts.proofs.Writing.{done-as, turned-done, as-read, as-refused, kept-none}
 use Rattle.parts.proofs.Standing.{turned-bind}
 use Rattle.table.specs.Entries.{entry, treeEntries}
@@ -147,21 +147,24 @@ read-choice-same-length : (t : ℕ) → read-choice-lts.Need-same-length (read-c
 read-choice-same-length t c = omega (arith, c .before .before .before .before .read-condition .kept, c .before .before .before .before .before .before .loop .inv .1)
 
 read-choice-returns : (t : ℕ) → read-choice-lts.Need-returns (read-choice-claims t) (read-choice-at t) read-choice.Post read-choice-Inv-loop read-choice-μ-loop
-read-choice-returns t c = choosing.refuses (c .before .before .before .before .before .before .loop .inv .0) (c .before .before .before .before .read-condition .ensures) (refused-is _ (c .if1 .taken))
+read-choice-returns t c = (
+  choosing.refuses (c .before .before .before .before .before .before .loop .inv .0) (c .before .before .before .before .read-condition .ensures .0) (refused-is _ (c .if1 .taken)),
+  c .before .before .before .before .read-condition .ensures .1,
+)
 
 read-choice-cast-append : (t : ℕ) → read-choice-lts.Need-cast-append (read-choice-claims t) (read-choice-at t) read-choice.Post read-choice-Inv-loop read-choice-μ-loop
 read-choice-cast-append t c =
-    let k = as-read (read-is _ (c .before .before .before .before .if1 .left)) (c .before .before .before .before .before .before .before .before .read-condition .ensures .says) in
+    let k = as-read (read-is _ (c .before .before .before .before .if1 .left)) (c .before .before .before .before .before .before .before .before .read-condition .ensures .0 .says) in
     omega (arith, k .room, k .lies .order, k .lies .high, c .before .before .before .before .before .before .before .before .before .before .loop .inv .0 .room, c .before .before .before .before .before .before .before .before .before .before .before .before .pre .1 .low, c .before .before .before .before .before .before .before .before .before .before .before .before .pre .1 .small)
 
 read-choice-append-requires : (t : ℕ) → read-choice-lts.Need-append-requires (read-choice-claims t) (read-choice-at t) read-choice.Post read-choice-Inv-loop read-choice-μ-loop
 read-choice-append-requires t c κs =
-    let k = as-read (read-is _ (c .before .before .before .before .if1 .left)) (c .before .before .before .before .before .before .before .before .read-condition .ensures .says) in
+    let k = as-read (read-is _ (c .before .before .before .before .if1 .left)) (c .before .before .before .before .before .before .before .before .read-condition .ensures .0 .says) in
     omega (arith, k .room, k .lies .order, k .lies .high, c .before .before .before .before .before .before .before .before .before .before .loop .inv .0 .room, c .before .before .before .before .before .before .before .before .before .before .before .before .pre .1 .low, c .before .before .before .before .before .before .before .before .before .before .before .before .pre .1 .small)
 
 read-choice-add-with-entries : (t : ℕ) → read-choice-lts.Need-add-with-entries (read-choice-claims t) (read-choice-at t) read-choice.Post read-choice-Inv-loop read-choice-μ-loop
 read-choice-add-with-entries t c =
-    let k = as-read (read-is _ (c .before .before .before .before .before .before .before .before .if1 .left)) (c .before .before .before .before .before .before .before .before .before .before .before .before .read-condition .ensures .says) in
+    let k = as-read (read-is _ (c .before .before .before .before .before .before .before .before .if1 .left)) (c .before .before .before .before .before .before .before .before .before .before .before .before .read-condition .ensures .0 .says) in
     omega (arith, k .room, k .lies .order, k .lies .high, c .before .before .before .before .before .before .before .before .before .before .before .before .before .before .loop .inv .0 .room, c .before .before .before .before .before .before .before .before .before .before .before .before .before .before .before .before .pre .1 .low, c .before .before .before .before .before .before .before .before .before .before .before .before .before .before .before .before .pre .1 .small)
 
 read-choice-with-entries-requires : (t : ℕ) → read-choice-lts.Need-with-entries-requires (read-choice-claims t) (read-choice-at t) read-choice.Post read-choice-Inv-loop read-choice-μ-loop
@@ -171,33 +174,37 @@ read-choice-same-length-2 : (t : ℕ) → read-choice-lts.Need-same-length-2 (re
 read-choice-same-length-2 t c = omega (arith, c .before .before .before .before .append .kept, c .before .before .before .before .before .before .before .before .before .before .before .before .before .read-condition .kept, c .before .before .before .before .before .before .before .before .before .before .before .before .before .before .before .loop .inv .1)
 
 read-choice-returns-2 : (t : ℕ) → read-choice-lts.Need-returns-2 (read-choice-claims t) (read-choice-at t) read-choice.Post read-choice-Inv-loop read-choice-μ-loop
-read-choice-returns-2 t c =
-    told-as (with-is (c .with-entries .ensures)) (choosing.ends (c .before .before .before .before .before .before .before .before .before .before .before .before .before .before .before .loop .inv .0) (c .before .before .before .before .before .before .before .before .before .before .before .before .before .read-condition .ensures) (read-is _ (c .before .before .before .before .before .before .before .before .before .if1 .left)) (c .before .before .before .before .before .before .before .before .if2 .taken) (c .before .before .before .before .append .ensures))
+read-choice-returns-2 t c = (
+  told-as (with-is (c .with-entries .ensures)) (choosing.ends (c .before .before .before .before .before .before .before .before .before .before .before .before .before .before .before .loop .inv .0) (c .before .before .before .before .before .before .before .before .before .before .before .before .before .read-condition .ensures .0) (read-is _ (c .before .before .before .before .before .before .before .before .before .if1 .left)) (c .before .before .before .before .before .before .before .before .if2 .taken) (c .before .before .before .before .append .ensures)),
+  with-plain (c .with-entries .ensures),
+)
 
 read-choice-stopped-requires : (t : ℕ) → read-choice-lts.Need-stopped-requires (read-choice-claims t) (read-choice-at t) read-choice.Post read-choice-Inv-loop read-choice-μ-loop
-read-choice-stopped-requires t c κs = as-read (read-is _ (c .before .before .before .before .if1 .left)) (c .before .before .before .before .before .before .before .before .read-condition .ensures .says) .lies .order
+read-choice-stopped-requires t c κs = as-read (read-is _ (c .before .before .before .before .if1 .left)) (c .before .before .before .before .before .before .before .before .read-condition .ensures .0 .says) .lies .order
 
 read-choice-same-length-3 : (t : ℕ) → read-choice-lts.Need-same-length-3 (read-choice-claims t) (read-choice-at t) read-choice.Post read-choice-Inv-loop read-choice-μ-loop
 read-choice-same-length-3 t c = omega (arith, c .before .before .before .before .before .before .before .before .before .read-condition .kept, c .before .before .before .before .before .before .before .before .before .before .before .loop .inv .1)
 
 read-choice-returns-3 : (t : ℕ) → read-choice-lts.Need-returns-3 (read-choice-claims t) (read-choice-at t) read-choice.Post read-choice-Inv-loop read-choice-μ-loop
-read-choice-returns-3 t c =
-    told-as (c .stopped .ensures) (choosing.other-word (c .before .before .before .before .before .before .before .before .before .before .before .loop .inv .0) (c .before .before .before .before .before .before .before .before .before .read-condition .ensures) (read-is _ (c .before .before .before .before .before .if1 .left)) (c .before .before .before .before .if2 .left) (c .before .before .if3 .taken) refl)
+read-choice-returns-3 t c = (
+  told-as (short-is (c .stopped .ensures)) (choosing.other-word (c .before .before .before .before .before .before .before .before .before .before .before .loop .inv .0) (c .before .before .before .before .before .before .before .before .before .read-condition .ensures .0) (read-is _ (c .before .before .before .before .before .if1 .left)) (c .before .before .before .before .if2 .left) (c .before .before .if3 .taken) refl),
+  short-plain _ (c .stopped .ensures),
+)
 
 read-choice-cast-free : (t : ℕ) → read-choice-lts.Need-cast-free (read-choice-claims t) (read-choice-at t) read-choice.Post read-choice-Inv-loop read-choice-μ-loop
 read-choice-cast-free t c =
-    let k = as-read (read-is _ (c .before .before .before .before .if1 .left)) (c .before .before .before .before .before .before .before .before .read-condition .ensures .says) in
+    let k = as-read (read-is _ (c .before .before .before .before .if1 .left)) (c .before .before .before .before .before .before .before .before .read-condition .ensures .0 .says) in
     omega (arith, k .room, k .lies .order, k .lies .high, c .before .before .before .before .before .before .before .before .before .before .loop .inv .0 .room, c .before .before .before .before .before .before .before .before .before .before .before .before .pre .1 .low, c .before .before .before .before .before .before .before .before .before .before .before .before .pre .1 .small)
 
 read-choice-word-after-requires : (t : ℕ) → read-choice-lts.Need-word-after-requires (read-choice-claims t) (read-choice-at t) read-choice.Post read-choice-Inv-loop read-choice-μ-loop
 read-choice-word-after-requires t c κs = search needs
 
 read-choice-loop-less : (t : ℕ) → read-choice-lts.Need-loop-less (read-choice-claims t) (read-choice-at t) read-choice.Post read-choice-Inv-loop read-choice-μ-loop
-read-choice-loop-less t c = let k = as-read (read-is _ (c .before .before .before .before .before .if1 .left)) (c .before .before .before .before .before .before .before .before .before .read-condition .ensures .says) in omega (arith, k .lies .low, k .lies .order, k .lies .high)
+read-choice-loop-less t c = let k = as-read (read-is _ (c .before .before .before .before .before .if1 .left)) (c .before .before .before .before .before .before .before .before .before .read-condition .ensures .0 .says) in omega (arith, k .lies .low, k .lies .order, k .lies .high)
 
 read-choice-loop-again : (t : ℕ) → read-choice-lts.Need-loop-again (read-choice-claims t) (read-choice-at t) read-choice.Post read-choice-Inv-loop read-choice-μ-loop
 read-choice-loop-again t c = (
-  rw (c .word-after .ensures) (choosing.turn (c .before .before .before .before .before .before .before .before .before .before .before .loop .inv .0) (c .before .before .before .before .before .before .before .before .before .read-condition .ensures) (read-is _ (c .before .before .before .before .before .if1 .left)) (c .before .before .before .before .if2 .left) (c .before .before .if3 .left)),
+  rw (c .word-after .ensures) (choosing.turn (c .before .before .before .before .before .before .before .before .before .before .before .loop .inv .0) (c .before .before .before .before .before .before .before .before .before .read-condition .ensures .0) (read-is _ (c .before .before .before .before .before .if1 .left)) (c .before .before .before .before .if2 .left) (c .before .before .if3 .left)),
   omega (arith, c .before .before .before .before .before .before .before .before .before .read-condition .kept, c .before .before .before .before .before .before .before .before .before .before .before .loop .inv .1),
 )
 
@@ -212,9 +219,11 @@ read-condition-same-length t c = search needs
 
 read-condition-returns : (t : ℕ) → read-condition-lts.Need-returns (read-condition-claims t) (read-condition-at t) read-condition.Post
 read-condition-returns t c =
-    let a = c .before .before .before .before .before .before .before .args in
-    done-as (ap (λ (d : ℕ). read-condition-spec d (stream (a .text .now .now) (tokenAt (a .text .now .now) (a .from)))) (c .before .before .before .before .if1 .taken) ∙ ap (λ (x : Token). read-condition-spec 0 (stream (a .text .now .now) x)) (sym (c .before .before .before .before .before .token-at .ensures .0)))
-    (weaker (c .before .before .before .before .before .token-at .ensures .1 .low) (c .before .before .read-plain .ensures))
+    let a = c .before .before .before .before .before .before .before .args in (
+      done-as (ap (λ (d : ℕ). read-condition-spec d (stream (a .text .now .now) (tokenAt (a .text .now .now) (a .from)))) (c .before .before .before .before .if1 .taken) ∙ ap (λ (x : Token). read-condition-spec 0 (stream (a .text .now .now) x)) (sym (c .before .before .before .before .before .token-at .ensures .0)))
+          (weaker (c .before .before .before .before .before .token-at .ensures .1 .low) (c .before .before .read-plain .ensures .0)),
+      c .before .before .read-plain .ensures .1,
+    )
 
 read-condition-sub-read-negation : (t : ℕ) → read-condition-lts.Need-sub-read-negation (read-condition-claims t) (read-condition-at t) read-condition.Post
 read-condition-sub-read-negation t c = search needs
@@ -229,9 +238,11 @@ read-condition-same-length-2 t c = search needs
 
 read-condition-returns-2 : (t : ℕ) → read-condition-lts.Need-returns-2 (read-condition-claims t) (read-condition-at t) read-condition.Post
 read-condition-returns-2 t c =
-    let a = c .before .before .before .before .before .before .before .before .before .args in let t = c .before .before .before .before .before .before .before .token-at .result in let r = c .before .before .before .before .before .before .before .token-at .ensures .1 in let some = r .some (λ (z : t .kind ≡ 0). omega (arith, c .before .before .before .before .if2 .taken)) in
-    done-as (ap (λ (x : Token). read-condition-spec (a .depth) (stream (a .text .now .now) x)) (sym (c .before .before .before .before .before .before .before .token-at .ensures .0)) ∙ negation-first (a .text .now .now) t (tokenAt (a .text .now .now) (t .end)) refl (r .high) (a .depth) (c .before .before .before .before .before .before .if1 .left) (c .before .before .before .before .if2 .taken))
-    (weaker (omega (arith, r .low, some)) (c .before .before .read-negation .ensures))
+    let a = c .before .before .before .before .before .before .before .before .before .args in let t = c .before .before .before .before .before .before .before .token-at .result in let r = c .before .before .before .before .before .before .before .token-at .ensures .1 in let some = r .some (λ (z : t .kind ≡ 0). omega (arith, c .before .before .before .before .if2 .taken)) in (
+      done-as (ap (λ (x : Token). read-condition-spec (a .depth) (stream (a .text .now .now) x)) (sym (c .before .before .before .before .before .before .before .token-at .ensures .0)) ∙ negation-first (a .text .now .now) t (tokenAt (a .text .now .now) (t .end)) refl (r .high) (a .depth) (c .before .before .before .before .before .before .if1 .left) (c .before .before .before .before .if2 .taken))
+          (weaker (omega (arith, r .low, some)) (c .before .before .read-negation .ensures .0)),
+      c .before .before .read-negation .ensures .1,
+    )
 
 read-condition-sub-read-group : (t : ℕ) → read-condition-lts.Need-sub-read-group (read-condition-claims t) (read-condition-at t) read-condition.Post
 read-condition-sub-read-group t c = search needs
@@ -246,9 +257,11 @@ read-condition-same-length-3 t c = search needs
 
 read-condition-returns-3 : (t : ℕ) → read-condition-lts.Need-returns-3 (read-condition-claims t) (read-condition-at t) read-condition.Post
 read-condition-returns-3 t c =
-    let a = c .before .before .before .before .before .before .before .before .before .before .before .args in let t = c .before .before .before .before .before .before .before .before .before .token-at .result in let r = c .before .before .before .before .before .before .before .before .before .token-at .ensures .1 in let some = r .some (λ (z : t .kind ≡ 0). omega (arith, c .before .before .before .before .if3 .taken)) in
-    done-as (ap (λ (x : Token). read-condition-spec (a .depth) (stream (a .text .now .now) x)) (sym (c .before .before .before .before .before .before .before .before .before .token-at .ensures .0)) ∙ group-first (a .text .now .now) t (tokenAt (a .text .now .now) (t .end)) refl (r .high) (a .depth) (c .before .before .before .before .before .before .before .before .if1 .left) (c .before .before .before .before .before .before .if2 .left) (c .before .before .before .before .if3 .taken))
-    (weaker (omega (arith, r .low, some)) (c .before .before .read-group .ensures))
+    let a = c .before .before .before .before .before .before .before .before .before .before .before .args in let t = c .before .before .before .before .before .before .before .before .before .token-at .result in let r = c .before .before .before .before .before .before .before .before .before .token-at .ensures .1 in let some = r .some (λ (z : t .kind ≡ 0). omega (arith, c .before .before .before .before .if3 .taken)) in (
+      done-as (ap (λ (x : Token). read-condition-spec (a .depth) (stream (a .text .now .now) x)) (sym (c .before .before .before .before .before .before .before .before .before .token-at .ensures .0)) ∙ group-first (a .text .now .now) t (tokenAt (a .text .now .now) (t .end)) refl (r .high) (a .depth) (c .before .before .before .before .before .before .before .before .if1 .left) (c .before .before .before .before .before .before .if2 .left) (c .before .before .before .before .if3 .taken))
+          (weaker (omega (arith, r .low, some)) (c .before .before .read-group .ensures .0)),
+      c .before .before .read-group .ensures .1,
+    )
 
 read-condition-sub-read-choice : (t : ℕ) → read-condition-lts.Need-sub-read-choice (read-condition-claims t) (read-condition-at t) read-condition.Post
 read-condition-sub-read-choice t c = search needs
@@ -263,9 +276,11 @@ read-condition-same-length-4 t c = search needs
 
 read-condition-returns-4 : (t : ℕ) → read-condition-lts.Need-returns-4 (read-condition-claims t) (read-condition-at t) read-condition.Post
 read-condition-returns-4 t c =
-    let a = c .before .before .before .before .before .before .before .before .before .before .before .before .before .args in let t = c .before .before .before .before .before .before .before .before .before .before .before .token-at .result in let r = c .before .before .before .before .before .before .before .before .before .before .before .token-at .ensures .1 in let some = r .some (λ (z : t .kind ≡ 0). omega (arith, c .before .before .before .before .if4 .taken)) in
-    done-as (ap (λ (x : Token). read-condition-spec (a .depth) (stream (a .text .now .now) x)) (sym (c .before .before .before .before .before .before .before .before .before .before .before .token-at .ensures .0)) ∙ choice-first (a .text .now .now) t (tokenAt (a .text .now .now) (t .end)) refl (r .high) (a .depth) (c .before .before .before .before .before .before .before .before .before .before .if1 .left) (c .before .before .before .before .before .before .before .before .if2 .left) (c .before .before .before .before .before .before .if3 .left) (c .before .before .before .before .if4 .taken))
-    (weaker (omega (arith, r .low, some)) (c .before .before .read-choice .ensures))
+    let a = c .before .before .before .before .before .before .before .before .before .before .before .before .before .args in let t = c .before .before .before .before .before .before .before .before .before .before .before .token-at .result in let r = c .before .before .before .before .before .before .before .before .before .before .before .token-at .ensures .1 in let some = r .some (λ (z : t .kind ≡ 0). omega (arith, c .before .before .before .before .if4 .taken)) in (
+      done-as (ap (λ (x : Token). read-condition-spec (a .depth) (stream (a .text .now .now) x)) (sym (c .before .before .before .before .before .before .before .before .before .before .before .token-at .ensures .0)) ∙ choice-first (a .text .now .now) t (tokenAt (a .text .now .now) (t .end)) refl (r .high) (a .depth) (c .before .before .before .before .before .before .before .before .before .before .if1 .left) (c .before .before .before .before .before .before .before .before .if2 .left) (c .before .before .before .before .before .before .if3 .left) (c .before .before .before .before .if4 .taken))
+          (weaker (omega (arith, r .low, some)) (c .before .before .read-choice .ensures .0)),
+      c .before .before .read-choice .ensures .1,
+    )
 
 read-condition-read-plain-requires-2 : (t : ℕ) → read-condition-lts.Need-read-plain-requires-2 (read-condition-claims t) (read-condition-at t) read-condition.Post
 read-condition-read-plain-requires-2 t c κs = (ready-from (c .before .before .before .before .before .before .before .before .before .before .pre .1) (c .before .before .before .before .before .before .before .before .token-at .ensures .1), c .before .before .before .before .before .before .before .before .before .before .pre .1 .small)
@@ -275,9 +290,11 @@ read-condition-same-length-5 t c = search needs
 
 read-condition-returns-5 : (t : ℕ) → read-condition-lts.Need-returns-5 (read-condition-claims t) (read-condition-at t) read-condition.Post
 read-condition-returns-5 t c =
-    let a = c .before .before .before .before .before .before .before .before .before .before .before .before .before .args in let t = c .before .before .before .before .before .before .before .before .before .before .before .token-at .result in let r = c .before .before .before .before .before .before .before .before .before .before .before .token-at .ensures .1 in
-    done-as (ap (λ (x : Token). read-condition-spec (a .depth) (stream (a .text .now .now) x)) (sym (c .before .before .before .before .before .before .before .before .before .before .before .token-at .ensures .0)) ∙ flat-first (a .text .now .now) t (tokenAt (a .text .now .now) (t .end)) refl (r .high) (a .depth) (c .before .before .before .before .before .before .before .before .before .before .if1 .left) (c .before .before .before .before .before .before .before .before .if2 .left) (c .before .before .before .before .before .before .if3 .left) (c .before .before .before .before .if4 .left))
-    (weaker (r .low) (c .before .before .read-plain2 .ensures))
+    let a = c .before .before .before .before .before .before .before .before .before .before .before .before .before .args in let t = c .before .before .before .before .before .before .before .before .before .before .before .token-at .result in let r = c .before .before .before .before .before .before .before .before .before .before .before .token-at .ensures .1 in (
+      done-as (ap (λ (x : Token). read-condition-spec (a .depth) (stream (a .text .now .now) x)) (sym (c .before .before .before .before .before .before .before .before .before .before .before .token-at .ensures .0)) ∙ flat-first (a .text .now .now) t (tokenAt (a .text .now .now) (t .end)) refl (r .high) (a .depth) (c .before .before .before .before .before .before .before .before .before .before .if1 .left) (c .before .before .before .before .before .before .before .before .if2 .left) (c .before .before .before .before .before .before .if3 .left) (c .before .before .before .before .if4 .left))
+          (weaker (r .low) (c .before .before .read-plain2 .ensures .0)),
+      c .before .before .read-plain2 .ensures .1,
+    )
 
 abbrev read-conjunction-Inv-loop : read-conjunction-lts.InvT-loop
 read-conjunction-Inv-loop classes text table₀ seen from depth number same at₀ free₀ ok₀ more₀ table at free ok more =
@@ -297,11 +314,14 @@ read-conjunction-same-length : (t : ℕ) → read-conjunction-lts.Need-same-leng
 read-conjunction-same-length t c = omega (arith, c .before .before .before .before .read-condition .kept, c .before .before .before .before .before .before .loop .inv .1)
 
 read-conjunction-returns : (t : ℕ) → read-conjunction-lts.Need-returns (read-conjunction-claims t) (read-conjunction-at t) read-conjunction.Post read-conjunction-Inv-loop read-conjunction-μ-loop
-read-conjunction-returns t c = refuses (c .before .before .before .before .before .before .loop .inv .0) (c .before .before .before .before .read-condition .ensures) (refused-is _ (c .if1 .taken))
+read-conjunction-returns t c = (
+  refuses (c .before .before .before .before .before .before .loop .inv .0) (c .before .before .before .before .read-condition .ensures .0) (refused-is _ (c .if1 .taken)),
+  c .before .before .before .before .read-condition .ensures .1,
+)
 
 read-conjunction-joined-requires : (t : ℕ) → read-conjunction-lts.Need-joined-requires (read-conjunction-claims t) (read-conjunction-at t) read-conjunction.Post read-conjunction-Inv-loop read-conjunction-μ-loop
 read-conjunction-joined-requires t c κs =
-    let k = as-read (read-is _ (c .before .before .if1 .left)) (c .before .before .before .before .before .before .read-condition .ensures .says) in
+    let k = as-read (read-is _ (c .before .before .if1 .left)) (c .before .before .before .before .before .before .read-condition .ensures .0 .says) in
     omega (arith, k .room, k .lies .order, k .lies .high, low (c .before .before .before .before .before .before .before .before .loop .inv .0) (c .before .before .before .before .before .before .before .before .before .before .pre .1 .low), c .before .before .before .before .before .before .before .before .before .before .pre .1 .small)
 
 read-conjunction-with-entries-requires : (t : ℕ) → read-conjunction-lts.Need-with-entries-requires (read-conjunction-claims t) (read-conjunction-at t) read-conjunction.Post read-conjunction-Inv-loop read-conjunction-μ-loop
@@ -312,22 +332,24 @@ read-conjunction-same-length-2 t c = omega (arith, c .before .before .before .be
 
 read-conjunction-returns-2 : (t : ℕ) → read-conjunction-lts.Need-returns-2 (read-conjunction-claims t) (read-conjunction-at t) read-conjunction.Post read-conjunction-Inv-loop read-conjunction-μ-loop
 unfolding treeEntries
-read-conjunction-returns-2 t c =
-    told-as (with-is (c .with-entries .ensures)) (stops (so-far (c .before .before .before .before .before .before .before .before .before .before .before .before .before .before .loop .inv .0) (c .before .before .before .before .before .before .before .before .before .before .before .before .read-condition .ensures) 26 (λ l u. refl) (read-is _ (c .before .before .before .before .before .before .before .before .if1 .left)) (c .before .before .before .before .before .joined .ensures)) (conjunction-step (c .before .before .before .before .before .before .before .before .before .before .before .before .before .before .before .before .args .depth)) (c .before .if2 .taken))
+read-conjunction-returns-2 t c = (
+  told-as (with-is (c .with-entries .ensures)) (stops (so-far (c .before .before .before .before .before .before .before .before .before .before .before .before .before .before .loop .inv .0) (c .before .before .before .before .before .before .before .before .before .before .before .before .read-condition .ensures .0) 26 (λ l u. refl) (read-is _ (c .before .before .before .before .before .before .before .before .if1 .left)) (c .before .before .before .before .before .joined .ensures)) (conjunction-step (c .before .before .before .before .before .before .before .before .before .before .before .before .before .before .before .before .args .depth)) (c .before .if2 .taken)),
+  with-plain (c .with-entries .ensures),
+)
 
 read-conjunction-cast-free : (t : ℕ) → read-conjunction-lts.Need-cast-free (read-conjunction-claims t) (read-conjunction-at t) read-conjunction.Post read-conjunction-Inv-loop read-conjunction-μ-loop
 unfolding treeEntries
 read-conjunction-cast-free t c =
-    let k = as-read refl (so-far (c .before .before .before .before .before .before .before .before .before .before .before .before .before .before .loop .inv .0) (c .before .before .before .before .before .before .before .before .before .before .before .before .read-condition .ensures) 26 (λ l u. refl) (read-is _ (c .before .before .before .before .before .before .before .before .if1 .left)) (c .before .before .before .before .before .joined .ensures) .done .says) in
+    let k = as-read refl (so-far (c .before .before .before .before .before .before .before .before .before .before .before .before .before .before .loop .inv .0) (c .before .before .before .before .before .before .before .before .before .before .before .before .read-condition .ensures .0) 26 (λ l u. refl) (read-is _ (c .before .before .before .before .before .before .before .before .if1 .left)) (c .before .before .before .before .before .joined .ensures) .done .says) in
     omega (arith, k .room, k .lies .order, k .lies .high, c .before .before .before .before .before .before .before .before .before .before .before .before .before .before .before .before .pre .1 .low, c .before .before .before .before .before .before .before .before .before .before .before .before .before .before .before .before .pre .1 .small)
 
 read-conjunction-loop-less : (t : ℕ) → read-conjunction-lts.Need-loop-less (read-conjunction-claims t) (read-conjunction-at t) read-conjunction.Post read-conjunction-Inv-loop read-conjunction-μ-loop
-read-conjunction-loop-less t c = let k = as-read (read-is _ (c .before .before .before .before .before .before .before .before .if1 .left)) (c .before .before .before .before .before .before .before .before .before .before .before .before .read-condition .ensures .says) in omega (arith, k .lies .low, k .lies .order, k .lies .high)
+read-conjunction-loop-less t c = let k = as-read (read-is _ (c .before .before .before .before .before .before .before .before .if1 .left)) (c .before .before .before .before .before .before .before .before .before .before .before .before .read-condition .ensures .0 .says) in omega (arith, k .lies .low, k .lies .order, k .lies .high)
 
 read-conjunction-loop-again : (t : ℕ) → read-conjunction-lts.Need-loop-again (read-conjunction-claims t) (read-conjunction-at t) read-conjunction.Post read-conjunction-Inv-loop read-conjunction-μ-loop
 unfolding treeEntries
 read-conjunction-loop-again t c = (
-  turn (so-far (c .before .before .before .before .before .before .before .before .before .before .before .before .before .before .loop .inv .0) (c .before .before .before .before .before .before .before .before .before .before .before .before .read-condition .ensures) 26 (λ l u. refl) (read-is _ (c .before .before .before .before .before .before .before .before .if1 .left)) (c .before .before .before .before .before .joined .ensures)) (conjunction-step (c .before .before .before .before .before .before .before .before .before .before .before .before .before .before .before .before .args .depth)) (omega arith) (c .before .if2 .left),
+  turn (so-far (c .before .before .before .before .before .before .before .before .before .before .before .before .before .before .loop .inv .0) (c .before .before .before .before .before .before .before .before .before .before .before .before .read-condition .ensures .0) 26 (λ l u. refl) (read-is _ (c .before .before .before .before .before .before .before .before .if1 .left)) (c .before .before .before .before .before .joined .ensures)) (conjunction-step (c .before .before .before .before .before .before .before .before .before .before .before .before .before .before .before .before .args .depth)) (omega arith) (c .before .if2 .left),
   omega (arith, c .before .before .before .before .before .joined .kept, c .before .before .before .before .before .before .before .before .before .before .before .before .read-condition .kept, c .before .before .before .before .before .before .before .before .before .before .before .before .before .before .loop .inv .1),
 )
 
@@ -349,11 +371,14 @@ read-disjunction-same-length : (t : ℕ) → read-disjunction-lts.Need-same-leng
 read-disjunction-same-length t c = omega (arith, c .before .before .before .before .read-conjunction .kept, c .before .before .before .before .before .before .loop .inv .1)
 
 read-disjunction-returns : (t : ℕ) → read-disjunction-lts.Need-returns (read-disjunction-claims t) (read-disjunction-at t) read-disjunction.Post read-disjunction-Inv-loop read-disjunction-μ-loop
-read-disjunction-returns t c = refuses (c .before .before .before .before .before .before .loop .inv .0) (c .before .before .before .before .read-conjunction .ensures) (refused-is _ (c .if1 .taken))
+read-disjunction-returns t c = (
+  refuses (c .before .before .before .before .before .before .loop .inv .0) (c .before .before .before .before .read-conjunction .ensures .0) (refused-is _ (c .if1 .taken)),
+  c .before .before .before .before .read-conjunction .ensures .1,
+)
 
 read-disjunction-joined-requires : (t : ℕ) → read-disjunction-lts.Need-joined-requires (read-disjunction-claims t) (read-disjunction-at t) read-disjunction.Post read-disjunction-Inv-loop read-disjunction-μ-loop
 read-disjunction-joined-requires t c κs =
-    let k = as-read (read-is _ (c .before .before .if1 .left)) (c .before .before .before .before .before .before .read-conjunction .ensures .says) in
+    let k = as-read (read-is _ (c .before .before .if1 .left)) (c .before .before .before .before .before .before .read-conjunction .ensures .0 .says) in
     omega (arith, k .room, k .lies .order, k .lies .high, low (c .before .before .before .before .before .before .before .before .loop .inv .0) (c .before .before .before .before .before .before .before .before .before .before .pre .1 .low), c .before .before .before .before .before .before .before .before .before .before .pre .1 .small)
 
 read-disjunction-with-entries-requires : (t : ℕ) → read-disjunction-lts.Need-with-entries-requires (read-disjunction-claims t) (read-disjunction-at t) read-disjunction.Post read-disjunction-Inv-loop read-disjunction-μ-loop
@@ -364,22 +389,24 @@ read-disjunction-same-length-2 t c = omega (arith, c .before .before .before .be
 
 read-disjunction-returns-2 : (t : ℕ) → read-disjunction-lts.Need-returns-2 (read-disjunction-claims t) (read-disjunction-at t) read-disjunction.Post read-disjunction-Inv-loop read-disjunction-μ-loop
 unfolding treeEntries
-read-disjunction-returns-2 t c =
-    told-as (with-is (c .with-entries .ensures)) (stops (so-far (c .before .before .before .before .before .before .before .before .before .before .before .before .before .before .loop .inv .0) (c .before .before .before .before .before .before .before .before .before .before .before .before .read-conjunction .ensures) 27 (λ l u. refl) (read-is _ (c .before .before .before .before .before .before .before .before .if1 .left)) (c .before .before .before .before .before .joined .ensures)) (disjunction-step (c .before .before .before .before .before .before .before .before .before .before .before .before .before .before .before .before .args .depth)) (c .before .if2 .taken))
+read-disjunction-returns-2 t c = (
+  told-as (with-is (c .with-entries .ensures)) (stops (so-far (c .before .before .before .before .before .before .before .before .before .before .before .before .before .before .loop .inv .0) (c .before .before .before .before .before .before .before .before .before .before .before .before .read-conjunction .ensures .0) 27 (λ l u. refl) (read-is _ (c .before .before .before .before .before .before .before .before .if1 .left)) (c .before .before .before .before .before .joined .ensures)) (disjunction-step (c .before .before .before .before .before .before .before .before .before .before .before .before .before .before .before .before .args .depth)) (c .before .if2 .taken)),
+  with-plain (c .with-entries .ensures),
+)
 
 read-disjunction-cast-free : (t : ℕ) → read-disjunction-lts.Need-cast-free (read-disjunction-claims t) (read-disjunction-at t) read-disjunction.Post read-disjunction-Inv-loop read-disjunction-μ-loop
 unfolding treeEntries
 read-disjunction-cast-free t c =
-    let k = as-read refl (so-far (c .before .before .before .before .before .before .before .before .before .before .before .before .before .before .loop .inv .0) (c .before .before .before .before .before .before .before .before .before .before .before .before .read-conjunction .ensures) 27 (λ l u. refl) (read-is _ (c .before .before .before .before .before .before .before .before .if1 .left)) (c .before .before .before .before .before .joined .ensures) .done .says) in
+    let k = as-read refl (so-far (c .before .before .before .before .before .before .before .before .before .before .before .before .before .before .loop .inv .0) (c .before .before .before .before .before .before .before .before .before .before .before .before .read-conjunction .ensures .0) 27 (λ l u. refl) (read-is _ (c .before .before .before .before .before .before .before .before .if1 .left)) (c .before .before .before .before .before .joined .ensures) .done .says) in
     omega (arith, k .room, k .lies .order, k .lies .high, c .before .before .before .before .before .before .before .before .before .before .before .before .before .before .before .before .pre .1 .low, c .before .before .before .before .before .before .before .before .before .before .before .before .before .before .before .before .pre .1 .small)
 
 read-disjunction-loop-less : (t : ℕ) → read-disjunction-lts.Need-loop-less (read-disjunction-claims t) (read-disjunction-at t) read-disjunction.Post read-disjunction-Inv-loop read-disjunction-μ-loop
-read-disjunction-loop-less t c = let k = as-read (read-is _ (c .before .before .before .before .before .before .before .before .if1 .left)) (c .before .before .before .before .before .before .before .before .before .before .before .before .read-conjunction .ensures .says) in omega (arith, k .lies .low, k .lies .order, k .lies .high)
+read-disjunction-loop-less t c = let k = as-read (read-is _ (c .before .before .before .before .before .before .before .before .if1 .left)) (c .before .before .before .before .before .before .before .before .before .before .before .before .read-conjunction .ensures .0 .says) in omega (arith, k .lies .low, k .lies .order, k .lies .high)
 
 read-disjunction-loop-again : (t : ℕ) → read-disjunction-lts.Need-loop-again (read-disjunction-claims t) (read-disjunction-at t) read-disjunction.Post read-disjunction-Inv-loop read-disjunction-μ-loop
 unfolding treeEntries
 read-disjunction-loop-again t c = (
-  turn (so-far (c .before .before .before .before .before .before .before .before .before .before .before .before .before .before .loop .inv .0) (c .before .before .before .before .before .before .before .before .before .before .before .before .read-conjunction .ensures) 27 (λ l u. refl) (read-is _ (c .before .before .before .before .before .before .before .before .if1 .left)) (c .before .before .before .before .before .joined .ensures)) (disjunction-step (c .before .before .before .before .before .before .before .before .before .before .before .before .before .before .before .before .args .depth)) (omega arith) (c .before .if2 .left),
+  turn (so-far (c .before .before .before .before .before .before .before .before .before .before .before .before .before .before .loop .inv .0) (c .before .before .before .before .before .before .before .before .before .before .before .before .read-conjunction .ensures .0) 27 (λ l u. refl) (read-is _ (c .before .before .before .before .before .before .before .before .if1 .left)) (c .before .before .before .before .before .joined .ensures)) (disjunction-step (c .before .before .before .before .before .before .before .before .before .before .before .before .before .before .before .before .args .depth)) (omega arith) (c .before .if2 .left),
   omega (arith, c .before .before .before .before .before .joined .kept, c .before .before .before .before .before .before .before .before .before .before .before .before .read-conjunction .kept, c .before .before .before .before .before .before .before .before .before .before .before .before .before .before .loop .inv .1),
 )
 
@@ -391,10 +418,14 @@ read-group-same-length t c = search needs
 
 read-group-returns : (t : ℕ) → read-group-lts.Need-returns (read-group-claims t) (read-group-at t) read-group.Post
 unfolding read-bracketed before mapped
-read-group-returns t c = let e = refused-is _ (c .if1 .taken) in told-as e (turned-done (turned-bind _ (turned-bind _ (as-refused e (c .before .before .before .before .read-disjunction .ensures .says)))))
+read-group-returns t c =
+    let e = refused-is _ (c .if1 .taken) in (
+      told-as e (turned-done (turned-bind _ (turned-bind _ (as-refused e (c .before .before .before .before .read-disjunction .ensures .0 .says))))),
+      c .before .before .before .before .read-disjunction .ensures .1,
+    )
 
 read-group-stopped-requires : (t : ℕ) → read-group-lts.Need-stopped-requires (read-group-claims t) (read-group-at t) read-group.Post
-read-group-stopped-requires t c κs = as-read (read-is _ (c .before .before .before .if1 .left)) (c .before .before .before .before .before .before .before .read-disjunction .ensures .says) .lies .order
+read-group-stopped-requires t c κs = as-read (read-is _ (c .before .before .before .if1 .left)) (c .before .before .before .before .before .before .before .read-disjunction .ensures .0 .says) .lies .order
 
 read-group-same-length-2 : (t : ℕ) → read-group-lts.Need-same-length-2 (read-group-claims t) (read-group-at t) read-group.Post
 read-group-same-length-2 t c = search needs
@@ -402,25 +433,27 @@ read-group-same-length-2 t c = search needs
 read-group-returns-2 : (t : ℕ) → read-group-lts.Need-returns-2 (read-group-claims t) (read-group-at t) read-group.Post
 unfolding read-bracketed before mapped
 read-group-returns-2 t c =
-    let d = fails 41 (omega arith) (read-is _ (c .before .before .before .before .if1 .left)) (c .before .before .before .before .before .before .before .before .read-disjunction .ensures) (c .before .before .if2 .taken) refl in
-    told-as (c .stopped .ensures) (turned-done (turned-bind _ (as-refused refl (d .says))))
+    let d = fails 41 (omega arith) (read-is _ (c .before .before .before .before .if1 .left)) (c .before .before .before .before .before .before .before .before .read-disjunction .ensures .0) (c .before .before .if2 .taken) refl in (
+      told-as (short-is (c .stopped .ensures)) (turned-done (turned-bind _ (as-refused refl (d .says)))),
+      short-plain _ (c .stopped .ensures),
+    )
 
 read-group-token-at-requires : (t : ℕ) → read-group-lts.Need-token-at-requires (read-group-claims t) (read-group-at t) read-group.Post
-read-group-token-at-requires t c κs = (c .before .before .before .before .before .before .before .before .before .pre .1 .table, as-read (read-is _ (c .before .before .if1 .left)) (c .before .before .before .before .before .before .read-disjunction .ensures .says) .lies .high)
+read-group-token-at-requires t c κs = (c .before .before .before .before .before .before .before .before .before .pre .1 .table, as-read (read-is _ (c .before .before .if1 .left)) (c .before .before .before .before .before .before .read-disjunction .ensures .0 .says) .lies .high)
 
 read-group-cast-append : (t : ℕ) → read-group-lts.Need-cast-append (read-group-claims t) (read-group-at t) read-group.Post
 read-group-cast-append t c =
-    let k = as-read (read-is _ (c .before .before .before .before .before .before .if1 .left)) (c .before .before .before .before .before .before .before .before .before .before .read-disjunction .ensures .says) in
+    let k = as-read (read-is _ (c .before .before .before .before .before .before .if1 .left)) (c .before .before .before .before .before .before .before .before .before .before .read-disjunction .ensures .0 .says) in
     omega (arith, k .room, k .lies .order, k .lies .high, c .before .before .before .before .before .before .before .before .before .before .before .before .before .pre .1 .low, c .before .before .before .before .before .before .before .before .before .before .before .before .before .pre .1 .small)
 
 read-group-append-requires : (t : ℕ) → read-group-lts.Need-append-requires (read-group-claims t) (read-group-at t) read-group.Post
 read-group-append-requires t c κs =
-    let k = as-read (read-is _ (c .before .before .before .before .before .before .if1 .left)) (c .before .before .before .before .before .before .before .before .before .before .read-disjunction .ensures .says) in
+    let k = as-read (read-is _ (c .before .before .before .before .before .before .if1 .left)) (c .before .before .before .before .before .before .before .before .before .before .read-disjunction .ensures .0 .says) in
     omega (arith, k .room, k .lies .order, k .lies .high, c .before .before .before .before .before .before .before .before .before .before .before .before .before .pre .1 .low, c .before .before .before .before .before .before .before .before .before .before .before .before .before .pre .1 .small)
 
 read-group-add-t21 : (t : ℕ) → read-group-lts.Need-add-t21 (read-group-claims t) (read-group-at t) read-group.Post
 read-group-add-t21 t c =
-    let k = as-read (read-is _ (c .before .before .before .before .before .before .before .before .before .before .if1 .left)) (c .before .before .before .before .before .before .before .before .before .before .before .before .before .before .read-disjunction .ensures .says) in
+    let k = as-read (read-is _ (c .before .before .before .before .before .before .before .before .before .before .if1 .left)) (c .before .before .before .before .before .before .before .before .before .before .before .before .before .before .read-disjunction .ensures .0 .says) in
     omega (arith, k .room, k .lies .order, k .lies .high, c .before .before .before .before .before .before .before .before .before .before .before .before .before .before .before .before .before .pre .1 .low, c .before .before .before .before .before .before .before .before .before .before .before .before .before .before .before .before .before .pre .1 .small)
 
 read-group-same-length-3 : (t : ℕ) → read-group-lts.Need-same-length-3 (read-group-claims t) (read-group-at t) read-group.Post
@@ -428,10 +461,12 @@ read-group-same-length-3 t c = search needs
 
 read-group-returns-3 : (t : ℕ) → read-group-lts.Need-returns-3 (read-group-claims t) (read-group-at t) read-group.Post
 unfolding read-bracketed before mapped treeEntries
-read-group-returns-3 t c =
-    told-as (with-is refl)
-    (closing-read [] brackets (kept-none _ _ _ _) (entry 25 0 0) (λ v. refl) (omega (arith, c .before .before .before .before .before .before .before .before .before .before .before .before .before .before .before .before .before .pre .1 .low)) refl
-    (follows 41 (omega arith) (read-is _ (c .before .before .before .before .before .before .before .before .before .before .if1 .left)) (c .before .before .before .before .before .before .before .before .before .before .before .before .before .before .read-disjunction .ensures) (c .before .before .before .before .before .before .before .before .if2 .left) (c .before .before .before .before .before .before .before .token-at .ensures .0)) (c .before .before .before .append .ensures))
+read-group-returns-3 t c = (
+  told-as (with-is refl)
+      (closing-read [] brackets (kept-none _ _ _ _) (entry 25 0 0) (λ v. refl) (omega (arith, c .before .before .before .before .before .before .before .before .before .before .before .before .before .before .before .before .before .pre .1 .low)) refl
+      (follows 41 (omega arith) (read-is _ (c .before .before .before .before .before .before .before .before .before .before .if1 .left)) (c .before .before .before .before .before .before .before .before .before .before .before .before .before .before .read-disjunction .ensures .0) (c .before .before .before .before .before .before .before .before .if2 .left) (c .before .before .before .before .before .before .before .token-at .ensures .0)) (c .before .before .before .append .ensures)),
+  with-plain refl,
+)
 
 read-negation-read-condition-requires : (t : ℕ) → read-negation-lts.Need-read-condition-requires (read-negation-claims t) (read-negation-at t) read-negation.Post
 read-negation-read-condition-requires t c κs = (omega (arith, c .before .before .pre .0), at-place (c .before .before .pre .1) (omega (arith, c .before .before .pre .1 .low)) (c .before .before .pre .1 .high))
@@ -441,21 +476,25 @@ read-negation-same-length t c = search needs
 
 read-negation-returns : (t : ℕ) → read-negation-lts.Need-returns (read-negation-claims t) (read-negation-at t) read-negation.Post
 unfolding read-negated mapped
-read-negation-returns t c = let e = refused-is _ (c .if1 .taken) in told-as e (turned-done (turned-bind _ (as-refused e (c .before .before .before .before .read-condition .ensures .says))))
+read-negation-returns t c =
+    let e = refused-is _ (c .if1 .taken) in (
+      told-as e (turned-done (turned-bind _ (as-refused e (c .before .before .before .before .read-condition .ensures .0 .says)))),
+      c .before .before .before .before .read-condition .ensures .1,
+    )
 
 read-negation-cast-append : (t : ℕ) → read-negation-lts.Need-cast-append (read-negation-claims t) (read-negation-at t) read-negation.Post
 read-negation-cast-append t c =
-    let k = as-read (read-is _ (c .before .before .before .if1 .left)) (c .before .before .before .before .before .before .before .read-condition .ensures .says) in
+    let k = as-read (read-is _ (c .before .before .before .if1 .left)) (c .before .before .before .before .before .before .before .read-condition .ensures .0 .says) in
     omega (arith, k .room, k .lies .order, k .lies .high, c .before .before .before .before .before .before .before .before .before .before .pre .1 .low, c .before .before .before .before .before .before .before .before .before .before .pre .1 .small)
 
 read-negation-append-requires : (t : ℕ) → read-negation-lts.Need-append-requires (read-negation-claims t) (read-negation-at t) read-negation.Post
 read-negation-append-requires t c κs =
-    let k = as-read (read-is _ (c .before .before .before .if1 .left)) (c .before .before .before .before .before .before .before .read-condition .ensures .says) in
+    let k = as-read (read-is _ (c .before .before .before .if1 .left)) (c .before .before .before .before .before .before .before .read-condition .ensures .0 .says) in
     omega (arith, k .room, k .lies .order, k .lies .high, c .before .before .before .before .before .before .before .before .before .before .pre .1 .low, c .before .before .before .before .before .before .before .before .before .before .pre .1 .small)
 
 read-negation-add-with-entries : (t : ℕ) → read-negation-lts.Need-add-with-entries (read-negation-claims t) (read-negation-at t) read-negation.Post
 read-negation-add-with-entries t c =
-    let k = as-read (read-is _ (c .before .before .before .before .before .before .before .if1 .left)) (c .before .before .before .before .before .before .before .before .before .before .before .read-condition .ensures .says) in
+    let k = as-read (read-is _ (c .before .before .before .before .before .before .before .if1 .left)) (c .before .before .before .before .before .before .before .before .before .before .before .read-condition .ensures .0 .says) in
     omega (arith, k .room, k .lies .order, k .lies .high, c .before .before .before .before .before .before .before .before .before .before .before .before .before .before .pre .1 .low, c .before .before .before .before .before .before .before .before .before .before .before .before .before .before .pre .1 .small)
 
 read-negation-with-entries-requires : (t : ℕ) → read-negation-lts.Need-with-entries-requires (read-negation-claims t) (read-negation-at t) read-negation.Post
@@ -466,9 +505,11 @@ read-negation-same-length-2 t c = search needs
 
 read-negation-returns-2 : (t : ℕ) → read-negation-lts.Need-returns-2 (read-negation-claims t) (read-negation-at t) read-negation.Post
 unfolding read-negated mapped treeEntries
-read-negation-returns-2 t c =
-    told-as (with-is (c .with-entries .ensures))
-    (closing-read [] not (kept-none _ _ _ _) (entry 24 0 0) (λ v. refl) (omega (arith, c .before .before .before .before .before .before .before .before .before .before .before .before .before .before .before .pre .1 .low)) (read-is _ (c .before .before .before .before .before .before .before .before .if1 .left)) (c .before .before .before .before .before .before .before .before .before .before .before .before .read-condition .ensures) (c .before .before .before .before .append .ensures))
+read-negation-returns-2 t c = (
+  told-as (with-is (c .with-entries .ensures))
+      (closing-read [] not (kept-none _ _ _ _) (entry 24 0 0) (λ v. refl) (omega (arith, c .before .before .before .before .before .before .before .before .before .before .before .before .before .before .before .pre .1 .low)) (read-is _ (c .before .before .before .before .before .before .before .before .if1 .left)) (c .before .before .before .before .before .before .before .before .before .before .before .before .read-condition .ensures .0) (c .before .before .before .before .append .ensures)),
+  with-plain (c .with-entries .ensures),
+)
 
 pub +read-choice+read-condition+read-conjunction+read-disjunction+read-group+read-negation-spec : {M : Type 1} → statement M
 +read-choice+read-condition+read-conjunction+read-disjunction+read-group+read-negation-spec = close μ-read-choice μ-read-condition μ-read-conjunction μ-read-disjunction μ-read-group μ-read-negation

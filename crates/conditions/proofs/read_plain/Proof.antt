@@ -3,6 +3,7 @@ use native.Mathlib.Omega.{arith}
 use borrow.Author.Needs.{needs}
 use Rattle.parts.proofs.Writing.{free-small}
 use Rattle.conditions.proofs.Earlier.{told-as}
+use Rattle.conditions.proofs.Shorter.{short-is, short-plain}
 use Rattle.conditions.proofs.read_plain.Statement.{statement}
 use Rattle.conditions.proofs.read_plain.Tie as tie
 
@@ -18,7 +19,7 @@ same-length : tie.Need-same-length
 same-length c = search needs
 
 returns : tie.Need-returns
-returns c = told-as (c .shortened .ensures) (c .before .before .before .read-flat .ensures)
+returns c = (told-as (short-is (c .shortened .ensures)) (c .before .before .before .read-flat .ensures), short-plain _ (c .shortened .ensures))
 
 pub read-plain-spec : {M : Type 1} → statement M
 read-plain-spec = tie.close (tie.spec read-flat-requires shortened-requires same-length returns)

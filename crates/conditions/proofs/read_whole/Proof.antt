@@ -14,7 +14,7 @@ same-length : tie.Need-same-length
 same-length c = search needs
 
 returns : tie.Need-returns
-returns c = told-as (c .widened .ensures) (c .before .before .before .read-disjunction .ensures)
+returns c = told-as (c .widened .ensures) (c .before .before .before .read-disjunction .ensures .0)
 
 pub read-whole-spec : {M : Type 1} → statement M
 read-whole-spec = tie.close (tie.spec read-disjunction-requires widened-requires same-length returns)
