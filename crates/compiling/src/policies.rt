@@ -2,7 +2,7 @@
 ghost use mathlib.Core.Path.{_≡_};
 ghost use mathlib.Core.Bool.{true};
 ghost use mathlib.Core.List.{[], _∷_};
-ghost use Prim.Native.Nat.{ℕ, _+_, _-_, _<_, _^_};
+ghost use Prim.Native.Nat.{ℕ, _+_, _-_, _≤_};
 ghost use lib.ListN.{length};
 ghost use Rattle.tokens.specs.Table.{classTable};
 ghost use Rattle.reading.specs.Lexemes.{lexeme, stream, tokensOf};
@@ -13,7 +13,7 @@ ghost use Rattle.table.specs.Entries.{partEntry, actionEntries, conditionEntrie
 ghost use Rattle.tokens.specs.Kinds as kinds;
 ghost use Rattle.parts.specs.Answers.{Ready, Done};
 ghost use Rattle.compiling.specs.Whole.{Told};
-use conditions::read_disjunction;
+use conditions::read_whole;
 use heads::read_action;
 use heads::read_principal;
 use heads::read_resource;
@@ -133,7 +133,7 @@ fn read_when(
     number: usize,
     same: bool,
 ) -> Answer
-    requires { ⌜ Ready (now classes) (now text) (number + 1) t ⌝ }
+    requires { ⌜ Ready (now classes) (now text) (number + 1) t × (length (now text) ≤ 8192) ⌝ }
     ensures { λ r. ⌜ Done conditionEntries (now (text .entry)) (now (seen .entry)) (t .start - 1) number same (now (table .entry)) (now (table .exit))
         (read-when (stream (now (text .entry)) t)) r ⌝ }
 {
@@ -144,7 +144,7 @@ fn read_when(
     if next.kind != b'{' {
         return Answer::Refused(turned_away(text, next, 10));
     }
-    let inside = read_disjunction(classes, text, table, seen, next.end, 31, number, same);
+    let inside = read_whole(classes, text, table, seen, next.end, 31, number, same);
     expected(classes, text, inside, b'}')
 }
 
@@ -159,7 +159,7 @@ fn read_policy(
     number: usize,
     same: bool,
 ) -> Answer
-    requires { ⌜ Ready (now classes) (now text) (number + 1) t ⌝ }
+    requires { ⌜ Ready (now classes) (now text) (number + 1) t × (length (now text) ≤ 8192) ⌝ }
     ensures { λ r. ⌜ Done policyEntries (now (text .entry)) (now (seen .entry)) (t .start - 1) number same (now (table .entry)) (now (table .exit))
         (read-policy permits (stream (now (text .entry)) t)) r ⌝ }
 {
@@ -191,7 +191,7 @@ fn read_policy(
 
 // A whole text: its entries are put into the one table and compared with the other.
 pub fn read_all(classes: &[u8; 256], text: &[u8], table: &mut [u8], seen: &[u8]) -> Whole
-    requires { ⌜ (now classes ≡ classTable) × (length (now text) < 2 ^ 60) ⌝ }
+    requires { ⌜ (now classes ≡ classTable) × (length (now text) ≤ 8192) ⌝ }
     ensures { λ r. ⌜ Told (now (text .entry)) (now (seen .entry)) (now (table .entry)) (now (table .exit)) (read-text (tokensOf (now (text .entry)))) r ⌝ }
 {
     let mut t = next_token(classes, text, 0);

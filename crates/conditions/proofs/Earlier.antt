@@ -25,7 +25,7 @@ pub at-place : {classes text : List ℕ} {from low at at′ : ℕ} → ReadyAt c
 at-place b l h = record { table = b .table; low = l; high = h; small = b .small }
 
 pub ready-from : {classes text : List ℕ} {from at : ℕ} {t : Token} → ReadyAt classes text from at → Reads text at t → Ready classes text from t
-ready-from b r = record { table = b .table; lies = lowered (b .low) r; small = b .small }
+ready-from b r = record { table = b .table; lies = lowered (b .low) r; small = let x = b .small in omega arith }
 
 module _ {A : Type 0} {es : ℕ → A → List Entry} {text seen : List ℕ} {first : ℕ} {same : Bool} where
   weaker-says : {from′ from : ℕ} {p : reader.Answer A} {r : Answer} → from′ ≤ from → Says es text seen from first same p r → Says es text seen from′ first same p r

@@ -1,4 +1,5 @@
 pub mod Earlier
+pub mod Shorter
 pub mod Apart
 pub mod Chains
 pub mod Forms

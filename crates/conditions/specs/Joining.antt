@@ -2,7 +2,7 @@
 use mathlib.Core.Path.{_≡_}
 use mathlib.Core.Bool.{Bool, true, false, cond, _&&_}
 use mathlib.Core.List.{List}
-use Prim.Native.Nat.{ℕ, _+_, _^_, _≤_, _<_}
+use Prim.Native.Nat.{ℕ, _+_, _≤_}
 use lib.Dec.{eqb}
 use lib.ListN.{length}
 use Rattle.tokens.specs.Kinds as kinds
@@ -16,7 +16,7 @@ pub record ReadyAt (classes text : List ℕ) (from at : ℕ) : Type 0 where
   pub table : classes ≡ classTable
   pub low : from ≤ at
   pub high : at ≤ length text
-  pub small : length text < 2 ^ 60
+  pub small : length text ≤ 8192
 
 -- the first part of a chain stands alone; after any other there is one entry more
 pub record Joins (seen : List ℕ) (more : Bool) (x : Entry) (free : ℕ) (same : Bool) (old new : List ℕ) (r : Count) : Type 0 where

@@ -1,18 +1,23 @@
 // The readers of conditions. They call each other, at most `depth` levels deep: so many levels may still stand inside what is read. Chains of `&&` and `||` are loops,
 // and so are the three parts of a choice. Each gets the place from which the next token is read, puts the entries of what it reads into one table and compares them
-// with another. They take an answer apart as soon as they get it: their frames then hold little, and these are what nested conditions cost on the stack.
+// with another. Their frames are what nested conditions cost on the stack, so they hold little: the text and the table that is seen are lent by a reference to their
+// slice, of which no level then needs a copy, answers are short, and a token that is handed on is taken apart before.
 ghost use mathlib.Core.Path.{_≡_};
 ghost use mathlib.Core.List.{[]};
-ghost use Prim.Native.Nat.{ℕ, _+_, _-_, _<_, _^_};
-ghost use Rattle.tokens.specs.Tokens.{tokenAt};
+ghost use Prim.Native.Nat.{ℕ, _+_, _-_, _<_, _≤_};
+ghost use lib.ListN.{length};
+ghost use Rattle.tokens.specs.Table.{classTable};
+ghost use Rattle.tokens.specs.Tokens.{tokenAt, Reads};
 ghost use Rattle.reading.specs.Lexemes.{lexeme, stream};
 ghost use Rattle.grammar.specs.Parser.{noLevel, read-condition, read-conjunction, read-disjunction, read-negated, read-bracketed, read-conditional};
 ghost use Rattle.table.specs.Entries.{treeEntries};
-ghost use Rattle.parts.specs.Answers.{Ready, Done};
+ghost use Rattle.parts.specs.Answers.{Ready, Done, freeOf, turnedAway};
 ghost use Rattle.conditions.specs.Joining.{ReadyAt, Joins, wordAfter};
+ghost use Rattle.conditions.specs.Shortened.{wide, shortOf, token, tokenOf, withEntries};
 use leaves::read_operator;
 use leaves::read_rooted;
 use parts::answers::Answer;
+use parts::answers::Refusal;
 use parts::answers::turned_away;
 use parts::lists::is_literal;
 use parts::lists::literal_entry;
@@ -23,10 +28,100 @@ use tokens::kinds;
 use tokens::reader::Token;
 use tokens::reader::next_token;
 
+// An answer in half the bytes. Where something was read: whether the table that is seen has the entries so far, the kind of the token after what was read, the next
+// free entry, and where that token starts and ends. Where nothing was, a refusal: `kind` is its number, `start` the place and `end` the size of the token.
+pub struct Short {
+    pub read: bool,
+    pub same: bool,
+    pub kind: u8,
+    pub free: u16,
+    pub start: usize,
+    pub end: usize,
+}
+
 // The next free entry, and whether the table that is seen has the entries so far.
 pub struct Count {
-    pub free: usize,
+    pub free: u16,
     pub same: bool,
+}
+
+// An answer as a short one.
+fn shortened(a: Answer) -> Short
+    requires { ⌜ freeOf a < 65536 ⌝ }
+    ensures { λ r. ⌜ r ≡ shortOf a ⌝ }
+{
+    match a {
+        Answer::Read(t, free, same) => Short {
+            read: true,
+            same,
+            kind: t.kind,
+            free: free as u16,
+            start: t.start,
+            end: t.end,
+        },
+        Answer::Refused(f) => Short {
+            read: false,
+            same: false,
+            kind: f.number,
+            free: 0,
+            start: f.start,
+            end: f.size,
+        },
+    }
+}
+
+// The answer that a short one stands for.
+fn widened(a: Short) -> Answer
+    ensures { λ r. ⌜ r ≡ wide a ⌝ }
+{
+    if a.read {
+        let t = Token {
+            kind: a.kind,
+            start: a.start,
+            end: a.end,
+        };
+        return Answer::Read(t, a.free as usize, a.same);
+    }
+    Answer::Refused(Refusal {
+        number: a.kind,
+        start: a.start,
+        size: a.end,
+    })
+}
+
+// The same token after what was read, and other entries.
+fn with_entries(a: Short, free: u16, same: bool) -> Short
+    ensures { λ r. ⌜ r ≡ withEntries a free same ⌝ }
+{
+    Short {
+        read: true,
+        same,
+        kind: a.kind,
+        free,
+        start: a.start,
+        end: a.end,
+    }
+}
+
+// The refusal by 10 of the token after what was read.
+fn stopped(text: &[u8], a: Short) -> Short
+    requires { ⌜ a .start ≤ a .end ⌝ }
+    ensures { λ r. ⌜ r ≡ shortOf (Answer.Refused (turnedAway (length (now (text .entry))) 10 (tokenOf a))) ⌝ }
+{
+    let t = Token {
+        kind: a.kind,
+        start: a.start,
+        end: a.end,
+    };
+    shortened(Answer::Refused(turned_away(text, t, 10)))
+}
+
+// The token that is read from a place on.
+fn token_at(classes: &[u8; 256], text: &&[u8], from: usize) -> Token
+    requires { ⌜ (now classes ≡ classTable) × (from ≤ length (now (now text))) ⌝ }
+    ensures { λ r. ⌜ (r ≡ tokenAt (now (now (text .entry))) from) × Reads (now (now (text .entry))) from r ⌝ }
+{
+    next_token(classes, *text, from)
 }
 
 // The number by which a token is refused where a condition must stand and no level is left.
@@ -49,12 +144,12 @@ fn word_after(word: u8) -> u8
 }
 
 // The entries after a part of a chain: where it is not the first, one more joins it to those before.
-fn joined(table: &mut [u8], seen: &[u8], free: usize, same: bool, more: bool, x: Entry) -> Count
-    requires { ⌜ free < 2 ^ 60 ⌝ }
+fn joined(table: &mut [u8], seen: &[u8], free: u16, same: bool, more: bool, x: Entry) -> Count
+    requires { ⌜ free < 65535 ⌝ }
     ensures { λ r. ⌜ Joins (now (seen .entry)) more x free same (now (table .entry)) (now (table .exit)) r ⌝ }
 {
     if more {
-        let ok = append(table, seen, free, same, x);
+        let ok = append(table, seen, free as usize, same, x);
         Count {
             free: free + 1,
             same: ok,
@@ -97,7 +192,30 @@ fn read_flat(
     Answer::Refused(turned_away(text, t, no_level(t)))
 }
 
-pub fn read_disjunction(
+// The same with a short answer, from the parts of the first token: a token that is handed on whole would stay on the stack at every level.
+fn read_plain(
+    classes: &[u8; 256],
+    text: &&[u8],
+    table: &mut [u8],
+    seen: &&[u8],
+    kind: u8,
+    start: usize,
+    end: usize,
+    number: usize,
+    same: bool,
+) -> Short
+    requires { ⌜ Ready (now classes) (now (now text)) number (token kind start end) × (length (now (now text)) ≤ 8192) ⌝ }
+    ensures done { λ r. ⌜ Done treeEntries (now (now (text .entry))) (now (now (seen .entry))) start number same (now (table .entry)) (now (table .exit))
+        (read-condition 0 (stream (now (now (text .entry))) (token kind start end))) (wide r) ⌝ }
+    ensures plain { λ r. ⌜ r ≡ shortOf (wide r) ⌝ }
+{
+    let t = Token { kind, start, end };
+    let a = read_flat(classes, *text, table, *seen, t, number, same);
+    shortened(a)
+}
+
+// The disjunction from a place on, for callers outside: it takes slices, and its answer is no short one.
+pub fn read_whole(
     classes: &[u8; 256],
     text: &[u8],
     table: &mut [u8],
@@ -111,20 +229,39 @@ pub fn read_disjunction(
     ensures { λ r. ⌜ Done treeEntries (now (text .entry)) (now (seen .entry)) from number same (now (table .entry)) (now (table .exit))
         (read-disjunction (read-condition depth) (stream (now (text .entry)) (tokenAt (now (text .entry)) from))) r ⌝ }
 {
+    let all = read_disjunction(classes, &text, table, &seen, from, depth, number, same);
+    widened(all)
+}
+
+fn read_disjunction(
+    classes: &[u8; 256],
+    text: &&[u8],
+    table: &mut [u8],
+    seen: &&[u8],
+    from: usize,
+    depth: usize,
+    number: usize,
+    same: bool,
+) -> Short
+    requires { ⌜ ReadyAt (now classes) (now (now text)) number from ⌝ }
+    ensures done { λ r. ⌜ Done treeEntries (now (now (text .entry))) (now (now (seen .entry))) from number same (now (table .entry)) (now (table .exit))
+        (read-disjunction (read-condition depth) (stream (now (now (text .entry))) (tokenAt (now (now (text .entry))) from))) (wide r) ⌝ }
+    ensures plain { λ r. ⌜ r ≡ shortOf (wide r) ⌝ }
+{
     let mut at = from;
     let mut free = number;
     let mut ok = same;
     let mut more = false;
     loop {
         let part = read_conjunction(classes, text, table, seen, at, depth, free, ok);
-        let Answer::Read(mark, n, o) = part else {
+        if !part.read {
             return part;
-        };
+        }
         let count = joined(
             table,
-            seen,
-            n,
-            o,
+            *seen,
+            part.free,
+            part.same,
             more,
             Entry {
                 kind: 27,
@@ -132,29 +269,30 @@ pub fn read_disjunction(
                 second: 0,
             },
         );
-        if mark.kind != kinds::OR {
-            return Answer::Read(mark, count.free, count.same);
+        if part.kind != kinds::OR {
+            return with_entries(part, count.free, count.same);
         }
-        at = mark.end;
-        free = count.free;
+        at = part.end;
+        free = count.free as usize;
         ok = count.same;
         more = true;
     }
 }
 
-pub fn read_conjunction(
+fn read_conjunction(
     classes: &[u8; 256],
-    text: &[u8],
+    text: &&[u8],
     table: &mut [u8],
-    seen: &[u8],
+    seen: &&[u8],
     from: usize,
     depth: usize,
     number: usize,
     same: bool,
-) -> Answer
-    requires { ⌜ ReadyAt (now classes) (now text) number from ⌝ }
-    ensures { λ r. ⌜ Done treeEntries (now (text .entry)) (now (seen .entry)) from number same (now (table .entry)) (now (table .exit))
-        (read-conjunction (read-condition depth) (stream (now (text .entry)) (tokenAt (now (text .entry)) from))) r ⌝ }
+) -> Short
+    requires { ⌜ ReadyAt (now classes) (now (now text)) number from ⌝ }
+    ensures done { λ r. ⌜ Done treeEntries (now (now (text .entry))) (now (now (seen .entry))) from number same (now (table .entry)) (now (table .exit))
+        (read-conjunction (read-condition depth) (stream (now (now (text .entry))) (tokenAt (now (now (text .entry))) from))) (wide r) ⌝ }
+    ensures plain { λ r. ⌜ r ≡ shortOf (wide r) ⌝ }
 {
     let mut at = from;
     let mut free = number;
@@ -162,14 +300,14 @@ pub fn read_conjunction(
     let mut more = false;
     loop {
         let part = read_condition(classes, text, table, seen, at, depth, free, ok);
-        let Answer::Read(mark, n, o) = part else {
+        if !part.read {
             return part;
-        };
+        }
         let count = joined(
             table,
-            seen,
-            n,
-            o,
+            *seen,
+            part.free,
+            part.same,
             more,
             Entry {
                 kind: 26,
@@ -177,33 +315,44 @@ pub fn read_conjunction(
                 second: 0,
             },
         );
-        if mark.kind != kinds::AND {
-            return Answer::Read(mark, count.free, count.same);
+        if part.kind != kinds::AND {
+            return with_entries(part, count.free, count.same);
         }
-        at = mark.end;
-        free = count.free;
+        at = part.end;
+        free = count.free as usize;
         ok = count.same;
         more = true;
     }
 }
 
-pub fn read_condition(
+fn read_condition(
     classes: &[u8; 256],
-    text: &[u8],
+    text: &&[u8],
     table: &mut [u8],
-    seen: &[u8],
+    seen: &&[u8],
     from: usize,
     depth: usize,
     number: usize,
     same: bool,
-) -> Answer
-    requires { ⌜ ReadyAt (now classes) (now text) number from ⌝ }
-    ensures { λ r. ⌜ Done treeEntries (now (text .entry)) (now (seen .entry)) from number same (now (table .entry)) (now (table .exit))
-        (read-condition depth (stream (now (text .entry)) (tokenAt (now (text .entry)) from))) r ⌝ }
+) -> Short
+    requires { ⌜ ReadyAt (now classes) (now (now text)) number from ⌝ }
+    ensures done { λ r. ⌜ Done treeEntries (now (now (text .entry))) (now (now (seen .entry))) from number same (now (table .entry)) (now (table .exit))
+        (read-condition depth (stream (now (now (text .entry))) (tokenAt (now (now (text .entry))) from))) (wide r) ⌝ }
+    ensures plain { λ r. ⌜ r ≡ shortOf (wide r) ⌝ }
 {
-    let t = next_token(classes, text, from);
+    let t = token_at(classes, text, from);
     if depth == 0 {
-        return read_flat(classes, text, table, seen, t, number, same);
+        return read_plain(
+            classes,
+            text,
+            table,
+            seen,
+            t.kind,
+            t.start,
+            t.end,
+            number,
+            same,
+        );
     }
     if t.kind == b'!' {
         return read_negation(classes, text, table, seen, t.end, depth - 1, number, same);
@@ -214,93 +363,113 @@ pub fn read_condition(
     if t.kind == kinds::IF {
         return read_choice(classes, text, table, seen, t.end, depth - 1, number, same);
     }
-    read_flat(classes, text, table, seen, t, number, same)
+    read_plain(
+        classes,
+        text,
+        table,
+        seen,
+        t.kind,
+        t.start,
+        t.end,
+        number,
+        same,
+    )
 }
 
 // After `!`.
 fn read_negation(
     classes: &[u8; 256],
-    text: &[u8],
+    text: &&[u8],
     table: &mut [u8],
-    seen: &[u8],
+    seen: &&[u8],
     from: usize,
     depth: usize,
     number: usize,
     same: bool,
-) -> Answer
-    requires { ⌜ ReadyAt (now classes) (now text) (number + 1) from ⌝ }
-    ensures { λ r. ⌜ Done treeEntries (now (text .entry)) (now (seen .entry)) (from - 1) number same (now (table .entry)) (now (table .exit))
-        (read-negated (read-condition depth) (stream (now (text .entry)) (tokenAt (now (text .entry)) from))) r ⌝ }
+) -> Short
+    requires { ⌜ ReadyAt (now classes) (now (now text)) (number + 1) from ⌝ }
+    ensures done { λ r. ⌜ Done treeEntries (now (now (text .entry))) (now (now (seen .entry))) (from - 1) number same (now (table .entry)) (now (table .exit))
+        (read-negated (read-condition depth) (stream (now (now (text .entry))) (tokenAt (now (now (text .entry))) from))) (wide r) ⌝ }
+    ensures plain { λ r. ⌜ r ≡ shortOf (wide r) ⌝ }
 {
     let inside = read_condition(classes, text, table, seen, from, depth, number, same);
-    let Answer::Read(next, free, ok) = inside else {
+    if !inside.read {
         return inside;
-    };
+    }
     let all = append(
         table,
-        seen,
-        free,
-        ok,
+        *seen,
+        inside.free as usize,
+        inside.same,
         Entry {
             kind: 24,
             first: 0,
             second: 0,
         },
     );
-    Answer::Read(next, free + 1, all)
+    with_entries(inside, inside.free + 1, all)
 }
 
 // After `(`.
 fn read_group(
     classes: &[u8; 256],
-    text: &[u8],
+    text: &&[u8],
     table: &mut [u8],
-    seen: &[u8],
+    seen: &&[u8],
     from: usize,
     depth: usize,
     number: usize,
     same: bool,
-) -> Answer
-    requires { ⌜ ReadyAt (now classes) (now text) (number + 1) from ⌝ }
-    ensures { λ r. ⌜ Done treeEntries (now (text .entry)) (now (seen .entry)) (from - 1) number same (now (table .entry)) (now (table .exit))
-        (read-bracketed (read-condition depth) (stream (now (text .entry)) (tokenAt (now (text .entry)) from))) r ⌝ }
+) -> Short
+    requires { ⌜ ReadyAt (now classes) (now (now text)) (number + 1) from ⌝ }
+    ensures done { λ r. ⌜ Done treeEntries (now (now (text .entry))) (now (now (seen .entry))) (from - 1) number same (now (table .entry)) (now (table .exit))
+        (read-bracketed (read-condition depth) (stream (now (now (text .entry))) (tokenAt (now (now (text .entry))) from))) (wide r) ⌝ }
+    ensures plain { λ r. ⌜ r ≡ shortOf (wide r) ⌝ }
 {
     let inside = read_disjunction(classes, text, table, seen, from, depth, number, same);
-    let Answer::Read(t, free, ok) = inside else {
+    if !inside.read {
         return inside;
-    };
-    if t.kind != b')' {
-        return Answer::Refused(turned_away(text, t, 10));
     }
-    let next = next_token(classes, text, t.end);
+    if inside.kind != b')' {
+        return stopped(*text, inside);
+    }
+    let next = token_at(classes, text, inside.end);
     let all = append(
         table,
-        seen,
-        free,
-        ok,
+        *seen,
+        inside.free as usize,
+        inside.same,
         Entry {
             kind: 25,
             first: 0,
             second: 0,
         },
     );
-    Answer::Read(next, free + 1, all)
+    Short {
+        read: true,
+        same: all,
+        kind: next.kind,
+        free: inside.free + 1,
+        start: next.start,
+        end: next.end,
+    }
 }
 
 // After `if`: three parts, of which `word` must follow each but the last. `before` is the first entry of the part before.
 fn read_choice(
     classes: &[u8; 256],
-    text: &[u8],
+    text: &&[u8],
     table: &mut [u8],
-    seen: &[u8],
+    seen: &&[u8],
     from: usize,
     depth: usize,
     number: usize,
     same: bool,
-) -> Answer
-    requires { ⌜ ReadyAt (now classes) (now text) (number + 1) from ⌝ }
-    ensures { λ r. ⌜ Done treeEntries (now (text .entry)) (now (seen .entry)) (from - 1) number same (now (table .entry)) (now (table .exit))
-        (read-conditional (read-condition depth) (stream (now (text .entry)) (tokenAt (now (text .entry)) from))) r ⌝ }
+) -> Short
+    requires { ⌜ ReadyAt (now classes) (now (now text)) (number + 1) from ⌝ }
+    ensures done { λ r. ⌜ Done treeEntries (now (now (text .entry))) (now (now (seen .entry))) (from - 1) number same (now (table .entry)) (now (table .exit))
+        (read-conditional (read-condition depth) (stream (now (now (text .entry))) (tokenAt (now (now (text .entry))) from))) (wide r) ⌝ }
+    ensures plain { λ r. ⌜ r ≡ shortOf (wide r) ⌝ }
 {
     let mut at = from;
     let mut before = number;
@@ -309,30 +478,30 @@ fn read_choice(
     let mut word = kinds::THEN;
     loop {
         let part = read_condition(classes, text, table, seen, at, depth, free, ok);
-        let Answer::Read(next, n, o) = part else {
+        if !part.read {
             return part;
-        };
+        }
         if word == 0 {
             let all = append(
                 table,
-                seen,
-                n,
-                o,
+                *seen,
+                part.free as usize,
+                part.same,
                 Entry {
                     kind: 28,
                     first: before,
                     second: free,
                 },
             );
-            return Answer::Read(next, n + 1, all);
+            return with_entries(part, part.free + 1, all);
         }
-        if next.kind != word {
-            return Answer::Refused(turned_away(text, next, 10));
+        if part.kind != word {
+            return stopped(*text, part);
         }
-        at = next.end;
+        at = part.end;
         before = free;
-        free = n;
-        ok = o;
+        free = part.free as usize;
+        ok = part.same;
         word = word_after(word);
     }
 }

@@ -7,6 +7,7 @@ use Rattle.conditions.proofs.Choosing as choosing
 use Rattle.conditions.proofs.Choosing.{Choosing}
 use Rattle.conditions.proofs.Apart.{closing-read, follows, fails}
 use Rattle.conditions.proofs.Earlier.{at-place, ready-from, weaker, told-as}
+use Rattle.conditions.proofs.Shorter.{read-is, refused-is, with-is, with-plain, short-is, short-plain}
 use Rattle.parts.proofs.Writing.{done-as, turned-done, as-read, as-refused, kept-none}
 use Rattle.parts.proofs.Standing.{turned-bind}
 use Rattle.table.specs.Entries.{entry, treeEntries}
@@ -44,345 +45,387 @@ use Rattle.conditions.proofs.read_negation.Reads as read-negation
 use Rattle.conditions.proofs.read_negation.Kinds as read-negation-kinds
 use Rattle.conditions.proofs.+read_choice+read_condition+read_conjunction+read_disjunction+read_group+read_negation.Lts-read_negation as read-negation-lts
 use Rattle.conditions.proofs.joined.Reads as joined-reads
-use Rattle.conditions.proofs.read_flat.Reads as read-flat-reads
+use Rattle.conditions.proofs.read_plain.Reads as read-plain-reads
+use Rattle.conditions.proofs.stopped.Reads as stopped-reads
+use Rattle.conditions.proofs.token_at.Reads as token-at-reads
+use Rattle.conditions.proofs.with_entries.Reads as with-entries-reads
 use Rattle.conditions.proofs.word_after.Reads as word-after-reads
-use Rattle.parts.proofs.answers.turned_away.Reads as turned-away-reads
 use Rattle.table.proofs.append.Reads as append-reads
-use Rattle.tokens.proofs.reader.next_token.Reads as next-token-reads
-use Rattle.conditions.proofs.+read_choice+read_condition+read_conjunction+read_disjunction+read_group+read_negation.{statement}
-use Rattle.conditions.proofs.+read_choice+read_condition+read_conjunction+read_disjunction+read_group+read_negation.Tie.{close}
+use Rattle.conditions.proofs.+read_choice+read_condition+read_conjunction+read_disjunction+read_group+read_negation.{
+  statement,
+}
+use Rattle.conditions.proofs.+read_choice+read_condition+read_conjunction+read_disjunction+read_group+read_negation.Tie.{
+  close,
+}
 
-abbrev μ-read-choice : Measures 4 read-choice-kinds.ps ℕ
+abbrev μ-read-choice : Measures 6 read-choice-kinds.ps ℕ
 μ-read-choice κs a = 4 * a .1 .1 .1 .1 .1 .0 + 4
 
-abbrev μ-read-condition : Measures 4 read-condition-kinds.ps ℕ
+abbrev μ-read-condition : Measures 6 read-condition-kinds.ps ℕ
 μ-read-condition κs a = 4 * a .1 .1 .1 .1 .1 .0 + 1
 
-abbrev μ-read-conjunction : Measures 4 read-conjunction-kinds.ps ℕ
+abbrev μ-read-conjunction : Measures 6 read-conjunction-kinds.ps ℕ
 μ-read-conjunction κs a = 4 * a .1 .1 .1 .1 .1 .0 + 2
 
-abbrev μ-read-disjunction : Measures 4 read-disjunction-kinds.ps ℕ
+abbrev μ-read-disjunction : Measures 6 read-disjunction-kinds.ps ℕ
 μ-read-disjunction κs a = 4 * a .1 .1 .1 .1 .1 .0 + 3
 
-abbrev μ-read-group : Measures 4 read-group-kinds.ps ℕ
+abbrev μ-read-group : Measures 6 read-group-kinds.ps ℕ
 μ-read-group κs a = 4 * a .1 .1 .1 .1 .1 .0 + 4
 
-abbrev μ-read-negation : Measures 4 read-negation-kinds.ps ℕ
+abbrev μ-read-negation : Measures 6 read-negation-kinds.ps ℕ
 μ-read-negation κs a = 4 * a .1 .1 .1 .1 .1 .0 + 4
 
-abbrev read-choice-at : ℕ → In 4 read-choice-kinds.ps
-read-choice-at t = and 4 read-choice-kinds.ps (is 4 read-choice-kinds.ps μ-read-choice t) read-choice.Pre
+abbrev read-choice-at : ℕ → In 6 read-choice-kinds.ps
+read-choice-at t = and 6 read-choice-kinds.ps (is 6 read-choice-kinds.ps μ-read-choice t) read-choice.Pre
 
-abbrev read-choice-below : ℕ → In 4 read-choice-kinds.ps
-read-choice-below t = and 4 read-choice-kinds.ps (falls 4 read-choice-kinds.ps _<_ μ-read-choice t) read-choice.Pre
+abbrev read-choice-below : ℕ → In 6 read-choice-kinds.ps
+read-choice-below t = and 6 read-choice-kinds.ps (falls 6 read-choice-kinds.ps _<_ μ-read-choice t) read-choice.Pre
 
-abbrev read-condition-at : ℕ → In 4 read-condition-kinds.ps
-read-condition-at t = and 4 read-condition-kinds.ps (is 4 read-condition-kinds.ps μ-read-condition t) read-condition.Pre
+abbrev read-condition-at : ℕ → In 6 read-condition-kinds.ps
+read-condition-at t = and 6 read-condition-kinds.ps (is 6 read-condition-kinds.ps μ-read-condition t) read-condition.Pre
 
-abbrev read-condition-below : ℕ → In 4 read-condition-kinds.ps
-read-condition-below t = and 4 read-condition-kinds.ps (falls 4 read-condition-kinds.ps _<_ μ-read-condition t) read-condition.Pre
+abbrev read-condition-below : ℕ → In 6 read-condition-kinds.ps
+read-condition-below t = and 6 read-condition-kinds.ps (falls 6 read-condition-kinds.ps _<_ μ-read-condition t) read-condition.Pre
 
-abbrev read-conjunction-at : ℕ → In 4 read-conjunction-kinds.ps
-read-conjunction-at t = and 4 read-conjunction-kinds.ps (is 4 read-conjunction-kinds.ps μ-read-conjunction t) read-conjunction.Pre
+abbrev read-conjunction-at : ℕ → In 6 read-conjunction-kinds.ps
+read-conjunction-at t = and 6 read-conjunction-kinds.ps (is 6 read-conjunction-kinds.ps μ-read-conjunction t) read-conjunction.Pre
 
-abbrev read-conjunction-below : ℕ → In 4 read-conjunction-kinds.ps
-read-conjunction-below t = and 4 read-conjunction-kinds.ps (falls 4 read-conjunction-kinds.ps _<_ μ-read-conjunction t) read-conjunction.Pre
+abbrev read-conjunction-below : ℕ → In 6 read-conjunction-kinds.ps
+read-conjunction-below t = and 6 read-conjunction-kinds.ps (falls 6 read-conjunction-kinds.ps _<_ μ-read-conjunction t) read-conjunction.Pre
 
-abbrev read-disjunction-at : ℕ → In 4 read-disjunction-kinds.ps
-read-disjunction-at t = and 4 read-disjunction-kinds.ps (is 4 read-disjunction-kinds.ps μ-read-disjunction t) read-disjunction.Pre
+abbrev read-disjunction-at : ℕ → In 6 read-disjunction-kinds.ps
+read-disjunction-at t = and 6 read-disjunction-kinds.ps (is 6 read-disjunction-kinds.ps μ-read-disjunction t) read-disjunction.Pre
 
-abbrev read-disjunction-below : ℕ → In 4 read-disjunction-kinds.ps
-read-disjunction-below t = and 4 read-disjunction-kinds.ps (falls 4 read-disjunction-kinds.ps _<_ μ-read-disjunction t) read-disjunction.Pre
+abbrev read-disjunction-below : ℕ → In 6 read-disjunction-kinds.ps
+read-disjunction-below t = and 6 read-disjunction-kinds.ps (falls 6 read-disjunction-kinds.ps _<_ μ-read-disjunction t) read-disjunction.Pre
 
-abbrev read-group-at : ℕ → In 4 read-group-kinds.ps
-read-group-at t = and 4 read-group-kinds.ps (is 4 read-group-kinds.ps μ-read-group t) read-group.Pre
+abbrev read-group-at : ℕ → In 6 read-group-kinds.ps
+read-group-at t = and 6 read-group-kinds.ps (is 6 read-group-kinds.ps μ-read-group t) read-group.Pre
 
-abbrev read-group-below : ℕ → In 4 read-group-kinds.ps
-read-group-below t = and 4 read-group-kinds.ps (falls 4 read-group-kinds.ps _<_ μ-read-group t) read-group.Pre
+abbrev read-group-below : ℕ → In 6 read-group-kinds.ps
+read-group-below t = and 6 read-group-kinds.ps (falls 6 read-group-kinds.ps _<_ μ-read-group t) read-group.Pre
 
-abbrev read-negation-at : ℕ → In 4 read-negation-kinds.ps
-read-negation-at t = and 4 read-negation-kinds.ps (is 4 read-negation-kinds.ps μ-read-negation t) read-negation.Pre
+abbrev read-negation-at : ℕ → In 6 read-negation-kinds.ps
+read-negation-at t = and 6 read-negation-kinds.ps (is 6 read-negation-kinds.ps μ-read-negation t) read-negation.Pre
 
-abbrev read-negation-below : ℕ → In 4 read-negation-kinds.ps
-read-negation-below t = and 4 read-negation-kinds.ps (falls 4 read-negation-kinds.ps _<_ μ-read-negation t) read-negation.Pre
+abbrev read-negation-below : ℕ → In 6 read-negation-kinds.ps
+read-negation-below t = and 6 read-negation-kinds.ps (falls 6 read-negation-kinds.ps _<_ μ-read-negation t) read-negation.Pre
 
 abbrev read-choice-Inv-loop : read-choice-lts.InvT-loop
 read-choice-Inv-loop classes text table₀ seen from depth number same at₀ before₀ free₀ ok₀ word₀ table at before free ok word =
-    Choosing text seen (from - 1) number same (read-condition-spec depth) (read-conditional (read-condition-spec depth) (stream text (tokenAt text from))) table₀ table at before free ok word × (length table ≡ length table₀)
+    Choosing (text .now) (seen .now) (from - 1) number same (read-condition-spec depth) (read-conditional (read-condition-spec depth) (stream (text .now) (tokenAt (text .now) from))) table₀ table at before free ok word × (length table ≡ length table₀)
 
 abbrev read-choice-μ-loop : read-choice-lts.MeasureT-loop
-read-choice-μ-loop classes text table₀ seen from depth number same at₀ before₀ free₀ ok₀ word₀ table at before free ok word = length text - at
+read-choice-μ-loop classes text table₀ seen from depth number same at₀ before₀ free₀ ok₀ word₀ table at before free ok word = length (text .now) - at
 
 abbrev read-choice-claims : ℕ → read-choice-lts.Claims
-read-choice-claims t = (read-condition-below t, read-condition.Post, append-reads.Asked, append-reads.Learnt, turned-away-reads.Asked, turned-away-reads.Learnt, word-after-reads.Asked, word-after-reads.Learnt)
+read-choice-claims t = (read-condition-below t, read-condition.Post, append-reads.Asked, append-reads.Learnt, with-entries-reads.Asked, with-entries-reads.Learnt, stopped-reads.Asked, stopped-reads.Learnt, word-after-reads.Asked, word-after-reads.Learnt)
 
 abbrev read-condition-claims : ℕ → read-condition-lts.Claims
-read-condition-claims t = (next-token-reads.Asked, next-token-reads.Learnt, read-flat-reads.Asked, read-flat-reads.Learnt, read-negation-below t, read-negation.Post, read-group-below t, read-group.Post, read-choice-below t, read-choice.Post)
+read-condition-claims t = (token-at-reads.Asked, token-at-reads.Learnt, read-plain-reads.Asked, read-plain-reads.Learnt, read-negation-below t, read-negation.Post, read-group-below t, read-group.Post, read-choice-below t, read-choice.Post)
 
 abbrev read-conjunction-claims : ℕ → read-conjunction-lts.Claims
-read-conjunction-claims t = (read-condition-below t, read-condition.Post, joined-reads.Asked, joined-reads.Learnt)
+read-conjunction-claims t = (read-condition-below t, read-condition.Post, joined-reads.Asked, joined-reads.Learnt, with-entries-reads.Asked, with-entries-reads.Learnt)
 
 abbrev read-disjunction-claims : ℕ → read-disjunction-lts.Claims
-read-disjunction-claims t = (read-conjunction-below t, read-conjunction.Post, joined-reads.Asked, joined-reads.Learnt)
+read-disjunction-claims t = (read-conjunction-below t, read-conjunction.Post, joined-reads.Asked, joined-reads.Learnt, with-entries-reads.Asked, with-entries-reads.Learnt)
 
 abbrev read-group-claims : ℕ → read-group-lts.Claims
-read-group-claims t = (read-disjunction-below t, read-disjunction.Post, turned-away-reads.Asked, turned-away-reads.Learnt, next-token-reads.Asked, next-token-reads.Learnt, append-reads.Asked, append-reads.Learnt)
+read-group-claims t = (read-disjunction-below t, read-disjunction.Post, stopped-reads.Asked, stopped-reads.Learnt, token-at-reads.Asked, token-at-reads.Learnt, append-reads.Asked, append-reads.Learnt)
 
 abbrev read-negation-claims : ℕ → read-negation-lts.Claims
-read-negation-claims t = (read-condition-below t, read-condition.Post, append-reads.Asked, append-reads.Learnt)
+read-negation-claims t = (read-condition-below t, read-condition.Post, append-reads.Asked, append-reads.Learnt, with-entries-reads.Asked, with-entries-reads.Learnt)
 
 read-choice-loop-holds : (t : ℕ) → read-choice-lts.Need-loop-holds (read-choice-claims t) (read-choice-at t) read-choice.Post read-choice-Inv-loop read-choice-μ-loop
-read-choice-loop-holds t c = (choosing.start (omega (arith, c .before .before .before .pre .1 .low)) (c .before .before .before .pre .1 .high), refl)
+read-choice-loop-holds t c = (choosing.start (omega (arith, c .before .pre .1 .low)) (c .before .pre .1 .high), refl)
 
 read-choice-read-condition-requires : (t : ℕ) → read-choice-lts.Need-read-condition-requires (read-choice-claims t) (read-choice-at t) read-choice.Post read-choice-Inv-loop read-choice-μ-loop
-read-choice-read-condition-requires t c κs = let g = c .before .loop .inv .0 in (omega (arith, c .before .before .before .before .before .pre .0), at-place (c .before .before .before .before .before .pre .1) (omega (arith, g .room, c .before .before .before .before .before .pre .1 .low)) (g .high))
-
-read-choice-enum-known-part : (t : ℕ) → read-choice-lts.Need-enum-known-part (read-choice-claims t) (read-choice-at t) read-choice.Post read-choice-Inv-loop read-choice-μ-loop
-read-choice-enum-known-part t c = search needs
-
-read-choice-enum-told : (t : ℕ) → read-choice-lts.Need-enum-told (read-choice-claims t) (read-choice-at t) read-choice.Post read-choice-Inv-loop read-choice-μ-loop
-read-choice-enum-told t c = search needs
+read-choice-read-condition-requires t c κs = let g = c .before .loop .inv .0 in (omega (arith, c .before .before .before .pre .0), at-place (c .before .before .before .pre .1) (omega (arith, g .room, c .before .before .before .pre .1 .low)) (g .high))
 
 read-choice-same-length : (t : ℕ) → read-choice-lts.Need-same-length (read-choice-claims t) (read-choice-at t) read-choice.Post read-choice-Inv-loop read-choice-μ-loop
 read-choice-same-length t c = omega (arith, c .before .before .before .before .read-condition .kept, c .before .before .before .before .before .before .loop .inv .1)
 
 read-choice-returns : (t : ℕ) → read-choice-lts.Need-returns (read-choice-claims t) (read-choice-at t) read-choice.Post read-choice-Inv-loop read-choice-μ-loop
-read-choice-returns t c = choosing.refuses (c .before .before .before .before .before .before .loop .inv .0) (c .before .before .before .before .read-condition .ensures) (c .enum-told .given .1)
+read-choice-returns t c = (
+  choosing.refuses (c .before .before .before .before .before .before .loop .inv .0) (c .before .before .before .before .read-condition .ensures .0) (refused-is _ (c .if1 .taken)),
+  c .before .before .before .before .read-condition .ensures .1,
+)
+
+read-choice-cast-append : (t : ℕ) → read-choice-lts.Need-cast-append (read-choice-claims t) (read-choice-at t) read-choice.Post read-choice-Inv-loop read-choice-μ-loop
+read-choice-cast-append t c =
+    let k = as-read (read-is _ (c .before .before .before .before .if1 .left)) (c .before .before .before .before .before .before .before .before .read-condition .ensures .0 .says) in
+    omega (arith, k .room, k .lies .order, k .lies .high, c .before .before .before .before .before .before .before .before .before .before .loop .inv .0 .room, c .before .before .before .before .before .before .before .before .before .before .before .before .pre .1 .low, c .before .before .before .before .before .before .before .before .before .before .before .before .pre .1 .small)
 
 read-choice-append-requires : (t : ℕ) → read-choice-lts.Need-append-requires (read-choice-claims t) (read-choice-at t) read-choice.Post read-choice-Inv-loop read-choice-μ-loop
 read-choice-append-requires t c κs =
-    let k = as-read (c .before .before .before .part .given .1) (c .before .before .before .before .before .before .before .read-condition .ensures .says) in
-    omega (arith, k .room, k .lies .order, k .lies .high, c .before .before .before .before .before .before .before .before .before .loop .inv .0 .room, c .before .before .before .before .before .before .before .before .before .before .before .before .before .pre .1 .low, c .before .before .before .before .before .before .before .before .before .before .before .before .before .pre .1 .small)
+    let k = as-read (read-is _ (c .before .before .before .before .if1 .left)) (c .before .before .before .before .before .before .before .before .read-condition .ensures .0 .says) in
+    omega (arith, k .room, k .lies .order, k .lies .high, c .before .before .before .before .before .before .before .before .before .before .loop .inv .0 .room, c .before .before .before .before .before .before .before .before .before .before .before .before .pre .1 .low, c .before .before .before .before .before .before .before .before .before .before .before .before .pre .1 .small)
 
-read-choice-add-t25 : (t : ℕ) → read-choice-lts.Need-add-t25 (read-choice-claims t) (read-choice-at t) read-choice.Post read-choice-Inv-loop read-choice-μ-loop
-read-choice-add-t25 t c =
-    let k = as-read (c .before .before .before .before .before .before .part .given .1) (c .before .before .before .before .before .before .before .before .before .before .read-condition .ensures .says) in
-    omega (arith, k .room, k .lies .order, k .lies .high, c .before .before .before .before .before .before .before .before .before .before .before .before .loop .inv .0 .room, c .before .before .before .before .before .before .before .before .before .before .before .before .before .before .before .before .pre .1 .low, c .before .before .before .before .before .before .before .before .before .before .before .before .before .before .before .before .pre .1 .small)
+read-choice-add-with-entries : (t : ℕ) → read-choice-lts.Need-add-with-entries (read-choice-claims t) (read-choice-at t) read-choice.Post read-choice-Inv-loop read-choice-μ-loop
+read-choice-add-with-entries t c =
+    let k = as-read (read-is _ (c .before .before .before .before .before .before .before .before .if1 .left)) (c .before .before .before .before .before .before .before .before .before .before .before .before .read-condition .ensures .0 .says) in
+    omega (arith, k .room, k .lies .order, k .lies .high, c .before .before .before .before .before .before .before .before .before .before .before .before .before .before .loop .inv .0 .room, c .before .before .before .before .before .before .before .before .before .before .before .before .before .before .before .before .pre .1 .low, c .before .before .before .before .before .before .before .before .before .before .before .before .before .before .before .before .pre .1 .small)
+
+read-choice-with-entries-requires : (t : ℕ) → read-choice-lts.Need-with-entries-requires (read-choice-claims t) (read-choice-at t) read-choice.Post read-choice-Inv-loop read-choice-μ-loop
+read-choice-with-entries-requires t c κs = search needs
 
 read-choice-same-length-2 : (t : ℕ) → read-choice-lts.Need-same-length-2 (read-choice-claims t) (read-choice-at t) read-choice.Post read-choice-Inv-loop read-choice-μ-loop
-read-choice-same-length-2 t c = omega (arith, c .before .before .append .kept, c .before .before .before .before .before .before .before .before .before .before .read-condition .kept, c .before .before .before .before .before .before .before .before .before .before .before .before .loop .inv .1)
+read-choice-same-length-2 t c = omega (arith, c .before .before .before .before .append .kept, c .before .before .before .before .before .before .before .before .before .before .before .before .before .read-condition .kept, c .before .before .before .before .before .before .before .before .before .before .before .before .before .before .before .loop .inv .1)
 
 read-choice-returns-2 : (t : ℕ) → read-choice-lts.Need-returns-2 (read-choice-claims t) (read-choice-at t) read-choice.Post read-choice-Inv-loop read-choice-μ-loop
-read-choice-returns-2 t c = choosing.ends (c .before .before .before .before .before .before .before .before .before .before .before .before .loop .inv .0) (c .before .before .before .before .before .before .before .before .before .before .read-condition .ensures) (c .before .before .before .before .before .before .part .given .1) (c .before .before .before .before .if1 .taken) (c .before .before .append .ensures)
+read-choice-returns-2 t c = (
+  told-as (with-is (c .with-entries .ensures)) (choosing.ends (c .before .before .before .before .before .before .before .before .before .before .before .before .before .before .before .loop .inv .0) (c .before .before .before .before .before .before .before .before .before .before .before .before .before .read-condition .ensures .0) (read-is _ (c .before .before .before .before .before .before .before .before .before .if1 .left)) (c .before .before .before .before .before .before .before .before .if2 .taken) (c .before .before .before .before .append .ensures)),
+  with-plain (c .with-entries .ensures),
+)
 
-read-choice-turned-away-requires : (t : ℕ) → read-choice-lts.Need-turned-away-requires (read-choice-claims t) (read-choice-at t) read-choice.Post read-choice-Inv-loop read-choice-μ-loop
-read-choice-turned-away-requires t c κs = as-read (c .before .before .before .before .part .given .1) (c .before .before .before .before .before .before .before .before .read-condition .ensures .says) .lies .order
+read-choice-stopped-requires : (t : ℕ) → read-choice-lts.Need-stopped-requires (read-choice-claims t) (read-choice-at t) read-choice.Post read-choice-Inv-loop read-choice-μ-loop
+read-choice-stopped-requires t c κs = as-read (read-is _ (c .before .before .before .before .if1 .left)) (c .before .before .before .before .before .before .before .before .read-condition .ensures .0 .says) .lies .order
 
 read-choice-same-length-3 : (t : ℕ) → read-choice-lts.Need-same-length-3 (read-choice-claims t) (read-choice-at t) read-choice.Post read-choice-Inv-loop read-choice-μ-loop
 read-choice-same-length-3 t c = omega (arith, c .before .before .before .before .before .before .before .before .before .read-condition .kept, c .before .before .before .before .before .before .before .before .before .before .before .loop .inv .1)
 
 read-choice-returns-3 : (t : ℕ) → read-choice-lts.Need-returns-3 (read-choice-claims t) (read-choice-at t) read-choice.Post read-choice-Inv-loop read-choice-μ-loop
-read-choice-returns-3 t c = choosing.other-word (c .before .before .before .before .before .before .before .before .before .before .before .loop .inv .0) (c .before .before .before .before .before .before .before .before .before .read-condition .ensures) (c .before .before .before .before .before .part .given .1) (c .before .before .before .if1 .left) (c .before .if2 .taken) (c .turned-away .ensures)
+read-choice-returns-3 t c = (
+  told-as (short-is (c .stopped .ensures)) (choosing.other-word (c .before .before .before .before .before .before .before .before .before .before .before .loop .inv .0) (c .before .before .before .before .before .before .before .before .before .read-condition .ensures .0) (read-is _ (c .before .before .before .before .before .if1 .left)) (c .before .before .before .before .if2 .left) (c .before .before .if3 .taken) refl),
+  short-plain _ (c .stopped .ensures),
+)
+
+read-choice-cast-free : (t : ℕ) → read-choice-lts.Need-cast-free (read-choice-claims t) (read-choice-at t) read-choice.Post read-choice-Inv-loop read-choice-μ-loop
+read-choice-cast-free t c =
+    let k = as-read (read-is _ (c .before .before .before .before .if1 .left)) (c .before .before .before .before .before .before .before .before .read-condition .ensures .0 .says) in
+    omega (arith, k .room, k .lies .order, k .lies .high, c .before .before .before .before .before .before .before .before .before .before .loop .inv .0 .room, c .before .before .before .before .before .before .before .before .before .before .before .before .pre .1 .low, c .before .before .before .before .before .before .before .before .before .before .before .before .pre .1 .small)
 
 read-choice-word-after-requires : (t : ℕ) → read-choice-lts.Need-word-after-requires (read-choice-claims t) (read-choice-at t) read-choice.Post read-choice-Inv-loop read-choice-μ-loop
 read-choice-word-after-requires t c κs = search needs
 
 read-choice-loop-less : (t : ℕ) → read-choice-lts.Need-loop-less (read-choice-claims t) (read-choice-at t) read-choice.Post read-choice-Inv-loop read-choice-μ-loop
-read-choice-loop-less t c =
-    let k = as-read (c .before .before .before .before .before .part .given .1) (c .before .before .before .before .before .before .before .before .before .read-condition .ensures .says) in omega (arith, k .lies .low, k .lies .order, k .lies .high)
+read-choice-loop-less t c = let k = as-read (read-is _ (c .before .before .before .before .before .if1 .left)) (c .before .before .before .before .before .before .before .before .before .read-condition .ensures .0 .says) in omega (arith, k .lies .low, k .lies .order, k .lies .high)
 
 read-choice-loop-again : (t : ℕ) → read-choice-lts.Need-loop-again (read-choice-claims t) (read-choice-at t) read-choice.Post read-choice-Inv-loop read-choice-μ-loop
 read-choice-loop-again t c = (
-  rw (c .word-after .ensures) (choosing.turn (c .before .before .before .before .before .before .before .before .before .before .before .loop .inv .0) (c .before .before .before .before .before .before .before .before .before .read-condition .ensures) (c .before .before .before .before .before .part .given .1) (c .before .before .before .if1 .left) (c .before .if2 .left)),
+  rw (c .word-after .ensures) (choosing.turn (c .before .before .before .before .before .before .before .before .before .before .before .loop .inv .0) (c .before .before .before .before .before .before .before .before .before .read-condition .ensures .0) (read-is _ (c .before .before .before .before .before .if1 .left)) (c .before .before .before .before .if2 .left) (c .before .before .if3 .left)),
   omega (arith, c .before .before .before .before .before .before .before .before .before .read-condition .kept, c .before .before .before .before .before .before .before .before .before .before .before .loop .inv .1),
 )
 
-read-condition-next-token-requires : (t : ℕ) → read-condition-lts.Need-next-token-requires (read-condition-claims t) (read-condition-at t) read-condition.Post
-read-condition-next-token-requires t c κs = (c .before .before .before .pre .1 .table, c .before .before .before .pre .1 .high)
+read-condition-token-at-requires : (t : ℕ) → read-condition-lts.Need-token-at-requires (read-condition-claims t) (read-condition-at t) read-condition.Post
+read-condition-token-at-requires t c κs = (c .before .pre .1 .table, c .before .pre .1 .high)
 
-read-condition-read-flat-requires : (t : ℕ) → read-condition-lts.Need-read-flat-requires (read-condition-claims t) (read-condition-at t) read-condition.Post
-read-condition-read-flat-requires t c κs = ready-from (c .before .before .before .before .before .before .pre .1) (c .before .before .next-token .ensures .1)
+read-condition-read-plain-requires : (t : ℕ) → read-condition-lts.Need-read-plain-requires (read-condition-claims t) (read-condition-at t) read-condition.Post
+read-condition-read-plain-requires t c κs = (ready-from (c .before .before .before .before .pre .1) (c .before .before .token-at .ensures .1), c .before .before .before .before .pre .1 .small)
 
 read-condition-same-length : (t : ℕ) → read-condition-lts.Need-same-length (read-condition-claims t) (read-condition-at t) read-condition.Post
 read-condition-same-length t c = search needs
 
 read-condition-returns : (t : ℕ) → read-condition-lts.Need-returns (read-condition-claims t) (read-condition-at t) read-condition.Post
 read-condition-returns t c =
-    let a = c .before .before .before .before .before .before .before .before .before .args in
-    done-as (ap (λ (d : ℕ). read-condition-spec d (stream (a .text .now) (tokenAt (a .text .now) (a .from)))) (c .before .before .before .before .if1 .taken) ∙ ap (λ (x : Token). read-condition-spec 0 (stream (a .text .now) x)) (sym (c .before .before .before .before .before .next-token .ensures .0)))
-    (weaker (c .before .before .before .before .before .next-token .ensures .1 .low) (c .before .before .read-flat .ensures))
+    let a = c .before .before .before .before .before .before .before .args in (
+      done-as (ap (λ (d : ℕ). read-condition-spec d (stream (a .text .now .now) (tokenAt (a .text .now .now) (a .from)))) (c .before .before .before .before .if1 .taken) ∙ ap (λ (x : Token). read-condition-spec 0 (stream (a .text .now .now) x)) (sym (c .before .before .before .before .before .token-at .ensures .0)))
+          (weaker (c .before .before .before .before .before .token-at .ensures .1 .low) (c .before .before .read-plain .ensures .0)),
+      c .before .before .read-plain .ensures .1,
+    )
 
 read-condition-sub-read-negation : (t : ℕ) → read-condition-lts.Need-sub-read-negation (read-condition-claims t) (read-condition-at t) read-condition.Post
 read-condition-sub-read-negation t c = search needs
 
 read-condition-read-negation-requires : (t : ℕ) → read-condition-lts.Need-read-negation-requires (read-condition-claims t) (read-condition-at t) read-condition.Post
 read-condition-read-negation-requires t c κs =
-    let t = c .before .before .before .before .next-token .result in let r = c .before .before .before .before .next-token .ensures .1 in let some = r .some (λ (z : t .kind ≡ 0). omega (arith, c .before .if2 .taken)) in
-    (omega (arith, c .before .before .before .before .before .before .before .before .pre .0, c .before .before .before .if1 .left), at-place (c .before .before .before .before .before .before .before .before .pre .1) (omega (arith, c .before .before .before .before .before .before .before .before .pre .1 .low, r .low, some)) (r .high))
+    let t = c .before .before .before .before .token-at .result in let r = c .before .before .before .before .token-at .ensures .1 in let some = r .some (λ (z : t .kind ≡ 0). omega (arith, c .before .if2 .taken)) in
+    (omega (arith, c .before .before .before .before .before .before .pre .0, c .before .before .before .if1 .left), at-place (c .before .before .before .before .before .before .pre .1) (omega (arith, c .before .before .before .before .before .before .pre .1 .low, r .low, some)) (r .high))
 
 read-condition-same-length-2 : (t : ℕ) → read-condition-lts.Need-same-length-2 (read-condition-claims t) (read-condition-at t) read-condition.Post
 read-condition-same-length-2 t c = search needs
 
 read-condition-returns-2 : (t : ℕ) → read-condition-lts.Need-returns-2 (read-condition-claims t) (read-condition-at t) read-condition.Post
 read-condition-returns-2 t c =
-    let a = c .before .before .before .before .before .before .before .before .before .before .before .args in let t = c .before .before .before .before .before .before .before .next-token .result in let r = c .before .before .before .before .before .before .before .next-token .ensures .1 in let some = r .some (λ (z : t .kind ≡ 0). omega (arith, c .before .before .before .before .if2 .taken)) in
-    done-as (ap (λ (x : Token). read-condition-spec (a .depth) (stream (a .text .now) x)) (sym (c .before .before .before .before .before .before .before .next-token .ensures .0)) ∙ negation-first (a .text .now) t (tokenAt (a .text .now) (t .end)) refl (r .high) (a .depth) (c .before .before .before .before .before .before .if1 .left) (c .before .before .before .before .if2 .taken))
-    (weaker (omega (arith, r .low, some)) (c .before .before .read-negation .ensures))
+    let a = c .before .before .before .before .before .before .before .before .before .args in let t = c .before .before .before .before .before .before .before .token-at .result in let r = c .before .before .before .before .before .before .before .token-at .ensures .1 in let some = r .some (λ (z : t .kind ≡ 0). omega (arith, c .before .before .before .before .if2 .taken)) in (
+      done-as (ap (λ (x : Token). read-condition-spec (a .depth) (stream (a .text .now .now) x)) (sym (c .before .before .before .before .before .before .before .token-at .ensures .0)) ∙ negation-first (a .text .now .now) t (tokenAt (a .text .now .now) (t .end)) refl (r .high) (a .depth) (c .before .before .before .before .before .before .if1 .left) (c .before .before .before .before .if2 .taken))
+          (weaker (omega (arith, r .low, some)) (c .before .before .read-negation .ensures .0)),
+      c .before .before .read-negation .ensures .1,
+    )
 
 read-condition-sub-read-group : (t : ℕ) → read-condition-lts.Need-sub-read-group (read-condition-claims t) (read-condition-at t) read-condition.Post
 read-condition-sub-read-group t c = search needs
 
 read-condition-read-group-requires : (t : ℕ) → read-condition-lts.Need-read-group-requires (read-condition-claims t) (read-condition-at t) read-condition.Post
 read-condition-read-group-requires t c κs =
-    let t = c .before .before .before .before .before .before .next-token .result in let r = c .before .before .before .before .before .before .next-token .ensures .1 in let some = r .some (λ (z : t .kind ≡ 0). omega (arith, c .before .if3 .taken)) in
-    (omega (arith, c .before .before .before .before .before .before .before .before .before .before .pre .0, c .before .before .before .before .before .if1 .left), at-place (c .before .before .before .before .before .before .before .before .before .before .pre .1) (omega (arith, c .before .before .before .before .before .before .before .before .before .before .pre .1 .low, r .low, some)) (r .high))
+    let t = c .before .before .before .before .before .before .token-at .result in let r = c .before .before .before .before .before .before .token-at .ensures .1 in let some = r .some (λ (z : t .kind ≡ 0). omega (arith, c .before .if3 .taken)) in
+    (omega (arith, c .before .before .before .before .before .before .before .before .pre .0, c .before .before .before .before .before .if1 .left), at-place (c .before .before .before .before .before .before .before .before .pre .1) (omega (arith, c .before .before .before .before .before .before .before .before .pre .1 .low, r .low, some)) (r .high))
 
 read-condition-same-length-3 : (t : ℕ) → read-condition-lts.Need-same-length-3 (read-condition-claims t) (read-condition-at t) read-condition.Post
 read-condition-same-length-3 t c = search needs
 
 read-condition-returns-3 : (t : ℕ) → read-condition-lts.Need-returns-3 (read-condition-claims t) (read-condition-at t) read-condition.Post
 read-condition-returns-3 t c =
-    let a = c .before .before .before .before .before .before .before .before .before .before .before .before .before .args in let t = c .before .before .before .before .before .before .before .before .before .next-token .result in let r = c .before .before .before .before .before .before .before .before .before .next-token .ensures .1 in let some = r .some (λ (z : t .kind ≡ 0). omega (arith, c .before .before .before .before .if3 .taken)) in
-    done-as (ap (λ (x : Token). read-condition-spec (a .depth) (stream (a .text .now) x)) (sym (c .before .before .before .before .before .before .before .before .before .next-token .ensures .0)) ∙ group-first (a .text .now) t (tokenAt (a .text .now) (t .end)) refl (r .high) (a .depth) (c .before .before .before .before .before .before .before .before .if1 .left) (c .before .before .before .before .before .before .if2 .left) (c .before .before .before .before .if3 .taken))
-    (weaker (omega (arith, r .low, some)) (c .before .before .read-group .ensures))
+    let a = c .before .before .before .before .before .before .before .before .before .before .before .args in let t = c .before .before .before .before .before .before .before .before .before .token-at .result in let r = c .before .before .before .before .before .before .before .before .before .token-at .ensures .1 in let some = r .some (λ (z : t .kind ≡ 0). omega (arith, c .before .before .before .before .if3 .taken)) in (
+      done-as (ap (λ (x : Token). read-condition-spec (a .depth) (stream (a .text .now .now) x)) (sym (c .before .before .before .before .before .before .before .before .before .token-at .ensures .0)) ∙ group-first (a .text .now .now) t (tokenAt (a .text .now .now) (t .end)) refl (r .high) (a .depth) (c .before .before .before .before .before .before .before .before .if1 .left) (c .before .before .before .before .before .before .if2 .left) (c .before .before .before .before .if3 .taken))
+          (weaker (omega (arith, r .low, some)) (c .before .before .read-group .ensures .0)),
+      c .before .before .read-group .ensures .1,
+    )
 
 read-condition-sub-read-choice : (t : ℕ) → read-condition-lts.Need-sub-read-choice (read-condition-claims t) (read-condition-at t) read-condition.Post
 read-condition-sub-read-choice t c = search needs
 
 read-condition-read-choice-requires : (t : ℕ) → read-condition-lts.Need-read-choice-requires (read-condition-claims t) (read-condition-at t) read-condition.Post
 read-condition-read-choice-requires t c κs =
-    let t = c .before .before .before .before .before .before .before .before .next-token .result in let r = c .before .before .before .before .before .before .before .before .next-token .ensures .1 in let some = r .some (λ (z : t .kind ≡ 0). omega (arith, c .before .if4 .taken)) in
-    (omega (arith, c .before .before .before .before .before .before .before .before .before .before .before .before .pre .0, c .before .before .before .before .before .before .before .if1 .left), at-place (c .before .before .before .before .before .before .before .before .before .before .before .before .pre .1) (omega (arith, c .before .before .before .before .before .before .before .before .before .before .before .before .pre .1 .low, r .low, some)) (r .high))
+    let t = c .before .before .before .before .before .before .before .before .token-at .result in let r = c .before .before .before .before .before .before .before .before .token-at .ensures .1 in let some = r .some (λ (z : t .kind ≡ 0). omega (arith, c .before .if4 .taken)) in
+    (omega (arith, c .before .before .before .before .before .before .before .before .before .before .pre .0, c .before .before .before .before .before .before .before .if1 .left), at-place (c .before .before .before .before .before .before .before .before .before .before .pre .1) (omega (arith, c .before .before .before .before .before .before .before .before .before .before .pre .1 .low, r .low, some)) (r .high))
 
 read-condition-same-length-4 : (t : ℕ) → read-condition-lts.Need-same-length-4 (read-condition-claims t) (read-condition-at t) read-condition.Post
 read-condition-same-length-4 t c = search needs
 
 read-condition-returns-4 : (t : ℕ) → read-condition-lts.Need-returns-4 (read-condition-claims t) (read-condition-at t) read-condition.Post
 read-condition-returns-4 t c =
-    let a = c .before .before .before .before .before .before .before .before .before .before .before .before .before .before .before .args in let t = c .before .before .before .before .before .before .before .before .before .before .before .next-token .result in let r = c .before .before .before .before .before .before .before .before .before .before .before .next-token .ensures .1 in let some = r .some (λ (z : t .kind ≡ 0). omega (arith, c .before .before .before .before .if4 .taken)) in
-    done-as (ap (λ (x : Token). read-condition-spec (a .depth) (stream (a .text .now) x)) (sym (c .before .before .before .before .before .before .before .before .before .before .before .next-token .ensures .0)) ∙ choice-first (a .text .now) t (tokenAt (a .text .now) (t .end)) refl (r .high) (a .depth) (c .before .before .before .before .before .before .before .before .before .before .if1 .left) (c .before .before .before .before .before .before .before .before .if2 .left) (c .before .before .before .before .before .before .if3 .left) (c .before .before .before .before .if4 .taken))
-    (weaker (omega (arith, r .low, some)) (c .before .before .read-choice .ensures))
+    let a = c .before .before .before .before .before .before .before .before .before .before .before .before .before .args in let t = c .before .before .before .before .before .before .before .before .before .before .before .token-at .result in let r = c .before .before .before .before .before .before .before .before .before .before .before .token-at .ensures .1 in let some = r .some (λ (z : t .kind ≡ 0). omega (arith, c .before .before .before .before .if4 .taken)) in (
+      done-as (ap (λ (x : Token). read-condition-spec (a .depth) (stream (a .text .now .now) x)) (sym (c .before .before .before .before .before .before .before .before .before .before .before .token-at .ensures .0)) ∙ choice-first (a .text .now .now) t (tokenAt (a .text .now .now) (t .end)) refl (r .high) (a .depth) (c .before .before .before .before .before .before .before .before .before .before .if1 .left) (c .before .before .before .before .before .before .before .before .if2 .left) (c .before .before .before .before .before .before .if3 .left) (c .before .before .before .before .if4 .taken))
+          (weaker (omega (arith, r .low, some)) (c .before .before .read-choice .ensures .0)),
+      c .before .before .read-choice .ensures .1,
+    )
 
-read-condition-read-flat-requires-2 : (t : ℕ) → read-condition-lts.Need-read-flat-requires-2 (read-condition-claims t) (read-condition-at t) read-condition.Post
-read-condition-read-flat-requires-2 t c κs = ready-from (c .before .before .before .before .before .before .before .before .before .before .before .before .pre .1) (c .before .before .before .before .before .before .before .before .next-token .ensures .1)
+read-condition-read-plain-requires-2 : (t : ℕ) → read-condition-lts.Need-read-plain-requires-2 (read-condition-claims t) (read-condition-at t) read-condition.Post
+read-condition-read-plain-requires-2 t c κs = (ready-from (c .before .before .before .before .before .before .before .before .before .before .pre .1) (c .before .before .before .before .before .before .before .before .token-at .ensures .1), c .before .before .before .before .before .before .before .before .before .before .pre .1 .small)
 
 read-condition-same-length-5 : (t : ℕ) → read-condition-lts.Need-same-length-5 (read-condition-claims t) (read-condition-at t) read-condition.Post
 read-condition-same-length-5 t c = search needs
 
 read-condition-returns-5 : (t : ℕ) → read-condition-lts.Need-returns-5 (read-condition-claims t) (read-condition-at t) read-condition.Post
 read-condition-returns-5 t c =
-    let a = c .before .before .before .before .before .before .before .before .before .before .before .before .before .before .before .args in let t = c .before .before .before .before .before .before .before .before .before .before .before .next-token .result in let r = c .before .before .before .before .before .before .before .before .before .before .before .next-token .ensures .1 in
-    done-as (ap (λ (x : Token). read-condition-spec (a .depth) (stream (a .text .now) x)) (sym (c .before .before .before .before .before .before .before .before .before .before .before .next-token .ensures .0)) ∙ flat-first (a .text .now) t (tokenAt (a .text .now) (t .end)) refl (r .high) (a .depth) (c .before .before .before .before .before .before .before .before .before .before .if1 .left) (c .before .before .before .before .before .before .before .before .if2 .left) (c .before .before .before .before .before .before .if3 .left) (c .before .before .before .before .if4 .left))
-    (weaker (r .low) (c .before .before .read-flat2 .ensures))
+    let a = c .before .before .before .before .before .before .before .before .before .before .before .before .before .args in let t = c .before .before .before .before .before .before .before .before .before .before .before .token-at .result in let r = c .before .before .before .before .before .before .before .before .before .before .before .token-at .ensures .1 in (
+      done-as (ap (λ (x : Token). read-condition-spec (a .depth) (stream (a .text .now .now) x)) (sym (c .before .before .before .before .before .before .before .before .before .before .before .token-at .ensures .0)) ∙ flat-first (a .text .now .now) t (tokenAt (a .text .now .now) (t .end)) refl (r .high) (a .depth) (c .before .before .before .before .before .before .before .before .before .before .if1 .left) (c .before .before .before .before .before .before .before .before .if2 .left) (c .before .before .before .before .before .before .if3 .left) (c .before .before .before .before .if4 .left))
+          (weaker (r .low) (c .before .before .read-plain2 .ensures .0)),
+      c .before .before .read-plain2 .ensures .1,
+    )
 
 abbrev read-conjunction-Inv-loop : read-conjunction-lts.InvT-loop
 read-conjunction-Inv-loop classes text table₀ seen from depth number same at₀ free₀ ok₀ more₀ table at free ok more =
-    Going text seen from number same kinds.and both (read-condition-spec depth) (read-conjunction-spec (read-condition-spec depth) (stream text (tokenAt text from))) table₀ table at free ok more × (length table ≡ length table₀)
+    Going (text .now) (seen .now) from number same kinds.and both (read-condition-spec depth) (read-conjunction-spec (read-condition-spec depth) (stream (text .now) (tokenAt (text .now) from))) table₀ table at free ok more × (length table ≡ length table₀)
 
 abbrev read-conjunction-μ-loop : read-conjunction-lts.MeasureT-loop
-read-conjunction-μ-loop classes text table₀ seen from depth number same at₀ free₀ ok₀ more₀ table at free ok more = length text - at
+read-conjunction-μ-loop classes text table₀ seen from depth number same at₀ free₀ ok₀ more₀ table at free ok more = length (text .now) - at
 
 read-conjunction-loop-holds : (t : ℕ) → read-conjunction-lts.Need-loop-holds (read-conjunction-claims t) (read-conjunction-at t) read-conjunction.Post read-conjunction-Inv-loop read-conjunction-μ-loop
 unfolding read-conjunction-spec read-joined chain
-read-conjunction-loop-holds t c = (start (c .before .before .before .pre .1 .high), refl)
+read-conjunction-loop-holds t c = (start (c .before .pre .1 .high), refl)
 
 read-conjunction-read-condition-requires : (t : ℕ) → read-conjunction-lts.Need-read-condition-requires (read-conjunction-claims t) (read-conjunction-at t) read-conjunction.Post read-conjunction-Inv-loop read-conjunction-μ-loop
-read-conjunction-read-condition-requires t c κs = let g = c .before .loop .inv .0 in (omega (arith, c .before .before .before .before .before .pre .0), at-place (c .before .before .before .before .before .pre .1) (low g (c .before .before .before .before .before .pre .1 .low)) (g .high))
-
-read-conjunction-enum-known-part : (t : ℕ) → read-conjunction-lts.Need-enum-known-part (read-conjunction-claims t) (read-conjunction-at t) read-conjunction.Post read-conjunction-Inv-loop read-conjunction-μ-loop
-read-conjunction-enum-known-part t c = search needs
-
-read-conjunction-enum-told : (t : ℕ) → read-conjunction-lts.Need-enum-told (read-conjunction-claims t) (read-conjunction-at t) read-conjunction.Post read-conjunction-Inv-loop read-conjunction-μ-loop
-read-conjunction-enum-told t c = search needs
+read-conjunction-read-condition-requires t c κs = let g = c .before .loop .inv .0 in (omega (arith, c .before .before .before .pre .0), at-place (c .before .before .before .pre .1) (low g (c .before .before .before .pre .1 .low)) (g .high))
 
 read-conjunction-same-length : (t : ℕ) → read-conjunction-lts.Need-same-length (read-conjunction-claims t) (read-conjunction-at t) read-conjunction.Post read-conjunction-Inv-loop read-conjunction-μ-loop
 read-conjunction-same-length t c = omega (arith, c .before .before .before .before .read-condition .kept, c .before .before .before .before .before .before .loop .inv .1)
 
 read-conjunction-returns : (t : ℕ) → read-conjunction-lts.Need-returns (read-conjunction-claims t) (read-conjunction-at t) read-conjunction.Post read-conjunction-Inv-loop read-conjunction-μ-loop
-read-conjunction-returns t c = refuses (c .before .before .before .before .before .before .loop .inv .0) (c .before .before .before .before .read-condition .ensures) (c .enum-told .given .1)
+read-conjunction-returns t c = (
+  refuses (c .before .before .before .before .before .before .loop .inv .0) (c .before .before .before .before .read-condition .ensures .0) (refused-is _ (c .if1 .taken)),
+  c .before .before .before .before .read-condition .ensures .1,
+)
 
 read-conjunction-joined-requires : (t : ℕ) → read-conjunction-lts.Need-joined-requires (read-conjunction-claims t) (read-conjunction-at t) read-conjunction.Post read-conjunction-Inv-loop read-conjunction-μ-loop
 read-conjunction-joined-requires t c κs =
-    let k = as-read (c .before .before .part .given .1) (c .before .before .before .before .before .before .read-condition .ensures .says) in
-    omega (arith, k .room, k .lies .order, k .lies .high, low (c .before .before .before .before .before .before .before .before .loop .inv .0) (c .before .before .before .before .before .before .before .before .before .before .before .before .pre .1 .low), c .before .before .before .before .before .before .before .before .before .before .before .before .pre .1 .small)
+    let k = as-read (read-is _ (c .before .before .if1 .left)) (c .before .before .before .before .before .before .read-condition .ensures .0 .says) in
+    omega (arith, k .room, k .lies .order, k .lies .high, low (c .before .before .before .before .before .before .before .before .loop .inv .0) (c .before .before .before .before .before .before .before .before .before .before .pre .1 .low), c .before .before .before .before .before .before .before .before .before .before .pre .1 .small)
+
+read-conjunction-with-entries-requires : (t : ℕ) → read-conjunction-lts.Need-with-entries-requires (read-conjunction-claims t) (read-conjunction-at t) read-conjunction.Post read-conjunction-Inv-loop read-conjunction-μ-loop
+read-conjunction-with-entries-requires t c κs = search needs
 
 read-conjunction-same-length-2 : (t : ℕ) → read-conjunction-lts.Need-same-length-2 (read-conjunction-claims t) (read-conjunction-at t) read-conjunction.Post read-conjunction-Inv-loop read-conjunction-μ-loop
-read-conjunction-same-length-2 t c = omega (arith, c .before .before .before .before .joined .kept, c .before .before .before .before .before .before .before .before .before .before .before .read-condition .kept, c .before .before .before .before .before .before .before .before .before .before .before .before .before .loop .inv .1)
+read-conjunction-same-length-2 t c = omega (arith, c .before .before .before .before .before .joined .kept, c .before .before .before .before .before .before .before .before .before .before .before .before .read-condition .kept, c .before .before .before .before .before .before .before .before .before .before .before .before .before .before .loop .inv .1)
 
 read-conjunction-returns-2 : (t : ℕ) → read-conjunction-lts.Need-returns-2 (read-conjunction-claims t) (read-conjunction-at t) read-conjunction.Post read-conjunction-Inv-loop read-conjunction-μ-loop
 unfolding treeEntries
-read-conjunction-returns-2 t c =
-    stops (so-far (c .before .before .before .before .before .before .before .before .before .before .before .before .before .loop .inv .0) (c .before .before .before .before .before .before .before .before .before .before .before .read-condition .ensures) 26 (λ l u. refl) (c .before .before .before .before .before .before .before .part .given .1) (c .before .before .before .before .joined .ensures)) (conjunction-step (c .before .before .before .before .before .before .before .before .before .before .before .before .before .before .before .before .before .args .depth)) (c .if1 .taken)
+read-conjunction-returns-2 t c = (
+  told-as (with-is (c .with-entries .ensures)) (stops (so-far (c .before .before .before .before .before .before .before .before .before .before .before .before .before .before .loop .inv .0) (c .before .before .before .before .before .before .before .before .before .before .before .before .read-condition .ensures .0) 26 (λ l u. refl) (read-is _ (c .before .before .before .before .before .before .before .before .if1 .left)) (c .before .before .before .before .before .joined .ensures)) (conjunction-step (c .before .before .before .before .before .before .before .before .before .before .before .before .before .before .before .before .args .depth)) (c .before .if2 .taken)),
+  with-plain (c .with-entries .ensures),
+)
+
+read-conjunction-cast-free : (t : ℕ) → read-conjunction-lts.Need-cast-free (read-conjunction-claims t) (read-conjunction-at t) read-conjunction.Post read-conjunction-Inv-loop read-conjunction-μ-loop
+unfolding treeEntries
+read-conjunction-cast-free t c =
+    let k = as-read refl (so-far (c .before .before .before .before .before .before .before .before .before .before .before .before .before .before .loop .inv .0) (c .before .before .before .before .before .before .before .before .before .before .before .before .read-condition .ensures .0) 26 (λ l u. refl) (read-is _ (c .before .before .before .before .before .before .before .before .if1 .left)) (c .before .before .before .before .before .joined .ensures) .done .says) in
+    omega (arith, k .room, k .lies .order, k .lies .high, c .before .before .before .before .before .before .before .before .before .before .before .before .before .before .before .before .pre .1 .low, c .before .before .before .before .before .before .before .before .before .before .before .before .before .before .before .before .pre .1 .small)
 
 read-conjunction-loop-less : (t : ℕ) → read-conjunction-lts.Need-loop-less (read-conjunction-claims t) (read-conjunction-at t) read-conjunction.Post read-conjunction-Inv-loop read-conjunction-μ-loop
-read-conjunction-loop-less t c =
-    let k = as-read (c .before .before .before .before .before .before .before .part .given .1) (c .before .before .before .before .before .before .before .before .before .before .before .read-condition .ensures .says) in omega (arith, k .lies .low, k .lies .order, k .lies .high)
+read-conjunction-loop-less t c = let k = as-read (read-is _ (c .before .before .before .before .before .before .before .before .if1 .left)) (c .before .before .before .before .before .before .before .before .before .before .before .before .read-condition .ensures .0 .says) in omega (arith, k .lies .low, k .lies .order, k .lies .high)
 
 read-conjunction-loop-again : (t : ℕ) → read-conjunction-lts.Need-loop-again (read-conjunction-claims t) (read-conjunction-at t) read-conjunction.Post read-conjunction-Inv-loop read-conjunction-μ-loop
 unfolding treeEntries
 read-conjunction-loop-again t c = (
-  turn (so-far (c .before .before .before .before .before .before .before .before .before .before .before .before .before .loop .inv .0) (c .before .before .before .before .before .before .before .before .before .before .before .read-condition .ensures) 26 (λ l u. refl) (c .before .before .before .before .before .before .before .part .given .1) (c .before .before .before .before .joined .ensures)) (conjunction-step (c .before .before .before .before .before .before .before .before .before .before .before .before .before .before .before .before .before .args .depth)) (omega arith) (c .if1 .left),
-  omega (arith, c .before .before .before .before .joined .kept, c .before .before .before .before .before .before .before .before .before .before .before .read-condition .kept, c .before .before .before .before .before .before .before .before .before .before .before .before .before .loop .inv .1),
+  turn (so-far (c .before .before .before .before .before .before .before .before .before .before .before .before .before .before .loop .inv .0) (c .before .before .before .before .before .before .before .before .before .before .before .before .read-condition .ensures .0) 26 (λ l u. refl) (read-is _ (c .before .before .before .before .before .before .before .before .if1 .left)) (c .before .before .before .before .before .joined .ensures)) (conjunction-step (c .before .before .before .before .before .before .before .before .before .before .before .before .before .before .before .before .args .depth)) (omega arith) (c .before .if2 .left),
+  omega (arith, c .before .before .before .before .before .joined .kept, c .before .before .before .before .before .before .before .before .before .before .before .before .read-condition .kept, c .before .before .before .before .before .before .before .before .before .before .before .before .before .before .loop .inv .1),
 )
 
 abbrev read-disjunction-Inv-loop : read-disjunction-lts.InvT-loop
 read-disjunction-Inv-loop classes text table₀ seen from depth number same at₀ free₀ ok₀ more₀ table at free ok more =
-    Going text seen from number same kinds.or either (read-conjunction-spec (read-condition-spec depth)) (read-disjunction-spec (read-condition-spec depth) (stream text (tokenAt text from))) table₀ table at free ok more × (length table ≡ length table₀)
+    Going (text .now) (seen .now) from number same kinds.or either (read-conjunction-spec (read-condition-spec depth)) (read-disjunction-spec (read-condition-spec depth) (stream (text .now) (tokenAt (text .now) from))) table₀ table at free ok more × (length table ≡ length table₀)
 
 abbrev read-disjunction-μ-loop : read-disjunction-lts.MeasureT-loop
-read-disjunction-μ-loop classes text table₀ seen from depth number same at₀ free₀ ok₀ more₀ table at free ok more = length text - at
+read-disjunction-μ-loop classes text table₀ seen from depth number same at₀ free₀ ok₀ more₀ table at free ok more = length (text .now) - at
 
 read-disjunction-loop-holds : (t : ℕ) → read-disjunction-lts.Need-loop-holds (read-disjunction-claims t) (read-disjunction-at t) read-disjunction.Post read-disjunction-Inv-loop read-disjunction-μ-loop
 unfolding read-disjunction-spec read-joined chain
-read-disjunction-loop-holds t c = (start (c .before .before .before .pre .1 .high), refl)
+read-disjunction-loop-holds t c = (start (c .before .pre .1 .high), refl)
 
 read-disjunction-read-conjunction-requires : (t : ℕ) → read-disjunction-lts.Need-read-conjunction-requires (read-disjunction-claims t) (read-disjunction-at t) read-disjunction.Post read-disjunction-Inv-loop read-disjunction-μ-loop
-read-disjunction-read-conjunction-requires t c κs = let g = c .before .loop .inv .0 in (omega (arith, c .before .before .before .before .before .pre .0), at-place (c .before .before .before .before .before .pre .1) (low g (c .before .before .before .before .before .pre .1 .low)) (g .high))
-
-read-disjunction-enum-known-part : (t : ℕ) → read-disjunction-lts.Need-enum-known-part (read-disjunction-claims t) (read-disjunction-at t) read-disjunction.Post read-disjunction-Inv-loop read-disjunction-μ-loop
-read-disjunction-enum-known-part t c = search needs
-
-read-disjunction-enum-told : (t : ℕ) → read-disjunction-lts.Need-enum-told (read-disjunction-claims t) (read-disjunction-at t) read-disjunction.Post read-disjunction-Inv-loop read-disjunction-μ-loop
-read-disjunction-enum-told t c = search needs
+read-disjunction-read-conjunction-requires t c κs = let g = c .before .loop .inv .0 in (omega (arith, c .before .before .before .pre .0), at-place (c .before .before .before .pre .1) (low g (c .before .before .before .pre .1 .low)) (g .high))
 
 read-disjunction-same-length : (t : ℕ) → read-disjunction-lts.Need-same-length (read-disjunction-claims t) (read-disjunction-at t) read-disjunction.Post read-disjunction-Inv-loop read-disjunction-μ-loop
 read-disjunction-same-length t c = omega (arith, c .before .before .before .before .read-conjunction .kept, c .before .before .before .before .before .before .loop .inv .1)
 
 read-disjunction-returns : (t : ℕ) → read-disjunction-lts.Need-returns (read-disjunction-claims t) (read-disjunction-at t) read-disjunction.Post read-disjunction-Inv-loop read-disjunction-μ-loop
-read-disjunction-returns t c = refuses (c .before .before .before .before .before .before .loop .inv .0) (c .before .before .before .before .read-conjunction .ensures) (c .enum-told .given .1)
+read-disjunction-returns t c = (
+  refuses (c .before .before .before .before .before .before .loop .inv .0) (c .before .before .before .before .read-conjunction .ensures .0) (refused-is _ (c .if1 .taken)),
+  c .before .before .before .before .read-conjunction .ensures .1,
+)
 
 read-disjunction-joined-requires : (t : ℕ) → read-disjunction-lts.Need-joined-requires (read-disjunction-claims t) (read-disjunction-at t) read-disjunction.Post read-disjunction-Inv-loop read-disjunction-μ-loop
 read-disjunction-joined-requires t c κs =
-    let k = as-read (c .before .before .part .given .1) (c .before .before .before .before .before .before .read-conjunction .ensures .says) in
-    omega (arith, k .room, k .lies .order, k .lies .high, low (c .before .before .before .before .before .before .before .before .loop .inv .0) (c .before .before .before .before .before .before .before .before .before .before .before .before .pre .1 .low), c .before .before .before .before .before .before .before .before .before .before .before .before .pre .1 .small)
+    let k = as-read (read-is _ (c .before .before .if1 .left)) (c .before .before .before .before .before .before .read-conjunction .ensures .0 .says) in
+    omega (arith, k .room, k .lies .order, k .lies .high, low (c .before .before .before .before .before .before .before .before .loop .inv .0) (c .before .before .before .before .before .before .before .before .before .before .pre .1 .low), c .before .before .before .before .before .before .before .before .before .before .pre .1 .small)
+
+read-disjunction-with-entries-requires : (t : ℕ) → read-disjunction-lts.Need-with-entries-requires (read-disjunction-claims t) (read-disjunction-at t) read-disjunction.Post read-disjunction-Inv-loop read-disjunction-μ-loop
+read-disjunction-with-entries-requires t c κs = search needs
 
 read-disjunction-same-length-2 : (t : ℕ) → read-disjunction-lts.Need-same-length-2 (read-disjunction-claims t) (read-disjunction-at t) read-disjunction.Post read-disjunction-Inv-loop read-disjunction-μ-loop
-read-disjunction-same-length-2 t c = omega (arith, c .before .before .before .before .joined .kept, c .before .before .before .before .before .before .before .before .before .before .before .read-conjunction .kept, c .before .before .before .before .before .before .before .before .before .before .before .before .before .loop .inv .1)
+read-disjunction-same-length-2 t c = omega (arith, c .before .before .before .before .before .joined .kept, c .before .before .before .before .before .before .before .before .before .before .before .before .read-conjunction .kept, c .before .before .before .before .before .before .before .before .before .before .before .before .before .before .loop .inv .1)
 
 read-disjunction-returns-2 : (t : ℕ) → read-disjunction-lts.Need-returns-2 (read-disjunction-claims t) (read-disjunction-at t) read-disjunction.Post read-disjunction-Inv-loop read-disjunction-μ-loop
 unfolding treeEntries
-read-disjunction-returns-2 t c =
-    stops (so-far (c .before .before .before .before .before .before .before .before .before .before .before .before .before .loop .inv .0) (c .before .before .before .before .before .before .before .before .before .before .before .read-conjunction .ensures) 27 (λ l u. refl) (c .before .before .before .before .before .before .before .part .given .1) (c .before .before .before .before .joined .ensures)) (disjunction-step (c .before .before .before .before .before .before .before .before .before .before .before .before .before .before .before .before .before .args .depth)) (c .if1 .taken)
+read-disjunction-returns-2 t c = (
+  told-as (with-is (c .with-entries .ensures)) (stops (so-far (c .before .before .before .before .before .before .before .before .before .before .before .before .before .before .loop .inv .0) (c .before .before .before .before .before .before .before .before .before .before .before .before .read-conjunction .ensures .0) 27 (λ l u. refl) (read-is _ (c .before .before .before .before .before .before .before .before .if1 .left)) (c .before .before .before .before .before .joined .ensures)) (disjunction-step (c .before .before .before .before .before .before .before .before .before .before .before .before .before .before .before .before .args .depth)) (c .before .if2 .taken)),
+  with-plain (c .with-entries .ensures),
+)
+
+read-disjunction-cast-free : (t : ℕ) → read-disjunction-lts.Need-cast-free (read-disjunction-claims t) (read-disjunction-at t) read-disjunction.Post read-disjunction-Inv-loop read-disjunction-μ-loop
+unfolding treeEntries
+read-disjunction-cast-free t c =
+    let k = as-read refl (so-far (c .before .before .before .before .before .before .before .before .before .before .before .before .before .before .loop .inv .0) (c .before .before .before .before .before .before .before .before .before .before .before .before .read-conjunction .ensures .0) 27 (λ l u. refl) (read-is _ (c .before .before .before .before .before .before .before .before .if1 .left)) (c .before .before .before .before .before .joined .ensures) .done .says) in
+    omega (arith, k .room, k .lies .order, k .lies .high, c .before .before .before .before .before .before .before .before .before .before .before .before .before .before .before .before .pre .1 .low, c .before .before .before .before .before .before .before .before .before .before .before .before .before .before .before .before .pre .1 .small)
 
 read-disjunction-loop-less : (t : ℕ) → read-disjunction-lts.Need-loop-less (read-disjunction-claims t) (read-disjunction-at t) read-disjunction.Post read-disjunction-Inv-loop read-disjunction-μ-loop
-read-disjunction-loop-less t c =
-    let k = as-read (c .before .before .before .before .before .before .before .part .given .1) (c .before .before .before .before .before .before .before .before .before .before .before .read-conjunction .ensures .says) in omega (arith, k .lies .low, k .lies .order, k .lies .high)
+read-disjunction-loop-less t c = let k = as-read (read-is _ (c .before .before .before .before .before .before .before .before .if1 .left)) (c .before .before .before .before .before .before .before .before .before .before .before .before .read-conjunction .ensures .0 .says) in omega (arith, k .lies .low, k .lies .order, k .lies .high)
 
 read-disjunction-loop-again : (t : ℕ) → read-disjunction-lts.Need-loop-again (read-disjunction-claims t) (read-disjunction-at t) read-disjunction.Post read-disjunction-Inv-loop read-disjunction-μ-loop
 unfolding treeEntries
 read-disjunction-loop-again t c = (
-  turn (so-far (c .before .before .before .before .before .before .before .before .before .before .before .before .before .loop .inv .0) (c .before .before .before .before .before .before .before .before .before .before .before .read-conjunction .ensures) 27 (λ l u. refl) (c .before .before .before .before .before .before .before .part .given .1) (c .before .before .before .before .joined .ensures)) (disjunction-step (c .before .before .before .before .before .before .before .before .before .before .before .before .before .before .before .before .before .args .depth)) (omega arith) (c .if1 .left),
-  omega (arith, c .before .before .before .before .joined .kept, c .before .before .before .before .before .before .before .before .before .before .before .read-conjunction .kept, c .before .before .before .before .before .before .before .before .before .before .before .before .before .loop .inv .1),
+  turn (so-far (c .before .before .before .before .before .before .before .before .before .before .before .before .before .before .loop .inv .0) (c .before .before .before .before .before .before .before .before .before .before .before .before .read-conjunction .ensures .0) 27 (λ l u. refl) (read-is _ (c .before .before .before .before .before .before .before .before .if1 .left)) (c .before .before .before .before .before .joined .ensures)) (disjunction-step (c .before .before .before .before .before .before .before .before .before .before .before .before .before .before .before .before .args .depth)) (omega arith) (c .before .if2 .left),
+  omega (arith, c .before .before .before .before .before .joined .kept, c .before .before .before .before .before .before .before .before .before .before .before .before .read-conjunction .kept, c .before .before .before .before .before .before .before .before .before .before .before .before .before .before .loop .inv .1),
 )
 
 read-group-read-disjunction-requires : (t : ℕ) → read-group-lts.Need-read-disjunction-requires (read-group-claims t) (read-group-at t) read-group.Post
-read-group-read-disjunction-requires t c κs = (omega (arith, c .before .before .before .before .pre .0), at-place (c .before .before .before .before .pre .1) (omega (arith, c .before .before .before .before .pre .1 .low)) (c .before .before .before .before .pre .1 .high))
-
-read-group-enum-known-inside : (t : ℕ) → read-group-lts.Need-enum-known-inside (read-group-claims t) (read-group-at t) read-group.Post
-read-group-enum-known-inside t c = search needs
-
-read-group-enum-told : (t : ℕ) → read-group-lts.Need-enum-told (read-group-claims t) (read-group-at t) read-group.Post
-read-group-enum-told t c = search needs
+read-group-read-disjunction-requires t c κs = (omega (arith, c .before .before .pre .0), at-place (c .before .before .pre .1) (omega (arith, c .before .before .pre .1 .low)) (c .before .before .pre .1 .high))
 
 read-group-same-length : (t : ℕ) → read-group-lts.Need-same-length (read-group-claims t) (read-group-at t) read-group.Post
 read-group-same-length t c = search needs
 
 read-group-returns : (t : ℕ) → read-group-lts.Need-returns (read-group-claims t) (read-group-at t) read-group.Post
 unfolding read-bracketed before mapped
-read-group-returns t c = let e = c .enum-told .given .1 in told-as e (turned-done (turned-bind _ (turned-bind _ (as-refused e (c .before .before .before .before .read-disjunction .ensures .says)))))
+read-group-returns t c =
+    let e = refused-is _ (c .if1 .taken) in (
+      told-as e (turned-done (turned-bind _ (turned-bind _ (as-refused e (c .before .before .before .before .read-disjunction .ensures .0 .says))))),
+      c .before .before .before .before .read-disjunction .ensures .1,
+    )
 
-read-group-turned-away-requires : (t : ℕ) → read-group-lts.Need-turned-away-requires (read-group-claims t) (read-group-at t) read-group.Post
-read-group-turned-away-requires t c κs = as-read (c .before .before .before .inside .given .1) (c .before .before .before .before .before .before .before .read-disjunction .ensures .says) .lies .order
+read-group-stopped-requires : (t : ℕ) → read-group-lts.Need-stopped-requires (read-group-claims t) (read-group-at t) read-group.Post
+read-group-stopped-requires t c κs = as-read (read-is _ (c .before .before .before .if1 .left)) (c .before .before .before .before .before .before .before .read-disjunction .ensures .0 .says) .lies .order
 
 read-group-same-length-2 : (t : ℕ) → read-group-lts.Need-same-length-2 (read-group-claims t) (read-group-at t) read-group.Post
 read-group-same-length-2 t c = search needs
@@ -390,20 +433,27 @@ read-group-same-length-2 t c = search needs
 read-group-returns-2 : (t : ℕ) → read-group-lts.Need-returns-2 (read-group-claims t) (read-group-at t) read-group.Post
 unfolding read-bracketed before mapped
 read-group-returns-2 t c =
-    let d = fails 41 (omega arith) (c .before .before .before .before .inside .given .1) (c .before .before .before .before .before .before .before .before .read-disjunction .ensures) (c .before .if1 .taken) (c .turned-away .ensures) in
-    turned-done (turned-bind _ (as-refused refl (d .says)))
+    let d = fails 41 (omega arith) (read-is _ (c .before .before .before .before .if1 .left)) (c .before .before .before .before .before .before .before .before .read-disjunction .ensures .0) (c .before .before .if2 .taken) refl in (
+      told-as (short-is (c .stopped .ensures)) (turned-done (turned-bind _ (as-refused refl (d .says)))),
+      short-plain _ (c .stopped .ensures),
+    )
 
-read-group-next-token-requires : (t : ℕ) → read-group-lts.Need-next-token-requires (read-group-claims t) (read-group-at t) read-group.Post
-read-group-next-token-requires t c κs = (c .before .before .before .before .before .before .before .before .before .before .before .before .pre .1 .table, as-read (c .before .before .before .inside .given .1) (c .before .before .before .before .before .before .before .read-disjunction .ensures .says) .lies .high)
+read-group-token-at-requires : (t : ℕ) → read-group-lts.Need-token-at-requires (read-group-claims t) (read-group-at t) read-group.Post
+read-group-token-at-requires t c κs = (c .before .before .before .before .before .before .before .before .before .pre .1 .table, as-read (read-is _ (c .before .before .if1 .left)) (c .before .before .before .before .before .before .read-disjunction .ensures .0 .says) .lies .high)
+
+read-group-cast-append : (t : ℕ) → read-group-lts.Need-cast-append (read-group-claims t) (read-group-at t) read-group.Post
+read-group-cast-append t c =
+    let k = as-read (read-is _ (c .before .before .before .before .before .before .if1 .left)) (c .before .before .before .before .before .before .before .before .before .before .read-disjunction .ensures .0 .says) in
+    omega (arith, k .room, k .lies .order, k .lies .high, c .before .before .before .before .before .before .before .before .before .before .before .before .before .pre .1 .low, c .before .before .before .before .before .before .before .before .before .before .before .before .before .pre .1 .small)
 
 read-group-append-requires : (t : ℕ) → read-group-lts.Need-append-requires (read-group-claims t) (read-group-at t) read-group.Post
 read-group-append-requires t c κs =
-    let k = as-read (c .before .before .before .before .before .inside .given .1) (c .before .before .before .before .before .before .before .before .before .read-disjunction .ensures .says) in
-    omega (arith, k .room, k .lies .order, k .lies .high, c .before .before .before .before .before .before .before .before .before .before .before .before .before .before .pre .1 .low, c .before .before .before .before .before .before .before .before .before .before .before .before .before .before .pre .1 .small)
+    let k = as-read (read-is _ (c .before .before .before .before .before .before .if1 .left)) (c .before .before .before .before .before .before .before .before .before .before .read-disjunction .ensures .0 .says) in
+    omega (arith, k .room, k .lies .order, k .lies .high, c .before .before .before .before .before .before .before .before .before .before .before .before .before .pre .1 .low, c .before .before .before .before .before .before .before .before .before .before .before .before .before .pre .1 .small)
 
-read-group-add-t22 : (t : ℕ) → read-group-lts.Need-add-t22 (read-group-claims t) (read-group-at t) read-group.Post
-read-group-add-t22 t c =
-    let k = as-read (c .before .before .before .before .before .before .before .before .inside .given .1) (c .before .before .before .before .before .before .before .before .before .before .before .before .read-disjunction .ensures .says) in
+read-group-add-t21 : (t : ℕ) → read-group-lts.Need-add-t21 (read-group-claims t) (read-group-at t) read-group.Post
+read-group-add-t21 t c =
+    let k = as-read (read-is _ (c .before .before .before .before .before .before .before .before .before .before .if1 .left)) (c .before .before .before .before .before .before .before .before .before .before .before .before .before .before .read-disjunction .ensures .0 .says) in
     omega (arith, k .room, k .lies .order, k .lies .high, c .before .before .before .before .before .before .before .before .before .before .before .before .before .before .before .before .before .pre .1 .low, c .before .before .before .before .before .before .before .before .before .before .before .before .before .before .before .before .before .pre .1 .small)
 
 read-group-same-length-3 : (t : ℕ) → read-group-lts.Need-same-length-3 (read-group-claims t) (read-group-at t) read-group.Post
@@ -411,49 +461,61 @@ read-group-same-length-3 t c = search needs
 
 read-group-returns-3 : (t : ℕ) → read-group-lts.Need-returns-3 (read-group-claims t) (read-group-at t) read-group.Post
 unfolding read-bracketed before mapped treeEntries
-read-group-returns-3 t c =
-    closing-read [] brackets (kept-none _ _ _ _) (entry 25 0 0) (λ v. refl) (omega (arith, c .before .before .before .before .before .before .before .before .before .before .before .before .before .before .before .before .before .pre .1 .low)) refl
-    (follows 41 (omega arith) (c .before .before .before .before .before .before .before .before .inside .given .1) (c .before .before .before .before .before .before .before .before .before .before .before .before .read-disjunction .ensures) (c .before .before .before .before .before .if1 .left) (c .before .before .before .before .next-token .ensures .0)) (c .before .before .append .ensures)
+read-group-returns-3 t c = (
+  told-as (with-is refl)
+      (closing-read [] brackets (kept-none _ _ _ _) (entry 25 0 0) (λ v. refl) (omega (arith, c .before .before .before .before .before .before .before .before .before .before .before .before .before .before .before .before .before .pre .1 .low)) refl
+      (follows 41 (omega arith) (read-is _ (c .before .before .before .before .before .before .before .before .before .before .if1 .left)) (c .before .before .before .before .before .before .before .before .before .before .before .before .before .before .read-disjunction .ensures .0) (c .before .before .before .before .before .before .before .before .if2 .left) (c .before .before .before .before .before .before .before .token-at .ensures .0)) (c .before .before .before .append .ensures)),
+  with-plain refl,
+)
 
 read-negation-read-condition-requires : (t : ℕ) → read-negation-lts.Need-read-condition-requires (read-negation-claims t) (read-negation-at t) read-negation.Post
-read-negation-read-condition-requires t c κs = (omega (arith, c .before .before .before .before .pre .0), at-place (c .before .before .before .before .pre .1) (omega (arith, c .before .before .before .before .pre .1 .low)) (c .before .before .before .before .pre .1 .high))
-
-read-negation-enum-known-inside : (t : ℕ) → read-negation-lts.Need-enum-known-inside (read-negation-claims t) (read-negation-at t) read-negation.Post
-read-negation-enum-known-inside t c = search needs
-
-read-negation-enum-told : (t : ℕ) → read-negation-lts.Need-enum-told (read-negation-claims t) (read-negation-at t) read-negation.Post
-read-negation-enum-told t c = search needs
+read-negation-read-condition-requires t c κs = (omega (arith, c .before .before .pre .0), at-place (c .before .before .pre .1) (omega (arith, c .before .before .pre .1 .low)) (c .before .before .pre .1 .high))
 
 read-negation-same-length : (t : ℕ) → read-negation-lts.Need-same-length (read-negation-claims t) (read-negation-at t) read-negation.Post
 read-negation-same-length t c = search needs
 
 read-negation-returns : (t : ℕ) → read-negation-lts.Need-returns (read-negation-claims t) (read-negation-at t) read-negation.Post
 unfolding read-negated mapped
-read-negation-returns t c = let e = c .enum-told .given .1 in told-as e (turned-done (turned-bind _ (as-refused e (c .before .before .before .before .read-condition .ensures .says))))
+read-negation-returns t c =
+    let e = refused-is _ (c .if1 .taken) in (
+      told-as e (turned-done (turned-bind _ (as-refused e (c .before .before .before .before .read-condition .ensures .0 .says)))),
+      c .before .before .before .before .read-condition .ensures .1,
+    )
+
+read-negation-cast-append : (t : ℕ) → read-negation-lts.Need-cast-append (read-negation-claims t) (read-negation-at t) read-negation.Post
+read-negation-cast-append t c =
+    let k = as-read (read-is _ (c .before .before .before .if1 .left)) (c .before .before .before .before .before .before .before .read-condition .ensures .0 .says) in
+    omega (arith, k .room, k .lies .order, k .lies .high, c .before .before .before .before .before .before .before .before .before .before .pre .1 .low, c .before .before .before .before .before .before .before .before .before .before .pre .1 .small)
 
 read-negation-append-requires : (t : ℕ) → read-negation-lts.Need-append-requires (read-negation-claims t) (read-negation-at t) read-negation.Post
 read-negation-append-requires t c κs =
-    let k = as-read (c .before .before .inside .given .1) (c .before .before .before .before .before .before .read-condition .ensures .says) in
-    omega (arith, k .room, k .lies .order, k .lies .high, c .before .before .before .before .before .before .before .before .before .before .before .pre .1 .low, c .before .before .before .before .before .before .before .before .before .before .before .pre .1 .small)
+    let k = as-read (read-is _ (c .before .before .before .if1 .left)) (c .before .before .before .before .before .before .before .read-condition .ensures .0 .says) in
+    omega (arith, k .room, k .lies .order, k .lies .high, c .before .before .before .before .before .before .before .before .before .before .pre .1 .low, c .before .before .before .before .before .before .before .before .before .before .pre .1 .small)
 
-read-negation-add-t19 : (t : ℕ) → read-negation-lts.Need-add-t19 (read-negation-claims t) (read-negation-at t) read-negation.Post
-read-negation-add-t19 t c =
-    let k = as-read (c .before .before .before .before .before .inside .given .1) (c .before .before .before .before .before .before .before .before .before .read-condition .ensures .says) in
+read-negation-add-with-entries : (t : ℕ) → read-negation-lts.Need-add-with-entries (read-negation-claims t) (read-negation-at t) read-negation.Post
+read-negation-add-with-entries t c =
+    let k = as-read (read-is _ (c .before .before .before .before .before .before .before .if1 .left)) (c .before .before .before .before .before .before .before .before .before .before .before .read-condition .ensures .0 .says) in
     omega (arith, k .room, k .lies .order, k .lies .high, c .before .before .before .before .before .before .before .before .before .before .before .before .before .before .pre .1 .low, c .before .before .before .before .before .before .before .before .before .before .before .before .before .before .pre .1 .small)
+
+read-negation-with-entries-requires : (t : ℕ) → read-negation-lts.Need-with-entries-requires (read-negation-claims t) (read-negation-at t) read-negation.Post
+read-negation-with-entries-requires t c κs = search needs
 
 read-negation-same-length-2 : (t : ℕ) → read-negation-lts.Need-same-length-2 (read-negation-claims t) (read-negation-at t) read-negation.Post
 read-negation-same-length-2 t c = search needs
 
 read-negation-returns-2 : (t : ℕ) → read-negation-lts.Need-returns-2 (read-negation-claims t) (read-negation-at t) read-negation.Post
 unfolding read-negated mapped treeEntries
-read-negation-returns-2 t c =
-    closing-read [] not (kept-none _ _ _ _) (entry 24 0 0) (λ v. refl) (omega (arith, c .before .before .before .before .before .before .before .before .before .before .before .before .before .before .pre .1 .low)) (c .before .before .before .before .before .inside .given .1) (c .before .before .before .before .before .before .before .before .before .read-condition .ensures) (c .before .before .append .ensures)
+read-negation-returns-2 t c = (
+  told-as (with-is (c .with-entries .ensures))
+      (closing-read [] not (kept-none _ _ _ _) (entry 24 0 0) (λ v. refl) (omega (arith, c .before .before .before .before .before .before .before .before .before .before .before .before .before .before .before .pre .1 .low)) (read-is _ (c .before .before .before .before .before .before .before .before .if1 .left)) (c .before .before .before .before .before .before .before .before .before .before .before .before .read-condition .ensures .0) (c .before .before .before .before .append .ensures)),
+  with-plain (c .with-entries .ensures),
+)
 
 pub +read-choice+read-condition+read-conjunction+read-disjunction+read-group+read-negation-spec : {M : Type 1} → statement M
 +read-choice+read-condition+read-conjunction+read-disjunction+read-group+read-negation-spec = close μ-read-choice μ-read-condition μ-read-conjunction μ-read-disjunction μ-read-group μ-read-negation
-    (λ t. read-choice-lts.spec (read-choice-claims t) (read-choice-at t) read-choice.Post read-choice-Inv-loop read-choice-μ-loop (read-choice-loop-holds t) (read-choice-read-condition-requires t) (read-choice-enum-known-part t) (read-choice-enum-told t) (read-choice-same-length t) (read-choice-returns t) (read-choice-append-requires t) (read-choice-add-t25 t) (read-choice-same-length-2 t) (read-choice-returns-2 t) (read-choice-turned-away-requires t) (read-choice-same-length-3 t) (read-choice-returns-3 t) (read-choice-word-after-requires t) (read-choice-loop-less t) (read-choice-loop-again t))
-    (λ t. read-condition-lts.spec (read-condition-claims t) (read-condition-at t) read-condition.Post (read-condition-next-token-requires t) (read-condition-read-flat-requires t) (read-condition-same-length t) (read-condition-returns t) (read-condition-sub-read-negation t) (read-condition-read-negation-requires t) (read-condition-same-length-2 t) (read-condition-returns-2 t) (read-condition-sub-read-group t) (read-condition-read-group-requires t) (read-condition-same-length-3 t) (read-condition-returns-3 t) (read-condition-sub-read-choice t) (read-condition-read-choice-requires t) (read-condition-same-length-4 t) (read-condition-returns-4 t) (read-condition-read-flat-requires-2 t) (read-condition-same-length-5 t) (read-condition-returns-5 t))
-    (λ t. read-conjunction-lts.spec (read-conjunction-claims t) (read-conjunction-at t) read-conjunction.Post read-conjunction-Inv-loop read-conjunction-μ-loop (read-conjunction-loop-holds t) (read-conjunction-read-condition-requires t) (read-conjunction-enum-known-part t) (read-conjunction-enum-told t) (read-conjunction-same-length t) (read-conjunction-returns t) (read-conjunction-joined-requires t) (read-conjunction-same-length-2 t) (read-conjunction-returns-2 t) (read-conjunction-loop-less t) (read-conjunction-loop-again t))
-    (λ t. read-disjunction-lts.spec (read-disjunction-claims t) (read-disjunction-at t) read-disjunction.Post read-disjunction-Inv-loop read-disjunction-μ-loop (read-disjunction-loop-holds t) (read-disjunction-read-conjunction-requires t) (read-disjunction-enum-known-part t) (read-disjunction-enum-told t) (read-disjunction-same-length t) (read-disjunction-returns t) (read-disjunction-joined-requires t) (read-disjunction-same-length-2 t) (read-disjunction-returns-2 t) (read-disjunction-loop-less t) (read-disjunction-loop-again t))
-    (λ t. read-group-lts.spec (read-group-claims t) (read-group-at t) read-group.Post (read-group-read-disjunction-requires t) (read-group-enum-known-inside t) (read-group-enum-told t) (read-group-same-length t) (read-group-returns t) (read-group-turned-away-requires t) (read-group-same-length-2 t) (read-group-returns-2 t) (read-group-next-token-requires t) (read-group-append-requires t) (read-group-add-t22 t) (read-group-same-length-3 t) (read-group-returns-3 t))
-    λ t. read-negation-lts.spec (read-negation-claims t) (read-negation-at t) read-negation.Post (read-negation-read-condition-requires t) (read-negation-enum-known-inside t) (read-negation-enum-told t) (read-negation-same-length t) (read-negation-returns t) (read-negation-append-requires t) (read-negation-add-t19 t) (read-negation-same-length-2 t) (read-negation-returns-2 t)
+    (λ t. read-choice-lts.spec (read-choice-claims t) (read-choice-at t) read-choice.Post read-choice-Inv-loop read-choice-μ-loop (read-choice-loop-holds t) (read-choice-read-condition-requires t) (read-choice-same-length t) (read-choice-returns t) (read-choice-cast-append t) (read-choice-append-requires t) (read-choice-add-with-entries t) (read-choice-with-entries-requires t) (read-choice-same-length-2 t) (read-choice-returns-2 t) (read-choice-stopped-requires t) (read-choice-same-length-3 t) (read-choice-returns-3 t) (read-choice-cast-free t) (read-choice-word-after-requires t) (read-choice-loop-less t) (read-choice-loop-again t))
+    (λ t. read-condition-lts.spec (read-condition-claims t) (read-condition-at t) read-condition.Post (read-condition-token-at-requires t) (read-condition-read-plain-requires t) (read-condition-same-length t) (read-condition-returns t) (read-condition-sub-read-negation t) (read-condition-read-negation-requires t) (read-condition-same-length-2 t) (read-condition-returns-2 t) (read-condition-sub-read-group t) (read-condition-read-group-requires t) (read-condition-same-length-3 t) (read-condition-returns-3 t) (read-condition-sub-read-choice t) (read-condition-read-choice-requires t) (read-condition-same-length-4 t) (read-condition-returns-4 t) (read-condition-read-plain-requires-2 t) (read-condition-same-length-5 t) (read-condition-returns-5 t))
+    (λ t. read-conjunction-lts.spec (read-conjunction-claims t) (read-conjunction-at t) read-conjunction.Post read-conjunction-Inv-loop read-conjunction-μ-loop (read-conjunction-loop-holds t) (read-conjunction-read-condition-requires t) (read-conjunction-same-length t) (read-conjunction-returns t) (read-conjunction-joined-requires t) (read-conjunction-with-entries-requires t) (read-conjunction-same-length-2 t) (read-conjunction-returns-2 t) (read-conjunction-cast-free t) (read-conjunction-loop-less t) (read-conjunction-loop-again t))
+    (λ t. read-disjunction-lts.spec (read-disjunction-claims t) (read-disjunction-at t) read-disjunction.Post read-disjunction-Inv-loop read-disjunction-μ-loop (read-disjunction-loop-holds t) (read-disjunction-read-conjunction-requires t) (read-disjunction-same-length t) (read-disjunction-returns t) (read-disjunction-joined-requires t) (read-disjunction-with-entries-requires t) (read-disjunction-same-length-2 t) (read-disjunction-returns-2 t) (read-disjunction-cast-free t) (read-disjunction-loop-less t) (read-disjunction-loop-again t))
+    (λ t. read-group-lts.spec (read-group-claims t) (read-group-at t) read-group.Post (read-group-read-disjunction-requires t) (read-group-same-length t) (read-group-returns t) (read-group-stopped-requires t) (read-group-same-length-2 t) (read-group-returns-2 t) (read-group-token-at-requires t) (read-group-cast-append t) (read-group-append-requires t) (read-group-add-t21 t) (read-group-same-length-3 t) (read-group-returns-3 t))
+    λ t. read-negation-lts.spec (read-negation-claims t) (read-negation-at t) read-negation.Post (read-negation-read-condition-requires t) (read-negation-same-length t) (read-negation-returns t) (read-negation-cast-append t) (read-negation-append-requires t) (read-negation-add-with-entries t) (read-negation-with-entries-requires t) (read-negation-same-length-2 t) (read-negation-returns-2 t)

@@ -10,8 +10,8 @@ use Rattle.conditions.proofs.joined.Tie as tie
 append-requires : tie.Need-append-requires
 append-requires c κs = search needs
 
-add-t12 : tie.Need-add-t12
-add-t12 c = search needs
+add-t13 : tie.Need-add-t13
+add-t13 c = search needs
 
 same-length : tie.Need-same-length
 same-length c = search needs
@@ -23,4 +23,4 @@ returns-2 : tie.Need-returns-2
 returns-2 c = record { first = λ e. (refl, refl, refl); later = λ (e : _ ≡ true). absurd (let t = c .if1 .left in let z : _≡_ {A = ℕ} 0 1 = cc in omega arith) }
 
 pub joined-spec : {M : Type 1} → statement M
-joined-spec = tie.close (tie.spec append-requires add-t12 same-length returns returns-2)
+joined-spec = tie.close (tie.spec append-requires add-t13 same-length returns returns-2)

@@ -56,7 +56,7 @@ next-token-requires-2 c κs = (c .before .before .before .before .before .before
 
 read-policy-requires : tie.Need-read-policy-requires Inv-loop μ-loop
 read-policy-requires c κs = let b = c .before .before .before .before .before .loop .inv .0 in
-    ready-past (c .before .before .before .before .before .loop .t) (record { table = c .before .before .before .before .before .before .before .before .before .before .pre .0; lies = b .lies; small = c .before .before .before .before .before .before .before .before .before .before .pre .1 }) (effect-some b (c .before .before .if1 .left)) (c .before .next-token2 .ensures .1) (omega (arith, b .lies .low))
+    (ready-past (c .before .before .before .before .before .loop .t) (record { table = c .before .before .before .before .before .before .before .before .before .before .pre .0; lies = b .lies; small = omega (arith, c .before .before .before .before .before .before .before .before .before .before .pre .1) }) (effect-some b (c .before .before .if1 .left)) (c .before .next-token2 .ensures .1) (omega (arith, b .lies .low)), c .before .before .before .before .before .before .before .before .before .before .pre .1)
 
 enum-known-one : tie.Need-enum-known-one Inv-loop μ-loop
 enum-known-one c = search needs

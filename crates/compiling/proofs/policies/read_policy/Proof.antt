@@ -11,7 +11,7 @@ use Rattle.compiling.proofs.policies.read_policy.Statement.{statement}
 use Rattle.compiling.proofs.policies.read_policy.Tie as tie
 
 read-first-requires : tie.Need-read-first-requires
-read-first-requires c κs = c .before .before .before .before .pre
+read-first-requires c κs = c .before .before .before .before .pre .0
 
 enum-known-first : tie.Need-enum-known-first
 enum-known-first c = search needs
@@ -29,7 +29,7 @@ returns c = let e = c .enum-told .given .1 in
 read-second-requires : tie.Need-read-second-requires
 read-second-requires c κs =
     let k₁ = as-read (c .before .before .first .given .1) (c .before .before .before .before .before .before .read-first .ensures .says) in
-    ready-at (c .before .before .before .before .before .before .before .before .before .before .before .pre) (lying _ (k₁ .lies) (omega (arith, k₁ .room, c .before .before .before .before .before .before .before .before .before .before .before .pre .lies .low)))
+    ready-at (c .before .before .before .before .before .before .before .before .before .before .before .pre .0) (lying _ (k₁ .lies) (omega (arith, k₁ .room, c .before .before .before .before .before .before .before .before .before .before .before .pre .0 .lies .low)))
 
 enum-known-second : tie.Need-enum-known-second
 enum-known-second c = search needs
@@ -50,7 +50,7 @@ read-third-requires : tie.Need-read-third-requires
 read-third-requires c κs =
     let k₁ = as-read (c .before .before .before .before .before .before .before .before .before .first .given .1) (c .before .before .before .before .before .before .before .before .before .before .before .before .before .read-first .ensures .says) in
     let k₂ = as-read (c .before .before .second .given .1) (c .before .before .before .before .before .before .read-second .ensures .says) in
-    ready-at (c .before .before .before .before .before .before .before .before .before .before .before .before .before .before .before .before .before .before .pre) (lying _ (k₂ .lies) (omega (arith, k₁ .room, k₂ .room, c .before .before .before .before .before .before .before .before .before .before .before .before .before .before .before .before .before .before .pre .lies .low)))
+    ready-at (c .before .before .before .before .before .before .before .before .before .before .before .before .before .before .before .before .before .before .pre .0) (lying _ (k₂ .lies) (omega (arith, k₁ .room, k₂ .room, c .before .before .before .before .before .before .before .before .before .before .before .before .before .before .before .before .before .before .pre .0 .lies .low)))
 
 enum-known-third : tie.Need-enum-known-third
 enum-known-third c = search needs
@@ -73,10 +73,10 @@ read-when-requires c κs =
     let k₁ = as-read (c .before .before .before .before .before .before .before .before .before .before .before .before .before .before .before .before .first .given .1) (c .before .before .before .before .before .before .before .before .before .before .before .before .before .before .before .before .before .before .before .before .read-first .ensures .says) in
     let k₂ = as-read (c .before .before .before .before .before .before .before .before .before .second .given .1) (c .before .before .before .before .before .before .before .before .before .before .before .before .before .read-second .ensures .says) in
     let k₃ = as-read (c .before .before .third .given .1) (c .before .before .before .before .before .before .read-third .ensures .says) in
-    ready-at (c .before .before .before .before .before .before .before .before .before .before .before .before .before .before .before .before .before .before .before .before .before .before .before .before .before .pre) (lying _ (k₃ .lies) (omega (arith, k₁ .room, k₂ .room, k₃ .room, c .before .before .before .before .before .before .before .before .before .before .before .before .before .before .before .before .before .before .before .before .before .before .before .before .before .pre .lies .low)))
+    (ready-at (c .before .before .before .before .before .before .before .before .before .before .before .before .before .before .before .before .before .before .before .before .before .before .before .before .before .pre .0) (lying _ (k₃ .lies) (omega (arith, k₁ .room, k₂ .room, k₃ .room, c .before .before .before .before .before .before .before .before .before .before .before .before .before .before .before .before .before .before .before .before .before .before .before .before .before .pre .0 .lies .low))), c .before .before .before .before .before .before .before .before .before .before .before .before .before .before .before .before .before .before .before .before .before .before .before .before .before .pre .1)
 
 expected-requires : tie.Need-expected-requires
-expected-requires c κs = (c .before .before .before .before .before .before .before .before .before .before .before .before .before .before .before .before .before .before .before .before .before .before .before .before .before .before .before .before .pre .table, next-lies (c .before .before .read-when .ensures .says))
+expected-requires c κs = (c .before .before .before .before .before .before .before .before .before .before .before .before .before .before .before .before .before .before .before .before .before .before .before .before .before .before .before .before .pre .0 .table, next-lies (c .before .before .read-when .ensures .says))
 
 effect-kind-requires : tie.Need-effect-kind-requires
 effect-kind-requires c κs = search needs
@@ -87,7 +87,7 @@ closed-requires c κs =
     let k₂ = as-read (c .before .before .before .before .before .before .before .before .before .before .before .before .before .before .before .second .given .1) (c .before .before .before .before .before .before .before .before .before .before .before .before .before .before .before .before .before .before .before .read-second .ensures .says) in
     let k₃ = as-read (c .before .before .before .before .before .before .before .before .third .given .1) (c .before .before .before .before .before .before .before .before .before .before .before .before .read-third .ensures .says) in
     let d = expected-done 59 (omega arith) (c .before .before .before .before .before .read-when .ensures) (c .before .before .expected .ensures) in
-    omega (arith, free-small (d .says) (omega (arith, k₁ .room, k₂ .room, k₃ .room, c .before .before .before .before .before .before .before .before .before .before .before .before .before .before .before .before .before .before .before .before .before .before .before .before .before .before .before .before .before .before .before .pre .lies .low)), c .before .before .before .before .before .before .before .before .before .before .before .before .before .before .before .before .before .before .before .before .before .before .before .before .before .before .before .before .before .before .before .pre .small)
+    omega (arith, free-small (d .says) (omega (arith, k₁ .room, k₂ .room, k₃ .room, c .before .before .before .before .before .before .before .before .before .before .before .before .before .before .before .before .before .before .before .before .before .before .before .before .before .before .before .before .before .before .before .pre .0 .lies .low)), c .before .before .before .before .before .before .before .before .before .before .before .before .before .before .before .before .before .before .before .before .before .before .before .before .before .before .before .before .before .before .before .pre .0 .small)
 
 same-length-4 : tie.Need-same-length-4
 same-length-4 c = omega (arith, c .before .before .closed .kept, c .before .before .before .before .before .before .before .before .read-when .kept, c .before .before .before .before .before .before .before .before .before .before .before .before .before .before .before .read-third .kept, c .before .before .before .before .before .before .before .before .before .before .before .before .before .before .before .before .before .before .before .before .before .before .read-second .kept, c .before .before .before .before .before .before .before .before .before .before .before .before .before .before .before .before .before .before .before .before .before .before .before .before .before .before .before .before .before .read-first .kept)
@@ -100,7 +100,7 @@ returns-4 c =
     let k₃ = as-read (c .before .before .before .before .before .before .before .before .before .before .before .third .given .1) (c .before .before .before .before .before .before .before .before .before .before .before .before .before .before .before .read-third .ensures .says) in
     let d = expected-done 59 (omega arith) (c .before .before .before .before .before .before .before .before .read-when .ensures) (c .before .before .before .before .before .expected .ensures) in
     done-as (policy-last (c .before .before .before .before .before .before .before .before .before .before .before .before .before .before .before .before .before .before .before .before .before .before .before .before .before .before .before .before .before .before .before .before .before .before .args .permits) (stream (c .before .before .before .before .before .before .before .before .before .before .before .before .before .before .before .before .before .before .before .before .before .before .before .before .before .before .before .before .before .before .before .before .before .before .args .text .now) (c .before .before .before .before .before .before .before .before .before .before .before .before .before .before .before .before .before .before .before .before .before .before .before .before .before .before .before .before .before .before .before .before .before .before .args .t)) (k₁ .is) (k₂ .is) (k₃ .is))
-    (policy-done k₁ (c .before .before .before .before .before .before .before .before .before .before .before .before .before .before .before .before .before .before .before .before .before .before .before .before .before .before .before .before .before .read-first .ensures .wrote) k₂ (c .before .before .before .before .before .before .before .before .before .before .before .before .before .before .before .before .before .before .before .before .before .before .read-second .ensures .wrote) k₃ (c .before .before .before .before .before .before .before .before .before .before .before .before .before .before .before .read-third .ensures .wrote) (c .before .before .before .before .before .before .before .before .before .before .before .before .before .before .before .before .before .before .before .before .before .before .before .before .before .before .before .before .before .before .before .before .before .before .args .permits) (omega (arith, c .before .before .before .before .before .before .before .before .before .before .before .before .before .before .before .before .before .before .before .before .before .before .before .before .before .before .before .before .before .before .before .before .before .before .pre .lies .low)) d
+    (policy-done k₁ (c .before .before .before .before .before .before .before .before .before .before .before .before .before .before .before .before .before .before .before .before .before .before .before .before .before .before .before .before .before .read-first .ensures .wrote) k₂ (c .before .before .before .before .before .before .before .before .before .before .before .before .before .before .before .before .before .before .before .before .before .before .read-second .ensures .wrote) k₃ (c .before .before .before .before .before .before .before .before .before .before .before .before .before .before .before .read-third .ensures .wrote) (c .before .before .before .before .before .before .before .before .before .before .before .before .before .before .before .before .before .before .before .before .before .before .before .before .before .before .before .before .before .before .before .before .before .before .args .permits) (omega (arith, c .before .before .before .before .before .before .before .before .before .before .before .before .before .before .before .before .before .before .before .before .before .before .before .before .before .before .before .before .before .before .before .before .before .before .pre .0 .lies .low)) d
     (rw (c .before .before .before .effect-kind .ensures) at (c .before .before .closed .ensures)))
 
 pub read-policy-spec : {M : Type 1} → statement M
