@@ -1,5 +1,4 @@
 pub mod RefusalNumbers
-pub mod RefusedTokens
 pub mod TextsPromised
 pub mod RequestsPromised
 pub mod SheetsPromised

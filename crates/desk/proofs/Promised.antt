@@ -26,6 +26,7 @@ pub demand-two : DemandTwo
 demand-two = record {
   accepted-exactly = texts.accepted-exactly;
   compiled = texts.compiled;
+  compiled-begins = texts.compiled-begins;
   one-reading = texts.one-reading;
   yes-exactly = requests.yes-exactly;
   named-rightly = requests.named-rightly;

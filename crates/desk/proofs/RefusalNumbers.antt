@@ -1,15 +1,16 @@
 -- The numbers that a refused text can get for a token: 3 to 16, since no token of a text has a kind below 3. Assumes nothing.
 use mathlib.Core.Path.{_≡_, refl}
 use mathlib.Core.Logic.{⊎-elim}
-use mathlib.Core.Bool.{Bool, true, false, cond, _&&_}
+use mathlib.Core.Bool.{Bool, true, false}
 use mathlib.Core.List.{List, [], _∷_}
 use Prim.Native.Nat.{ℕ, zero, suc, _≤_}
 use native.Mathlib.Omega.{arith}
-use borrow.Author.Tests.{eqb-false, leb-true, ltb-true}
-use lib.Dec.{eqb, leb, ltb}
+use borrow.Author.Tests.{eqb-false, leb-true}
+use lib.Dec.{eqb, leb}
 use lib.ListN.{length}
 use Rattle.tokens.specs.Kinds as kinds
-use Rattle.tokens.specs.Words.{wordKind, reserved}
+use Rattle.tokens.specs.Words as words
+use Rattle.tokens.specs.Words.{wordKind}
 use Rattle.tokens.specs.Tokens.{tokenAt}
 use Rattle.tokens.specs.Forms.{marks, Form, a-word, a-string, a-number, a-mark, Stands, end-of-text, a-token, too-long, a-colon, bad-byte, unended, bad-inside}
 use Rattle.tokens.specs.declared.reader.Token.{Token}
@@ -18,11 +19,10 @@ use Rattle.tokens.proofs.FormLaws.{mark-passes}
 use Rattle.tokens.proofs.KindLaws.{kind-among}
 use Rattle.tokens.proofs.ReadLaws.{reads}
 use Rattle.tokens.proofs.Longest.{longest-token}
-use Rattle.reading.specs.Lexemes.{Lexeme, lexeme, is, choose, following, tokensUpTo, tokensFrom, tokensOf}
-use Rattle.grammar.specs.Rules.{isEffect, isReserved, mostLiterals}
-use Rattle.grammar.specs.Numbers.{atName, atType, atPattern, afterPolicy, atCondition, afterLeft, afterAction, oneMore, endsBare, deepens, numberOf, numberAt}
+use Rattle.reading.specs.Lexemes.{Lexeme, lexeme, choose, following, tokensUpTo, tokensFrom, tokensOf}
+use Rattle.grammar.specs.Lowest.{Applies, no-token, reserved, bare, no-type, not-admitted, limit, AppliesAt, token, end}
 use Rattle.placing.specs.Placed.{Each, none-left, and-each}
-use Rattle.stored.proofs.Standing.{each-right}
+use Rattle.placing.proofs.EachLaws.{each-right}
 use Rattle.compiling.specs.Promise.{RefusedThere}
 
 -- ---- the kinds of a text's tokens
@@ -30,7 +30,7 @@ use Rattle.compiling.specs.Promise.{RefusedThere}
 form-kind : {kind : ℕ} {l : List ℕ} → Form kind l → 3 ≤ kind
 unfolding every marks
 form-kind (a-word {b} {rest} h a) =
-    ⊎-elim (λ (e : wordKind (b ∷ rest) ≡ kinds.name). omega arith) (λ (h : 201 ≤ wordKind (b ∷ rest)). omega arith) (kind-among reserved 201 (b ∷ rest))
+    ⊎-elim (λ (e : wordKind (b ∷ rest) ≡ kinds.name). omega arith) (λ (h : 201 ≤ wordKind (b ∷ rest)). omega arith) (kind-among words.reserved 201 (b ∷ rest))
 form-kind (a-string a) = omega arith
 form-kind (a-number n) = omega arith
 form-kind (a-mark {kind} m) = leb-true 3 kind (mark-passes (λ kind l. leb 3 kind) m refl)
@@ -67,34 +67,21 @@ all-kinded text = kinded text (suc (length text)) 0 (omega arith)
 abbrev Between : ℕ → Type 0
 Between n = (3 ≤ n) × (n ≤ 16)
 
--- the rows of the table of numbers that go by what stands before a token
-rows : (a b c d e f g h i : Bool) → Between (cond a 7 (cond b 8 (cond c 9 (cond d 11 (cond e 12 (cond f 13 (cond g 14 (cond h 15 (cond i 16 10)))))))))
-rows true b c d e f g h i = (omega arith, omega arith)
-rows false true c d e f g h i = (omega arith, omega arith)
-rows false false true d e f g h i = (omega arith, omega arith)
-rows false false false true e f g h i = (omega arith, omega arith)
-rows false false false false true f g h i = (omega arith, omega arith)
-rows false false false false false true g h i = (omega arith, omega arith)
-rows false false false false false false true h i = (omega arith, omega arith)
-rows false false false false false false false true i = (omega arith, omega arith)
-rows false false false false false false false false true = (omega arith, omega arith)
-rows false false false false false false false false false = (omega arith, omega arith)
+-- a row that applies to a token
+row-number : {b : List Lexeme} {x : Lexeme} {n : ℕ} → Kinded x → Applies b x n → Between n
+row-number k (no-token l) = (k .low, omega arith)
+row-number k (reserved a p q) = (omega arith, omega arith)
+row-number k (bare a p q) = (omega arith, omega arith)
+row-number k (no-type a p q) = (omega arith, omega arith)
+row-number k (not-admitted a) = (omega arith, omega arith)
+row-number k (limit low high a m) = (omega arith, high)
 
--- before them a token that is none has its kind
-own-kind : (kind n : ℕ) (b : Bool) → ltb kind 7 ≡ b → 3 ≤ kind → Between n → Between (cond b kind n)
-own-kind kind n true e l h = let k : suc kind ≤ 7 = ltb-true kind 7 e in (l, omega arith)
-own-kind kind n false e l h = h
-
-number-between : (c r : List Lexeme) → Each Kinded r → Between (numberAt c r)
-unfolding numberAt numberOf
-number-between c [] h = (omega arith, omega arith)
-number-between c (x ∷ r) (and-each k h) =
-    own-kind (x .kind) _ (ltb (x .kind) 7) refl (k .low)
-    (rows (atName c && isReserved x) (afterLeft c && endsBare x) (atType c && is kinds.name x) (atName c && is kinds.name x && afterAction c) (atCondition c && deepens x)
-    (atPattern c && is kinds.string x) (oneMore mostLiterals c x) (afterPolicy c && isEffect x) (atName c && is kinds.name x))
+number-between : {b r : List Lexeme} {n : ℕ} → Each Kinded r → AppliesAt b r n → Between n
+number-between (and-each k h) (token a) = row-number k a
+number-between h end = (omega arith, omega arith)
 
 -- a refused token's number
 pub token-number : {text : List ℕ} {number line column : ℕ} → RefusedThere text number line column → Between number
 token-number {text} r =
-    let p = r .rightly in
-    rw (r .number-is) (number-between _ (r .rest) (each-right (p .before) (r .rest) (rw (p .split) at (all-kinded text))))
+    let p = r .refused .rightly in
+    number-between (each-right (p .before) (r .rest) (rw (p .split) at (all-kinded text))) (r .refused .lowest .applies)

@@ -16,14 +16,14 @@ use Rattle.grammar.specs.Promise as grammar
 use Rattle.grammar.specs.Promise.{Unambiguous}
 use Rattle.grammar.proofs.Exactly as grammar-proofs
 use Rattle.compiling.specs.Outcome.{mostBytes, roomFor, compiledBytes, said, compiledOf, saidOf, tableBy, tableAfter}
-use Rattle.compiling.specs.Promise.{AcceptedExactly, UnfitExactly, RefusedThere, RefusedRightly, NothingChanged, ZerosElsewhere}
+use Rattle.compiling.specs.Promise.{AcceptedExactly, UnfitExactly, RefusedThere, RefusedExactly, NothingChanged, ZerosElsewhere, CompiledBegins}
 use Rattle.compiling.specs.declared.Compiled.{Compiled}
 use Rattle.compiling.specs.declared.Compiled.the-variants.{Policies, Refused}
+use Rattle.compiling.proofs.Promised as compiling-proofs
 use Rattle.compiling.proofs.Promised.{accepted, unfit, refused-there, nothing-changed, zeros-elsewhere}
-use Rattle.desk.specs.Answers.{compileSays, compileLeaves}
+use Rattle.desk.specs.Answers.{compileSays, compileLeaves, beginsSays}
 use Rattle.desk.specs.Promises.{Says, Belongs}
 use Rattle.desk.proofs.RefusalNumbers.{token-number}
-use Rattle.desk.proofs.RefusedTokens.{not-refused, one-refusal}
 
 -- a text says one list of policies
 pub one-reading : (text : List ℕ) (ps qs : List Policy) → Says text ps → Says text qs → ps ≡ qs
@@ -44,11 +44,11 @@ module _ (text table : List ℕ) where
     told-broken : (number line column : ℕ) → length text ≤ mostBytes → roomFor text ≤ length table → RefusedThere text number line column → c ≡ Refused number line column → Told c
 
   by-tokens : length text ≤ mostBytes → roomFor text ≤ length table → (c : Compiled) → compiledOf text (length table) ≡ c → Told c
-  unfolding AcceptedExactly RefusedRightly
+  unfolding AcceptedExactly RefusedExactly
   by-tokens l h (Policies policies bytes) e =
       let b = accepted text (length table) policies bytes l h .0 e in
       told-accepted (b .value) (record { short = l; belongs = b .belongs }) h (ap₂ Policies (b .many) (b .used))
-  by-tokens l h (Refused number line column) e = told-broken number line column l h (refused-there text (length table) number line column l h e) refl
+  by-tokens l h (Refused number line column) e = told-broken number line column l h (refused-there text (length table) number line column l h .0 e) refl
 
   long-answer : mostBytes < length text → compiledOf text (length table) ≡ Refused 1 0 0
   unfolding UnfitExactly
@@ -144,6 +144,12 @@ module _ (text table : List ℕ) where
       let e = says-accepted ps s h in
       (rw e, rw e, rw (le-ltb _ _ (s .short), le-ltb _ _ h, read-as text ps s))
 
+  pub compiled-begins : compileSays text table .refusal ≡ 0 → beginsSays text (compileLeaves text table) ≡ true
+  unfolding compileSays CompiledBegins
+  compiled-begins n =
+      let b = accepted-says told n in
+      compiling-proofs.compiled-begins text table _ _ (says-accepted (b .policies) (b .says) (roomy told n))
+
   -- ---- the refusals by size, and the zeros
 
   long-then : {c : Compiled} → Told c → saidOf c .refusal ≡ 1 → mostBytes < length text
@@ -170,12 +176,6 @@ module _ (text table : List ℕ) where
 
   -- ---- the refusals by token
 
-  token-answer : {number line column : ℕ} → length text ≤ mostBytes → roomFor text ≤ length table → RefusedThere text number line column → {c : Compiled} → Told c → c ≡ Refused number line column
-  token-answer l h r (told-accepted ps s k e) = absurd (not-refused (tokensOf text) (r .rest) ps (s .belongs) (r .rightly))
-  token-answer l h r (told-long k e) = absurd (omega arith)
-  token-answer l h r (told-no-room k m e) = absurd (omega arith)
-  token-answer l h r (told-broken n k c x y z e) = let q = one-refusal z r in e ∙ (λ i. Refused (q .0 i) (q .1 i) (q .2 i))
-
   refused-as : {number line column : ℕ} → compiledOf text (length table) ≡ Refused number line column
       → compileSays text table ≡ record { refusal = number; line = line; column = column; policies = 0; bytes = 0 }
   unfolding compileSays saidOf
@@ -183,7 +183,8 @@ module _ (text table : List ℕ) where
 
   pub token-exactly : (number line column : ℕ) → length text ≤ mostBytes → roomFor text ≤ length table → 2 < number
       → (compileSays text table ≡ record { refusal = number; line = line; column = column; policies = 0; bytes = 0 }) ↔ RefusedThere text number line column
-  token-exactly number line column l h m = (λ e. rw e at (placed) m, λ r. refused-as (token-answer l h r told))
+  unfolding RefusedExactly
+  token-exactly number line column l h m = (λ e. rw e at (placed) m, λ r. refused-as (refused-there text (length table) number line column l h .1 r))
 
   pub compile-zeros : (compileSays text table .refusal ≡ 0 → ⊥) → (compileSays text table .policies ≡ 0) × (compileSays text table .bytes ≡ 0)
   unfolding compileSays ZerosElsewhere

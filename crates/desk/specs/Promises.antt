@@ -90,6 +90,8 @@ pub record DemandTwo : Type 0 where
       → (compileSays text table .policies ≡ length ps)
       × (compileSays text table .bytes ≡ length (compiledBytes ps))
       × (compileLeaves text table ≡ compiledBytes ps ++ drop (length (compiledBytes ps)) table)
+  -- a table into which a text was compiled begins right
+  pub compiled-begins : (text table : List ℕ) → compileSays text table .refusal ≡ 0 → beginsSays text (compileLeaves text table) ≡ true
   -- a text says one list of policies
   pub one-reading : (text : List ℕ) (ps qs : List Policy) → Says text ps → Says text qs → ps ≡ qs
   pub yes-exactly : (text table bag : List ℕ) (q : Request) → decideSays text table bag q .refusal ≡ 0

@@ -140,7 +140,7 @@ pub extern "C" fn desk_lookup(bag: &[u8], root: u8, path: &[u8]) -> DeskValue
 {
     match lookups::lookup(bag, root, path) {
         lookups::Answer::Found(v) => DeskValue {
-            refusal: 0, // found
+            refusal: 0,
             kind: v.kind as u32,
             number: v.number,
             place: v.place,
@@ -201,7 +201,7 @@ pub extern "C" fn desk_sheet<'a>(
         at,
     ) {
         sheets::Answer::Listed(written, next) => DeskPage {
-            refusal: 0, // listed
+            refusal: 0,
             written: written,
             next: next,
         },
