@@ -1,5 +1,5 @@
 -- What the desk promises of requests and of look-ups: the refusals, yes, the policy named, zeros beside a refusal. Assumes nothing.
-use mathlib.Core.Path.{_≡_, refl, sym, fun-ext}
+use mathlib.Core.Path.{_≡_, refl, sym, ap, fun-ext}
 use mathlib.Core.Logic.{_⊎_, inl, inr, ⊎-elim, _↔_}
 use mathlib.Core.Bool.{Bool, true, false, cond}
 use mathlib.Core.List.{List, [], _∷_, List·Memᴰ, List·Memᴰ·head, List·Memᴰ·tail}
@@ -34,7 +34,8 @@ use Rattle.lookups.specs.Lookups as lookups
 use Rattle.lookups.specs.Lookups.{lookIn, bagOf, lookupOf, lengthOf}
 use Rattle.lookups.specs.Values.{nought, absent}
 use Rattle.lookups.specs.declared.Answer.the-variants.{Found, Refused}
-use Rattle.lookups.proofs.Answers.{refused, refused-length}
+use Rattle.lookups.proofs.Answers.{refused, refused-stretch}
+use Rattle.lookups.specs.declared.Stretch.{Stretch}
 use Rattle.desk.specs.Answers.{decidedAs, decideSays, foundAs, lookupSays}
 use Rattle.desk.specs.Promises.{Says, Yes, allowed, system, Granted, OutcomeIs, by-permit, by-forbid, by-none, by-system}
 use Rattle.desk.specs.declared.DeskValue.{DeskValue}
@@ -270,4 +271,4 @@ module _ (bag : List ℕ) (root : ℕ) (path : List ℕ) where
   lookup-zeros = zeros looked
 
   pub string-empty : isBag bag ≡ false → lengthOf bag (lookupOf bag root path) ≡ 0
-  string-empty e = refused-length bag (lookupOf bag root path) 24 (sym (refused bag root path e))
+  string-empty e = sym (ap (λ (p : Stretch). p .length) (refused-stretch bag (lookupOf bag root path) 24 (sym (refused bag root path e))))
