@@ -7,6 +7,7 @@ use native.Mathlib.Omega.{arith}
 use lib.Dec.{ltb}
 use lib.ListN.{length, length-append}
 use borrow.Author.Tests.{ltb-true}
+use Rattle.tokens.proofs.TokenLaws.{and-right}
 use Rattle.tokens.specs.Kinds as kinds
 use Rattle.tokens.specs.declared.reader.Token.{Token}
 use Rattle.tokens.specs.Tokens.{tokenAt, Reads}
@@ -37,10 +38,6 @@ un-not false e = refl
 un-not-false : (b : Bool) → not b ≡ false → b ≡ true
 un-not-false true e = refl
 un-not-false false e = sym e
-
-and-right : (a b : Bool) → a && b ≡ true → b ≡ true
-and-right true b e = e
-and-right false b e = absurd (let z : _≡_ {A = ℕ} 0 1 = cc in omega arith)
 
 abbrev onAndOn : List Policy → Reader (List Policy)
 onAndOn = onwards begins read-next-policy

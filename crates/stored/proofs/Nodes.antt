@@ -11,12 +11,6 @@ use Rattle.table.specs.declared.Entry.{Entry}
 use Rattle.table.specs.Layout.{entryAt}
 use Rattle.stored.specs.ReadBack.{spanOf, rootOf, operandOf, comparatorOf, literalsAt, listAt, ownerAt, treeOf}
 
--- a list has as many literals as its entry says
-pub literals-many : (n : ℕ) (table : List ℕ) (e : ℕ) → length (literalsAt n table e) ≡ n
-unfolding literalsAt
-literals-many zero table e = refl
-literals-many (suc n) table e = ap suc (literals-many n table (e + 1))
-
 module _ (part : ℕ → Tree) (table : List ℕ) (end : ℕ) (x : Entry) where
   pub as-has : x .kind ≤ 8 → treeOf part table end x ≡ has (rootOf (x .kind - 4)) (spanOf x)
   unfolding treeOf

@@ -111,10 +111,6 @@ module _ (T : List ℕ) where
 pub tree-back : {T : List ℕ} {end : ℕ} {t : Tree} → Stored T end t → treeAt T end ≡ t
 tree-back {T} {end} {t} h = tree-in T end end t h (omega arith)
 
--- two conditions that end at the same number are one
-pub one-tree : {T : List ℕ} {end : ℕ} {t u : Tree} → Stored T end t → Stored T end u → t ≡ u
-one-tree h k = sym (tree-back h) ∙ tree-back k
-
 -- ---- policies
 
 part-back : (p : Part) → partOf (partEntry p) ≡ p

@@ -10,6 +10,7 @@ use lib.ListN.{length, drop, getD, length-append, length-drop}
 use lib.Seq.{sets, sets-eq, length-sets, drop-cons, drop-drop, take-at, drop-append-add}
 use lib.Dec.{eqb}
 use borrow.Author.Tests.{eqb-true, eqb-false, eq-eqb, le-leb, leb-true, leb-false}
+use Rattle.tokens.proofs.TokenLaws.{never, and-left, and-right}
 use Rattle.table.specs.declared.Entry.{Entry}
 use Rattle.table.specs.Entries.{entry}
 use Rattle.table.specs.Layout.{entrySize, entryBytes, bytesOf, fits, putAt, puts, numberOf, entryAt, entryIs, held, startsWith, Begins}
@@ -39,11 +40,6 @@ held-append T e [] b = rw add-zero
 held-append T e (x ∷ a) b =
     let q : e + suc (length a) ≡ e + 1 + length a = omega arith in
     rw (q, held-append T (e + 1) a b, and-assoc (entryIs T e x))
-
-pub bytesOf-append : (a b : List Entry) → bytesOf (a ++ b) ≡ bytesOf a ++ bytesOf b
-unfolding bytesOf
-bytesOf-append [] b = refl
-bytesOf-append (x ∷ a) b = rw (bytesOf-append a b) (sym (append-assoc (entryBytes x) (bytesOf a) (bytesOf b)))
 
 pub length-bytesOf : (es : List Entry) → length (bytesOf es) ≡ entrySize * length es
 unfolding bytesOf entryBytes
@@ -154,9 +150,6 @@ unfolding entryIs entryAt
 entry-back T e x f s h = go (fits T e) (eqb (getD T (entrySize * e) 0) (x .kind)) (eqb (getD T (entrySize * e + 1) 0) (x .first % 256)) (eqb (getD T (entrySize * e + 2) 0) (x .first / 256 % 256))
     (eqb (getD T (entrySize * e + 3) 0) (x .second % 256)) (eqb (getD T (entrySize * e + 4) 0) (x .second / 256 % 256)) refl refl refl refl refl refl h
   where
-    never : false ≡ true → ⊥
-    never e = let z : _≡_ {A = ℕ} 0 1 = cc in omega arith
-
     go : (r k a b c d : Bool) → fits T e ≡ r → eqb (getD T (entrySize * e) 0) (x .kind) ≡ k → eqb (getD T (entrySize * e + 1) 0) (x .first % 256) ≡ a → eqb (getD T (entrySize * e + 2) 0) (x .first / 256 % 256) ≡ b
         → eqb (getD T (entrySize * e + 3) 0) (x .second % 256) ≡ c → eqb (getD T (entrySize * e + 4) 0) (x .second / 256 % 256) ≡ d → r && k && a && b && c && d ≡ true
         → cond (fits T e) (entry (getD T (entrySize * e) 0) (numberOf (getD T (entrySize * e + 1) 0) (getD T (entrySize * e + 2) 0)) (numberOf (getD T (entrySize * e + 3) 0) (getD T (entrySize * e + 4) 0))) (entry 0 0 0) ≡ x
@@ -177,27 +170,15 @@ entry-back T e x f s h = go (fits T e) (eqb (getD T (entrySize * e) 0) (x .kind)
 
 -- the parts of a list that a table holds
 pub held-left : (T : List ℕ) (e : ℕ) (a b : List Entry) → held T e (a ++ b) ≡ true → held T e a ≡ true
-held-left T e a b h = go (held T e a) (held T (e + length a) b) (sym (held-append T e a b) ∙ h)
-  where
-    go : (p q : Bool) → p && q ≡ true → p ≡ true
-    go true q e = refl
-    go false q e = e
+held-left T e a b h = and-left (held T e a) (held T (e + length a) b) (sym (held-append T e a b) ∙ h)
 
 pub held-right : (T : List ℕ) (e : ℕ) (a b : List Entry) → held T e (a ++ b) ≡ true → held T (e + length a) b ≡ true
-held-right T e a b h = go (held T e a) (held T (e + length a) b) (sym (held-append T e a b) ∙ h)
-  where
-    go : (p q : Bool) → p && q ≡ true → q ≡ true
-    go true q e = e
-    go false q e = absurd (let z : _≡_ {A = ℕ} 0 1 = cc in omega arith)
+held-right T e a b h = and-right (held T e a) (held T (e + length a) b) (sym (held-append T e a b) ∙ h)
 
 -- one entry of such a list
 pub held-entry : (T : List ℕ) (e : ℕ) (x : Entry) (es : List Entry) → x .first < 65536 → x .second < 65536 → held T e (x ∷ es) ≡ true → entryAt T e ≡ x
 unfolding held
-held-entry T e x es f s h = entry-back T e x f s (go (entryIs T e x) (held T (e + 1) es) h)
-  where
-    go : (p q : Bool) → p && q ≡ true → p ≡ true
-    go true q e = refl
-    go false q e = e
+held-entry T e x es f s h = entry-back T e x f s (and-left (entryIs T e x) (held T (e + 1) es) h)
 
 -- ---- a table with room for all
 
@@ -232,33 +213,7 @@ puts-behind (x ∷ es) T a e h l =
 pub puts-front : (es : List Entry) (T : List ℕ) → length (bytesOf es) ≤ length T → puts T 0 es ≡ bytesOf es ++ drop (length (bytesOf es)) T
 puts-front es T l = puts-behind es T [] 0 refl l
 
--- which it holds
-pub puts-held : (es : List Entry) (T : List ℕ) → length (bytesOf es) ≤ length T → held (puts T 0 es) 0 es ≡ true
-puts-held es T l = held-starts (puts T 0 es) 0 es ∙ rw (puts-front es T l) (starts-itself (bytesOf es) (drop (length (bytesOf es)) T))
-
--- no table gets longer or shorter
-length-put : (T : List ℕ) (e : ℕ) (x : Entry) → length (putAt T e x) ≡ length T
-unfolding putAt
-length-put T e x = go (fits T e)
-  where
-    go : (b : Bool) → length (cond b (sets T (entrySize * e) (entryBytes x)) T) ≡ length T
-    go true = length-sets T (entrySize * e) (entryBytes x)
-    go false = refl
-
-pub length-puts : (T : List ℕ) (e : ℕ) (es : List Entry) → length (puts T e es) ≡ length T
-unfolding puts
-length-puts T e [] = refl
-length-puts T e (x ∷ es) = length-puts (putAt T e x) (e + 1) es ∙ length-put T e x
-
 -- a table that has some entries is long enough for them
-left-holds : (p q : Bool) → p && q ≡ true → p ≡ true
-left-holds true q e = refl
-left-holds false q e = e
-
-right-holds : (p q : Bool) → p && q ≡ true → q ≡ true
-right-holds true q e = e
-right-holds false q e = absurd (let z : _≡_ {A = ℕ} 0 1 = cc in omega arith)
-
 first-holds : (r k a b c d : Bool) → r && k && a && b && c && d ≡ true → r ≡ true
 first-holds true k a b c d e = refl
 first-holds false k a b c d e = e
@@ -273,6 +228,6 @@ entry-fits T e x h =
 pub held-room : (T : List ℕ) (e : ℕ) (es : List Entry) → 0 < length es → held T e es ≡ true → entrySize * (e + length es) ≤ length T
 unfolding held
 held-room T e [] n h = absurd (omega arith)
-held-room T e (x ∷ []) n h = let f = entry-fits T e x (left-holds (entryIs T e x) true h) in omega arith
+held-room T e (x ∷ []) n h = let f = entry-fits T e x (and-left (entryIs T e x) true h) in omega arith
 held-room T e (x ∷ y ∷ ys) n h =
-    let f = held-room T (e + 1) (y ∷ ys) (omega arith) (right-holds (entryIs T e x) (held T (e + 1) (y ∷ ys)) h) in omega arith
+    let f = held-room T (e + 1) (y ∷ ys) (omega arith) (and-right (entryIs T e x) (held T (e + 1) (y ∷ ys)) h) in omega arith
