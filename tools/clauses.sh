@@ -3,8 +3,8 @@
 #   tools/clauses.sh [FILE ..]
 # In each row of a table, after its first cell, stand names in backticks and then files: each name must be defined in one of the files behind it (a function, a type, a
 # definition, a theorem, a case or a field; in a folder, in any of its files; an edit by its name), and each file must be there and define one of the names before it, as far
-# as the last semicolon. A file may leave out crates/, the crate of the file before it, or its folder. The crates of a line 'Not here yet: NAME, NAME.' may be missing, and
-# must be. Prints what is wrong and ends with status 1, or prints how many names were found.
+# as the last semicolon. A file may leave out crates/, the crate of the file before it, or its folder. Prints what is wrong and ends with status 1, or prints
+# how many names were found.
 set -eu
 cd "$(dirname "$0")/.."
 [ $# -gt 0 ] || set -- docs/CLAUSES.md README.md
@@ -68,7 +68,6 @@ function judge(i, j, ok) {
         ok = 0
         for (j = 1; j <= files; j++) if ((file[j], name[i]) in defines) ok = 1
         if (ok) found++
-        else if (later) later_names++
         else fails("`" name[i] "` is not defined in " (files ? cited : "any file that is cited"))
     }
     for (j = 1; j <= files && names > 0; j++) {
@@ -77,14 +76,13 @@ function judge(i, j, ok) {
         for (i = 1; i <= names; i++) if ((file[j], name[i]) in defines) ok = 1
         if (!ok) fails(file[j] " defines none of the names before it")
     }
-    names = files = later = 0
+    names = files = 0
     cited = ""
 }
 function cite(p, f) {
     f = file_of(p)
     if (f == "") {
         if (p !~ /\// && p !~ /\.(antt|rt|edit|md)$/) return
-        if (crate_of(p) in waiting || crate_of("crates/" p) in waiting) { later = 1; return }
         fails(p " is not there")
         cited = cited " " p
         return
@@ -97,16 +95,6 @@ function cite(p, f) {
     read_in(f)
 }
 FNR == 1 { whole = FILENAME !~ /README/; on = whole }
-/^Not here yet: / {
-    at = FILENAME ":" FNR
-    sub(/^Not here yet: /, "")
-    sub(/\..*/, "")
-    n = split($0, words, /, */)
-    for (i = 1; i <= n; i++) {
-        waiting["crates/" words[i]] = 1
-        if (there("crates/" words[i])) fails("crates/" words[i] " is here")
-    }
-}
 /^## / { if (!whole) on = /Where each promise is stated/ }
 !on || !/^\|/ || /^\|[-: |]*$/ { next }
 {
@@ -118,7 +106,7 @@ FNR == 1 { whole = FILENAME !~ /README/; on = whole }
     while (match(row, /`[^`]*`|;|[A-Za-z0-9_+.\/-]+/)) {
         word = substr(row, RSTART, RLENGTH)
         row = substr(row, RSTART + RLENGTH)
-        if (word ~ /^[`;]/ && (files > 0 || later)) judge()
+        if (word ~ /^[`;]/ && files > 0) judge()
         if (word ~ /^`/) name[++names] = substr(word, 2, length(word) - 2)
         else {
             sub(/\.$/, "", word)
@@ -129,5 +117,5 @@ FNR == 1 { whole = FILENAME !~ /README/; on = whole }
 }
 END {
     if (bad) { print bad " citations are wrong"; exit 1 }
-    print found " citations are right" (later_names ? ", " later_names " are of crates that are not here yet" : "")
+    print found " citations are right"
 }' "$@"

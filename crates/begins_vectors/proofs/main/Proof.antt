@@ -1,3 +1,4 @@
+-- `begins_vectors::main` is safe and ends: the vectors left count down. Assumes nothing.
 use borrow.Author.Needs.{needs}
 use Rattle.begins_vectors.proofs.main.Statement.{statement}
 use Rattle.begins_vectors.proofs.main.Tie as tie
@@ -12,31 +13,24 @@ Inv-loop left₀ left = Unit {0}
 abbrev μ-loop : tie.MeasureT-loop
 μ-loop left₀ left = left
 
--- src/main.rt:14:9
 vector-count-requires : tie.Need-vector-count-requires Inv-loop μ-loop
 vector-count-requires c κs = search needs
 
--- src/main.rt:15:5
 loop-holds : tie.Need-loop-holds Inv-loop μ-loop
 loop-holds c = search needs
 
--- src/main.rt:16:9
 vector-requires : tie.Need-vector-requires Inv-loop μ-loop
 vector-requires c κs = search needs
 
--- src/main.rt:17:9
 sub-left : tie.Need-sub-left Inv-loop μ-loop
 sub-left c = search needs
 
--- src/main.rt:15:5
 loop-less : tie.Need-loop-less Inv-loop μ-loop
 loop-less c = search needs
 
--- src/main.rt:15:5
 loop-again : tie.Need-loop-again Inv-loop μ-loop
 loop-again c = search needs
 
--- src/main.rt:13:1
 returns : tie.Need-returns Inv-loop μ-loop
 returns c = search needs
 

@@ -1,3 +1,4 @@
+-- `compile_vectors::sum` is safe and ends: the bytes left count down, and the sum stays below its modulus. Assumes nothing.
 use native.Mathlib.Omega.{arith}
 use borrow.Author.Needs.{needs}
 use lib.ListN.{length}
@@ -14,35 +15,27 @@ Inv-loop table n s₀ i₀ s i = (s < 1000003) × (i ≤ length table)
 abbrev μ-loop : tie.MeasureT-loop
 μ-loop table n s₀ i₀ s i = length table - i
 
--- src/main.rt:19:5
 loop-holds : tie.Need-loop-holds Inv-loop μ-loop
 loop-holds c = search needs
 
--- src/main.rt:21:13
 returns : tie.Need-returns Inv-loop μ-loop
 returns c = search needs
 
--- src/main.rt:23:21
 shared-slice-read-with : tie.Need-shared-slice-read-with Inv-loop μ-loop
 shared-slice-read-with c = search needs
 
--- src/main.rt:23:9
 with-requires : tie.Need-with-requires Inv-loop μ-loop
 with-requires c κs = search needs
 
--- src/main.rt:24:9
 add-i : tie.Need-add-i Inv-loop μ-loop
 add-i c = omega arith
 
--- src/main.rt:19:5
 loop-less : tie.Need-loop-less Inv-loop μ-loop
 loop-less c = omega arith
 
--- src/main.rt:19:5
 loop-again : tie.Need-loop-again Inv-loop μ-loop
 loop-again c = search needs
 
--- src/main.rt:16:1
 returns-2 : tie.Need-returns-2 Inv-loop μ-loop
 returns-2 c = search needs
 

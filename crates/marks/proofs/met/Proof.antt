@@ -1,6 +1,6 @@
+-- `marks::met` meets its contract: the mark says, or the policy is met and marked. Assumes nothing.
 use mathlib.Core.Path.{sym, _∙_}
 use Rattle.deciding.specs.Row.{countsOf}
--- `marks::met` meets its contract: the mark says, or the policy is met and marked. Assumes nothing.
 use Rattle.marks.proofs.Marking.{met-marked, met-anew}
 use borrow.Author.Needs.{needs}
 use Rattle.marks.proofs.met.Statement.{statement}

@@ -1,3 +1,4 @@
+-- `operators::contains_literals` meets its contract. Assumes nothing.
 use Rattle.operators.proofs.OperatorLaws.{of-list, of-no-list}
 use Rattle.operators.proofs.OperandLaws.{attribute-list}
 use Rattle.operators.specs.Operands.{whichOf}
@@ -15,19 +16,15 @@ use Rattle.operators.proofs.contains_literals.Lts as lts
 use Rattle.operators.proofs.lists.literals_listed.Reads as literals-listed-reads
 use Rattle.operators.proofs.operands.attribute_value.Reads as attribute-value-reads
 
--- src/lib.rt:124:9
 attribute-value-requires : tie.Need-attribute-value-requires
 attribute-value-requires c κs = (c .before .before .before .pre .0 .lies, c .before .before .before .pre .1 .1 .1)
 
--- src/lib.rt:127:9
 returns : tie.Need-returns
 returns c = λ action. of-no-list _ _ _ _ _ _ (c .before .before .before .before .before .pre .1 .1 .1) action _ _ (c .before .before .before .before .before .pre .0) (c .before .attribute-value .ensures) (λ l. asked (whichOf (c .before .before .before .before .before .args .any)) (λ x. ifText (literalValue (c .before .before .before .before .before .args .text .now) x) (listed l)) (literalsAt (c .before .before .before .before .before .args .count) (c .before .before .before .before .before .args .table .now) (c .before .before .before .before .before .args .at))) (c .if1 .taken)
 
--- src/lib.rt:129:5
 literals-listed-requires : tie.Need-literals-listed-requires
 literals-listed-requires c κs = (c .before .before .before .before .before .pre .1 .0, (c .before .before .before .before .before .pre .1 .1 .0, attribute-list _ _ _ _ _ _ (c .before .before .before .before .before .pre .1 .1 .1) _ _ (c .before .attribute-value .ensures) (c .if1 .left)))
 
--- src/lib.rt:117:1
 returns-2 : tie.Need-returns-2
 returns-2 c = λ action. of-list _ _ _ _ _ _ (c .before .before .before .before .before .before .pre .1 .1 .1) action _ _ (c .before .before .before .before .before .before .pre .0) (c .before .before .attribute-value .ensures) (λ l. asked (whichOf (c .before .before .before .before .before .before .args .any)) (λ x. ifText (literalValue (c .before .before .before .before .before .before .args .text .now) x) (listed l)) (literalsAt (c .before .before .before .before .before .before .args .count) (c .before .before .before .before .before .before .args .table .now) (c .before .before .before .before .before .before .args .at))) _ (c .before .if1 .left) (c .literals-listed .ensures)
 

@@ -1,3 +1,4 @@
+-- `operators::has_attribute` meets its contract. Assumes nothing.
 use Rattle.operators.proofs.OperatorLaws.{has-is}
 use borrow.Author.Needs.{needs}
 use Rattle.operators.proofs.has_attribute.Statement.{statement}
@@ -7,15 +8,12 @@ use Rattle.operators.proofs.has_attribute.Lts as lts
 use Rattle.operators.proofs.operands.attribute_value.Reads as attribute-value-reads
 use Rattle.operators.proofs.values.is_present.Reads as is-present-reads
 
--- src/lib.rt:48:9
 attribute-value-requires : tie.Need-attribute-value-requires
 attribute-value-requires c κs = (c .before .before .pre .0 .lies, c .before .before .pre .1)
 
--- src/lib.rt:49:5
 is-present-requires : tie.Need-is-present-requires
 is-present-requires c κs = search needs
 
--- src/lib.rt:43:1
 returns : tie.Need-returns
 returns c = λ action. has-is _ _ _ _ _ _ (c .before .before .before .before .pre .1) action _ _ (c .before .before .before .before .pre .0) (c .before .attribute-value .ensures) _ (c .is-present .ensures)
 

@@ -1,3 +1,4 @@
+-- `operators::like_operand` meets its contract. Assumes nothing.
 use Rattle.operators.proofs.OperatorLaws.{of-string, of-no-string}
 use Rattle.operators.proofs.OperandLaws.{operand-whole}
 use Rattle.stored.specs.ReadBack.{spanOf}
@@ -16,23 +17,18 @@ use Rattle.operators.proofs.operands.operand_string.Reads as operand-st
 use Rattle.operators.proofs.operands.quoted.Reads as quoted-reads
 use Rattle.patterns.proofs.like.Reads as like-reads
 
--- src/lib.rt:76:9
 returns : tie.Need-returns
 returns c = of-no-string _ _ _ _ _ _ (c .before .before .before .before .pre .1 .1 .0) _ _ _ (c .before .before .before .before .pre .0) (c .before .before .before .before .pre .1 .1 .1) (likes (quotedAt (c .before .before .before .before .args .text .now) (spanOf (c .before .before .before .before .args .o)))) (c .if1 .taken)
 
--- src/lib.rt:78:9
 operand-string-requires : tie.Need-operand-string-requires
 operand-string-requires c κs = (c .before .before .before .before .pre .0, operand-whole _ _ _ _ _ _ (c .before .before .before .before .pre .1 .1 .0) _ _ (c .before .before .before .before .pre .1 .1 .1))
 
--- src/lib.rt:79:20
 quoted-requires : tie.Need-quoted-requires
 quoted-requires c κs = c .before .before .before .before .before .pre .1 .0
 
--- src/lib.rt:79:5
 like-requires : tie.Need-like-requires
 like-requires c κs = search needs
 
--- src/lib.rt:67:1
 returns-2 : tie.Need-returns-2
 returns-2 c = of-string _ _ _ _ _ _ (c .before .before .before .before .before .before .before .pre .1 .1 .0) _ _ _ (c .before .before .before .before .before .before .before .pre .0) (c .before .before .before .before .before .before .before .pre .1 .1 .1) (likes (quotedAt (c .before .before .before .before .before .before .before .args .text .now) (spanOf (c .before .before .before .before .before .before .before .args .o)))) _ _ (c .before .before .before .if1 .left) (c .before .before .operand-string .ensures) (like-is _ _ (c .like .ensures) ∙ ap (λ (q : List ℕ). likes q (c .before .before .operand-string .result .now)) (c .before .quoted .ensures))
 

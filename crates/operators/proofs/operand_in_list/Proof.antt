@@ -1,3 +1,4 @@
+-- `operators::operand_in_list` meets its contract. Assumes nothing.
 use Rattle.operators.proofs.OperatorLaws.{among-is}
 use Rattle.operators.proofs.OperandLaws.{operand-whole}
 use borrow.Author.Needs.{needs}
@@ -8,15 +9,12 @@ use Rattle.operators.proofs.operand_in_list.Lts as lts
 use Rattle.operators.proofs.lists.among_literals.Reads as among-literals-reads
 use Rattle.operators.proofs.operands.operand_string.Reads as operand-string-reads
 
--- src/lib.rt:91:9
 operand-string-requires : tie.Need-operand-string-requires
 operand-string-requires c κs = (c .before .before .before .before .pre .0, operand-whole _ _ _ _ _ _ (c .before .before .before .before .pre .1 .1 .1 .0) _ _ (c .before .before .before .before .pre .1 .1 .1 .1))
 
--- src/lib.rt:92:5
 among-literals-requires : tie.Need-among-literals-requires
 among-literals-requires c κs = (c .before .before .before .before .before .pre .1 .0, c .before .before .before .before .before .pre .1 .1 .0)
 
--- src/lib.rt:83:1
 returns : tie.Need-returns
 returns c = among-is _ _ _ _ _ _ (c .before .before .before .before .before .before .pre .1 .1 .1 .0) _ _ _ (c .before .before .before .before .before .before .pre .0) (c .before .before .before .before .before .before .pre .1 .1 .1 .1) _ _ _ (c .before .operand-string .ensures) (c .among-literals .ensures)
 

@@ -1,14 +1,13 @@
+-- `operators::told_of` meets its contract. Assumes nothing.
 use Rattle.operators.proofs.VerdictLaws.{told-yes, told-no}
 use Rattle.operators.proofs.told_of.Statement.{statement}
 use Rattle.operators.proofs.told_of.Tie as tie
 use Rattle.operators.proofs.told_of.Reads as reads
 use Rattle.operators.proofs.told_of.Lts as lts
 
--- src/lib.rt:37:9
 returns : tie.Need-returns
 returns c = told-yes _ (c .if1 .taken)
 
--- src/lib.rt:33:1
 returns-2 : tie.Need-returns-2
 returns-2 c = told-no _ (c .if1 .left)
 

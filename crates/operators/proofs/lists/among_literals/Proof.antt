@@ -1,3 +1,4 @@
+-- `operators::lists::among_literals` meets its contract. Assumes nothing.
 use Rattle.operators.proofs.OperatorLaws.{same-by-13}
 use Rattle.operators.proofs.ListLaws.{isSame}
 use Rattle.operators.proofs.ListLaws.{FirstPlaced, first-placed, at-entry, some-done, some-here, some-more}
@@ -27,39 +28,30 @@ abbrev μ-loop : tie.MeasureT-loop
 one : (c : tie.In-loop Inv-loop μ-loop) → FirstPlaced (c .before .before .before .before .before .args .text .now) (c .before .loop .left) (c .before .before .before .before .before .args .table .now) (c .before .loop .next)
 one c = first-placed _ _ _ _ (c .loop-test .taken) (c .before .loop .inv .0)
 
--- src/lists.rt:46:5
 loop-holds : tie.Need-loop-holds Inv-loop μ-loop
 loop-holds c = (c .before .before .before .pre .0, refl, λ l. refl)
 
--- src/lists.rt:47:13
 entry-in-requires : tie.Need-entry-in-requires Inv-loop μ-loop
 entry-in-requires c κs = omega (arith, c .before .loop .inv .1, c .before .before .before .before .before .pre .1)
 
--- src/lists.rt:48:12
 literal-holds-requires : tie.Need-literal-holds-requires Inv-loop μ-loop
 literal-holds-requires c κs = rw (c .entry-in .ensures) (one (c .before) .here)
 
--- src/lists.rt:49:13
 returns : tie.Need-returns Inv-loop μ-loop
 returns c = λ l. let test = isSame (c .before .before .before .before .before .before .before .before .args .text .now) (c .before .before .before .before .before .before .before .before .args .v) (c .before .before .before .before .before .before .before .before .args .x .now) l in some-here test _ _ _ (c .before .before .before .loop-test .taken) (at-entry _ _ test _ _ _ (same-by-13 _ _ (c .before .literal-holds .ensures l)) (c .before .before .entry-in .ensures) (c .if1 .taken)) ∙ c .before .before .before .before .loop .inv .2 l
 
--- src/lists.rt:51:9
 add-next : tie.Need-add-next Inv-loop μ-loop
 add-next c = omega (arith, c .before .before .before .before .loop .inv .1, c .before .before .before .before .before .before .before .before .pre .1, c .before .before .before .loop-test .taken)
 
--- src/lists.rt:52:9
 sub-left : tie.Need-sub-left Inv-loop μ-loop
 sub-left c = omega arith
 
--- src/lists.rt:46:5
 loop-less : tie.Need-loop-less Inv-loop μ-loop
 loop-less c = omega arith
 
--- src/lists.rt:46:5
 loop-again : tie.Need-loop-again Inv-loop μ-loop
 loop-again c = (one (c .before .before .before) .later, omega (arith, c .before .before .before .before .loop .inv .1), λ l. let test = isSame (c .before .before .before .before .before .before .before .before .args .text .now) (c .before .before .before .before .before .before .before .before .args .v) (c .before .before .before .before .before .before .before .before .args .x .now) l in sym (some-more test _ _ _ (c .before .before .before .loop-test .taken) (at-entry _ _ test _ _ _ (same-by-13 _ _ (c .before .literal-holds .ensures l)) (c .before .before .entry-in .ensures) (c .if1 .left))) ∙ c .before .before .before .before .loop .inv .2 l)
 
--- src/lists.rt:39:1
 returns-2 : tie.Need-returns-2 Inv-loop μ-loop
 returns-2 c = λ l. some-done (isSame (c .before .before .before .before .before .args .text .now) (c .before .before .before .before .before .args .v) (c .before .before .before .before .before .args .x .now) l) _ _ _ (omega arith) ∙ c .before .loop .inv .2 l
 

@@ -1,3 +1,4 @@
+-- `operators::lists::in_list` meets its contract. Assumes nothing.
 use borrow.Author.Needs.{needs}
 use Rattle.operators.proofs.ListLaws.{list-counted, listed-at}
 use native.Mathlib.Omega.{arith}
@@ -7,23 +8,18 @@ use Rattle.operators.proofs.lists.in_list.Reads as reads
 use Rattle.operators.proofs.lists.in_list.Lts as lts
 use Rattle.operators.proofs.lists.in_strings.Reads as in-strings-reads
 
--- src/lists.rt:81:13
 shared-slice-read-n : tie.Need-shared-slice-read-n
 shared-slice-read-n c = omega (arith, list-counted _ _ _ (c .before .before .before .pre .1) .counted)
 
--- src/lists.rt:81:13
 cast-n : tie.Need-cast-n
 cast-n c = omega (arith, c .shared-slice-known3 .given (c .before .before .before .args .place))
 
--- src/lists.rt:82:22
 add-in-strings : tie.Need-add-in-strings
 add-in-strings c = omega (arith, list-counted _ _ _ (c .before .before .before .pre .1) .counted)
 
--- src/lists.rt:82:5
 in-strings-requires : tie.Need-in-strings-requires
 in-strings-requires c κs = (c .before .before .before .pre .0, list-counted _ _ _ (c .before .before .before .pre .1) .are)
 
--- src/lists.rt:77:1
 returns : tie.Need-returns
 returns c = listed-at _ _ _ _ (c .in-strings .ensures)
 

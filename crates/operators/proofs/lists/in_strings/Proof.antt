@@ -1,3 +1,4 @@
+-- `operators::lists::in_strings` meets its contract. Assumes nothing.
 use borrow.Author.Needs.{needs}
 use Rattle.operators.proofs.ListLaws.{among, cut-same, none-listed, here-listed, later-listed}
 use Rattle.operators.proofs.OperandLaws.{string-cut}
@@ -22,59 +23,45 @@ abbrev μ-loop : tie.MeasureT-loop
 one : (c : tie.In-loop Inv-loop μ-loop) → StringFirst (c .before .before .before .before .args .s .now) (c .before .loop .left) (c .before .loop .next) (c .before .before .before .before .pre .0)
 one c = string-first _ _ _ _ (c .loop-test .taken) (c .before .loop .inv .0 ∙ c .before .before .before .before .pre .1)
 
--- src/lists.rt:64:5
 loop-holds : tie.Need-loop-holds Inv-loop μ-loop
 loop-holds c = (refl, refl)
 
--- src/lists.rt:65:21
 add-start : tie.Need-add-start Inv-loop μ-loop
 add-start c = omega (arith, one c .fits)
 
--- src/lists.rt:66:27
 shared-slice-read-end : tie.Need-shared-slice-read-end Inv-loop μ-loop
 shared-slice-read-end c = omega (arith, one (c .before) .fits)
 
--- src/lists.rt:66:27
 cast-end : tie.Need-cast-end Inv-loop μ-loop
 cast-end c = omega (arith, one (c .before) .fits)
 
--- src/lists.rt:66:19
 add-end : tie.Need-add-end Inv-loop μ-loop
 add-end c = omega (arith, one (c .before) .fits)
 
--- src/lists.rt:67:27
 sub-same-string : tie.Need-sub-same-string Inv-loop μ-loop
 sub-same-string c = omega arith
 
--- src/lists.rt:67:27
 part-same-string-start : tie.Need-part-same-string-start Inv-loop μ-loop
 part-same-string-start c = omega (arith, one (c .before) .fits)
 
--- src/lists.rt:67:27
 part-same-string-end : tie.Need-part-same-string-end Inv-loop μ-loop
 part-same-string-end c = omega (arith, one (c .before) .fits)
 
--- src/lists.rt:67:12
 same-string-requires : tie.Need-same-string-requires Inv-loop μ-loop
 same-string-requires c κs = search needs
 
--- src/lists.rt:68:13
 returns : tie.Need-returns Inv-loop μ-loop
 returns c = here-listed _ _ _ _ _ (c .before .before .before .before .loop-test .taken) (c .before .before .before .before .before .loop .inv .0 ∙ c .before .before .before .before .before .before .before .before .pre .1) (cut-same (c .before .before .before .before .before .before .before .before .args .s .now) (c .before .before .before .before .before .before .before .before .args .x .now) (c .before .before .before .before .before .loop .next) _ _ (c .before .same-string .ensures) (c .if1 .taken)) ∙ c .before .before .before .before .before .loop .inv .1
 
--- src/lists.rt:71:9
 sub-left : tie.Need-sub-left Inv-loop μ-loop
 sub-left c = omega arith
 
--- src/lists.rt:64:5
 loop-less : tie.Need-loop-less Inv-loop μ-loop
 loop-less c = omega arith
 
--- src/lists.rt:64:5
 loop-again : tie.Need-loop-again Inv-loop μ-loop
 loop-again c = (one (c .before .before .before .before) .later ∙ sym (c .before .before .before .before .before .before .before .before .pre .1), sym (later-listed _ _ _ _ _ (c .before .before .before .before .loop-test .taken) (c .before .before .before .before .before .loop .inv .0 ∙ c .before .before .before .before .before .before .before .before .pre .1) (cut-same (c .before .before .before .before .before .before .before .before .args .s .now) (c .before .before .before .before .before .before .before .before .args .x .now) (c .before .before .before .before .before .loop .next) _ _ (c .before .same-string .ensures) (c .if1 .left))) ∙ c .before .before .before .before .before .loop .inv .1)
 
--- src/lists.rt:58:1
 returns-2 : tie.Need-returns-2 Inv-loop μ-loop
 returns-2 c = none-listed _ _ _ _ (omega arith) ∙ c .before .loop .inv .1
 

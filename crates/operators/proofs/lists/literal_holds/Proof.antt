@@ -1,3 +1,4 @@
+-- `operators::lists::literal_holds` meets its contract. Assumes nothing.
 use Rattle.operators.proofs.OperatorLaws.{literal-compares}
 use Rattle.operators.proofs.OperandLaws.{string-placed}
 use mathlib.Core.Path.{refl}
@@ -10,27 +11,21 @@ use Rattle.operators.proofs.operands.literal_value.Reads as literal-val
 use Rattle.operators.proofs.operands.quoted.Reads as quoted-reads
 use Rattle.operators.proofs.values.values_hold.Reads as values-hold-reads
 
--- src/lists.rt:30:9
 literal-value-requires : tie.Need-literal-value-requires
 literal-value-requires c κs = c .before .before .pre
 
--- src/lists.rt:33:41
 quoted-requires : tie.Need-quoted-requires
 quoted-requires c κs = string-placed _ _ (c .if1 .taken) (c .before .before .before .before .pre)
 
--- src/lists.rt:33:9
 values-hold-requires : tie.Need-values-hold-requires
 values-hold-requires c κs = search needs
 
--- src/lists.rt:33:9
 returns : tie.Need-returns
 returns c = λ l. literal-compares _ _ _ _ _ _ _ _ (c .before .before .before .literal-value .ensures) (λ k. c .before .quoted .ensures) (c .values-hold .ensures) l
 
--- src/lists.rt:35:5
 values-hold-requires-2 : tie.Need-values-hold-requires-2
 values-hold-requires-2 c κs = search needs
 
--- src/lists.rt:26:1
 returns-2 : tie.Need-returns-2
 returns-2 c = λ l. literal-compares _ _ _ _ _ _ _ _ (c .before .before .literal-value .ensures) (λ k. absurd (c .before .if1 .left k)) (c .values-hold2 .ensures) l
 

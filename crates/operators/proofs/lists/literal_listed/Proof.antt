@@ -1,3 +1,4 @@
+-- `operators::lists::literal_listed` meets its contract. Assumes nothing.
 use Rattle.operators.proofs.ListLaws.{no-string, a-string}
 use Rattle.operators.proofs.OperandLaws.{string-placed}
 use borrow.Author.Needs.{needs}
@@ -8,19 +9,15 @@ use Rattle.operators.proofs.lists.literal_listed.Lts as lts
 use Rattle.operators.proofs.lists.in_list.Reads as in-list-reads
 use Rattle.operators.proofs.operands.quoted.Reads as quoted-reads
 
--- src/lists.rt:93:9
 returns : tie.Need-returns
 returns c = no-string _ _ _ (c .if1 .taken)
 
--- src/lists.rt:95:23
 quoted-requires : tie.Need-quoted-requires
 quoted-requires c κs = string-placed _ _ (c .if1 .left) (c .before .before .before .pre .0)
 
--- src/lists.rt:95:5
 in-list-requires : tie.Need-in-list-requires
 in-list-requires c κs = c .before .before .before .before .pre .1
 
--- src/lists.rt:86:1
 returns-2 : tie.Need-returns-2
 returns-2 c = a-string _ _ _ _ _ (c .before .before .if1 .left) (c .before .quoted .ensures) (c .in-list .ensures)
 

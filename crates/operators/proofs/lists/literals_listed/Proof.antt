@@ -1,3 +1,4 @@
+-- `operators::lists::literals_listed` meets its contract. Assumes nothing.
 use Rattle.operators.proofs.ListLaws.{isListed}
 use borrow.Author.Needs.{needs}
 use Rattle.operators.proofs.ListLaws.{FirstPlaced, first-placed, at-entry, asked-done, asked-here, asked-more}
@@ -29,43 +30,33 @@ abbrev μ-loop : tie.MeasureT-loop
 one : (c : tie.In-loop Inv-loop μ-loop) → FirstPlaced (c .before .before .before .before .before .args .text .now) (c .before .loop .left) (c .before .before .before .before .before .args .table .now) (c .before .loop .next)
 one c = first-placed _ _ _ _ (c .loop-test .taken) (c .before .loop .inv .0)
 
--- src/lists.rt:107:5
 loop-holds : tie.Need-loop-holds Inv-loop μ-loop
 loop-holds c = (c .before .before .before .pre .0, refl, refl)
 
--- src/lists.rt:108:13
 entry-in-requires : tie.Need-entry-in-requires Inv-loop μ-loop
 entry-in-requires c κs = omega (arith, c .before .loop .inv .1, c .before .before .before .before .before .pre .1 .0)
 
--- src/lists.rt:109:13
 literal-listed-requires : tie.Need-literal-listed-requires Inv-loop μ-loop
 literal-listed-requires c κs = (rw (c .entry-in .ensures) (one (c .before) .here), c .before .before .before .before .before .before .pre .1 .1)
 
--- src/lists.rt:110:12
 same-flag-requires : tie.Need-same-flag-requires Inv-loop μ-loop
 same-flag-requires c κs = search needs
 
--- src/lists.rt:111:13
 returns : tie.Need-returns Inv-loop μ-loop
 returns c = let test = isListed (c .before .before .before .before .before .before .before .before .before .args .text .now) (c .before .before .before .before .before .before .before .before .before .args .s .now) (c .before .before .before .before .before .before .before .before .before .args .place) in asked-here test (c .before .before .before .before .before .before .before .before .before .args .table .now) (c .before .before .before .before .before .before .before .before .before .args .any) (c .before .before .before .before .before .loop .left) (c .before .before .before .before .before .loop .next) (c .before .before .before .before .loop-test .taken) (at-entry _ _ (λ o. sameFlag (test o) (c .before .before .before .before .before .before .before .before .before .args .any)) _ _ _ (c .before .same-flag .ensures ∙ ap (λ (b : Bool). sameFlag b (c .before .before .before .before .before .before .before .before .before .args .any)) (c .before .before .literal-listed .ensures)) (c .before .before .before .entry-in .ensures) (c .if1 .taken)) ∙ c .before .before .before .before .before .loop .inv .2
 
--- src/lists.rt:113:9
 add-next : tie.Need-add-next Inv-loop μ-loop
 add-next c = omega (arith, c .before .before .before .before .before .loop .inv .1, c .before .before .before .before .before .before .before .before .before .pre .1 .0, c .before .before .before .before .loop-test .taken)
 
--- src/lists.rt:114:9
 sub-left : tie.Need-sub-left Inv-loop μ-loop
 sub-left c = omega arith
 
--- src/lists.rt:107:5
 loop-less : tie.Need-loop-less Inv-loop μ-loop
 loop-less c = omega arith
 
--- src/lists.rt:107:5
 loop-again : tie.Need-loop-again Inv-loop μ-loop
 loop-again c = let test = isListed (c .before .before .before .before .before .before .before .before .before .args .text .now) (c .before .before .before .before .before .before .before .before .before .args .s .now) (c .before .before .before .before .before .before .before .before .before .args .place) in (one (c .before .before .before .before) .later, omega (arith, c .before .before .before .before .before .loop .inv .1), sym (asked-more test (c .before .before .before .before .before .before .before .before .before .args .table .now) (c .before .before .before .before .before .before .before .before .before .args .any) (c .before .before .before .before .before .loop .left) (c .before .before .before .before .before .loop .next) (c .before .before .before .before .loop-test .taken) (at-entry _ _ (λ o. sameFlag (test o) (c .before .before .before .before .before .before .before .before .before .args .any)) _ _ _ (c .before .same-flag .ensures ∙ ap (λ (b : Bool). sameFlag b (c .before .before .before .before .before .before .before .before .before .args .any)) (c .before .before .literal-listed .ensures)) (c .before .before .before .entry-in .ensures) (c .if1 .left))) ∙ c .before .before .before .before .before .loop .inv .2)
 
--- src/lists.rt:99:1
 returns-2 : tie.Need-returns-2 Inv-loop μ-loop
 returns-2 c = asked-done (isListed (c .before .before .before .before .before .args .text .now) (c .before .before .before .before .before .args .s .now) (c .before .before .before .before .before .args .place)) (c .before .before .before .before .before .args .table .now) (c .before .before .before .before .before .args .any) (c .before .loop .left) (c .before .loop .next) (omega arith) ∙ c .before .loop .inv .2
 

@@ -1,3 +1,4 @@
+-- `operators::operands::attribute_value` meets its contract. Assumes nothing.
 use Rattle.operators.proofs.OperandLaws.{read-bag, read-action}
 use mathlib.Core.Path.{_∙_}
 use native.Mathlib.Omega.{arith}
@@ -8,27 +9,21 @@ use Rattle.operators.proofs.operands.attribute_value.Reads as reads
 use Rattle.operators.proofs.operands.attribute_value.Lts as lts
 use Rattle.views.proofs.attribute.Reads as attribute-reads
 
--- src/operands.rt:26:56
 sub-attribute : tie.Need-sub-attribute
 sub-attribute c = omega (arith, c .before .before .before .pre .0 .some)
 
--- src/operands.rt:26:56
 part-attribute-start : tie.Need-part-attribute-start
 part-attribute-start c = omega (arith, c .before .before .before .pre .0 .some, c .before .before .before .pre .0 .high)
 
--- src/operands.rt:26:56
 part-attribute-end : tie.Need-part-attribute-end
 part-attribute-end c = omega (arith, c .before .before .before .pre .0 .some, c .before .before .before .pre .0 .high)
 
--- src/operands.rt:26:9
 attribute-requires : tie.Need-attribute-requires
 attribute-requires c κs = c .before .before .before .before .pre .1
 
--- src/operands.rt:26:9
 returns : tie.Need-returns
 returns c = c .attribute .ensures ∙ read-bag _ _ _ _ _ _ _ (c .before .before .if1 .taken)
 
--- src/operands.rt:17:1
 returns-2 : tie.Need-returns-2
 returns-2 c = read-action _ _ _ _ _ _ _ (c .if1 .left)
 

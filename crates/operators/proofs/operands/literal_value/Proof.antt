@@ -1,3 +1,4 @@
+-- `operators::operands::literal_value` meets its contract. Assumes nothing.
 use Rattle.operators.proofs.OperandLaws.{number-placed, read-string, read-number, read-true, read-false}
 use Rattle.stored.specs.ReadBack.{spanOf}
 use Rattle.placing.specs.Placed.{NumberPlaced}
@@ -8,35 +9,27 @@ use Rattle.operators.proofs.operands.literal_value.Reads as reads
 use Rattle.operators.proofs.operands.literal_value.Lts as lts
 use Rattle.numbers.proofs.literals.number.Reads as number-reads
 
--- src/operands.rt:42:9
 returns : tie.Need-returns
 returns c = read-string _ _ (c .if1 .taken)
 
--- src/operands.rt:51:24
 sub-number : tie.Need-sub-number
 sub-number c = omega (arith, number-placed _ _ (c .if2 .taken) (c .before .before .before .pre) .lies .some)
 
--- src/operands.rt:51:24
 part-number-start : tie.Need-part-number-start
 part-number-start c = omega (arith, number-placed _ _ (c .if2 .taken) (c .before .before .before .pre) .lies .some, number-placed _ _ (c .if2 .taken) (c .before .before .before .pre) .lies .high)
 
--- src/operands.rt:51:24
 part-number-end : tie.Need-part-number-end
 part-number-end c = omega (arith, number-placed _ _ (c .if2 .taken) (c .before .before .before .pre) .lies .some, number-placed _ _ (c .if2 .taken) (c .before .before .before .pre) .lies .high)
 
--- src/operands.rt:51:13
 number-requires : tie.Need-number-requires
 number-requires c κs = number-placed _ _ (c .before .if2 .taken) (c .before .before .before .before .pre) .number
 
--- src/operands.rt:52:9
 returns-2 : tie.Need-returns-2
 returns-2 c = read-number _ _ _ (c .before .before .if2 .taken) (c .number .ensures .0)
 
--- src/operands.rt:59:9
 returns-3 : tie.Need-returns-3
 returns-3 c = read-true _ _ (c .if3 .taken)
 
--- src/operands.rt:36:1
 returns-4 : tie.Need-returns-4
 returns-4 c = read-false _ _ (c .before .before .if1 .left) (c .before .if2 .left) (c .if3 .left)
 

@@ -1,3 +1,4 @@
+-- `operators::operands::operand_string` meets its contract. Assumes nothing.
 use Rattle.operators.proofs.OperandLaws.{literal-placed, string-placed, string-cut, string-inside, string-kinds, string-of-bag, string-quoted, string-action}
 use Rattle.bags.specs.Reading.{byte}
 use lib.ListN.{length}
@@ -14,47 +15,36 @@ use Rattle.operators.proofs.operands.quoted.Reads as quoted-reads
 inside : (c : tie.Then1) → c .before .before .before .before .args .v .place + 1 + byte (c .before .before .before .before .args .s .now) (c .before .before .before .before .args .v .place) ≤ length (c .before .before .before .before .args .s .now)
 inside c = let (k, b) = string-kinds (c .before .before .before .before .args .v) (c .before .before .before .before .args .o) (c .if1 .taken) in string-inside (c .before .before .before .before .args .s .now) (c .before .before .before .before .args .v) (c .before .before .before .before .pre .1 b) k
 
--- src/operands.rt:106:21
 add-start : tie.Need-add-start
 add-start c = omega (arith, inside c)
 
--- src/operands.rt:107:27
 shared-slice-read-end : tie.Need-shared-slice-read-end
 shared-slice-read-end c = omega (arith, inside (c .before))
 
--- src/operands.rt:107:27
 cast-end : tie.Need-cast-end
 cast-end c = omega (arith, inside (c .before))
 
--- src/operands.rt:107:19
 add-end : tie.Need-add-end
 add-end c = omega (arith, inside (c .before))
 
--- src/operands.rt:108:16
 sub-result : tie.Need-sub-result
 sub-result c = search needs
 
--- src/operands.rt:108:16
 part-result-start : tie.Need-part-result-start
 part-result-start c = search needs
 
--- src/operands.rt:108:16
 part-result-end : tie.Need-part-result-end
 part-result-end c = omega (arith, inside (c .before))
 
--- src/operands.rt:108:9
 returns : tie.Need-returns
 returns c = string-cut (c .before .before .before .before .before .before .args .s .now) (c .before .before .before .before .before .before .args .v .place) ∙ string-of-bag _ _ _ _ _ (c .before .before .if1 .taken)
 
--- src/operands.rt:111:9
 quoted-requires : tie.Need-quoted-requires
 quoted-requires c κs = string-placed _ _ (c .if2 .taken) (literal-placed _ _ (omega arith) (c .before .before .before .before .before .pre .0))
 
--- src/operands.rt:111:9
 returns-2 : tie.Need-returns-2
 returns-2 c = c .quoted .ensures ∙ string-quoted _ _ _ _ _ (c .before .before .if1 .left) (c .before .if2 .taken)
 
--- src/operands.rt:96:1
 returns-3 : tie.Need-returns-3
 returns-3 c = string-action _ _ _ _ _ (c .before .if1 .left) (c .if2 .left)
 

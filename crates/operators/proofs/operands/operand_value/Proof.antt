@@ -1,3 +1,4 @@
+-- `operators::operands::operand_value` meets its contract. Assumes nothing.
 use Rattle.operators.proofs.OperandLaws.{path-placed, literal-placed, read-attribute, read-literal}
 use mathlib.Core.Path.{_∙_}
 use Rattle.operators.proofs.operands.operand_value.Statement.{statement}
@@ -7,19 +8,15 @@ use Rattle.operators.proofs.operands.operand_value.Lts as lts
 use Rattle.operators.proofs.operands.attribute_value.Reads as attribute-value-reads
 use Rattle.operators.proofs.operands.literal_value.Reads as literal-value-reads
 
--- src/operands.rt:80:9
 attribute-value-requires : tie.Need-attribute-value-requires
 attribute-value-requires c κs = (path-placed _ _ (c .if1 .taken) (c .before .before .before .pre .0) .lies, c .before .before .before .pre .1)
 
--- src/operands.rt:80:9
 returns : tie.Need-returns
 returns c = c .attribute-value .ensures ∙ read-attribute _ _ _ _ _ _ _ (c .before .if1 .taken)
 
--- src/operands.rt:82:5
 literal-value-requires : tie.Need-literal-value-requires
 literal-value-requires c κs = literal-placed _ _ (c .if1 .left) (c .before .before .before .pre .0)
 
--- src/operands.rt:73:1
 returns-2 : tie.Need-returns-2
 returns-2 c = c .literal-value .ensures ∙ read-literal _ _ _ _ _ _ _ (c .before .if1 .left)
 

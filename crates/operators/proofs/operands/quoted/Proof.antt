@@ -1,3 +1,4 @@
+-- `operators::operands::quoted` meets its contract. Assumes nothing.
 use Rattle.operators.proofs.OperandLaws.{quoted-cut}
 use native.Mathlib.Omega.{arith}
 use borrow.Author.Needs.{needs}
@@ -6,27 +7,21 @@ use Rattle.operators.proofs.operands.quoted.Tie as tie
 use Rattle.operators.proofs.operands.quoted.Reads as reads
 use Rattle.operators.proofs.operands.quoted.Lts as lts
 
--- src/operands.rt:90:17
 add-start : tie.Need-add-start
 add-start c = omega (arith, c .before .pre .two, c .before .pre .lies .high)
 
--- src/operands.rt:91:15
 sub-end : tie.Need-sub-end
 sub-end c = omega (arith, c .before .before .pre .two)
 
--- src/operands.rt:92:5
 sub-result : tie.Need-sub-result
 sub-result c = omega (arith, c .before .before .pre .two)
 
--- src/operands.rt:92:5
 part-result-start : tie.Need-part-result-start
 part-result-start c = omega (arith, c .before .before .pre .two, c .before .before .pre .lies .high)
 
--- src/operands.rt:92:5
 part-result-end : tie.Need-part-result-end
 part-result-end c = omega (arith, c .before .before .pre .two, c .before .before .pre .lies .high)
 
--- src/operands.rt:86:1
 returns : tie.Need-returns
 returns c = quoted-cut (c .before .before .before .args .text .now) (c .before .before .before .args .o .first) (c .before .before .before .args .o .second)
 

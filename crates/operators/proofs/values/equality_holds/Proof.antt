@@ -1,3 +1,4 @@
+-- `operators::values::equality_holds` meets its contract. Assumes nothing.
 use Rattle.operators.proofs.ValueLaws.{equal-13, not-equal-14, equality-by, no-equality}
 use mathlib.Core.Path.{refl}
 use Rattle.operators.proofs.values.equality_holds.Statement.{statement}
@@ -5,15 +6,12 @@ use Rattle.operators.proofs.values.equality_holds.Tie as tie
 use Rattle.operators.proofs.values.equality_holds.Reads as reads
 use Rattle.operators.proofs.values.equality_holds.Lts as lts
 
--- src/values.rt:41:9
 returns : tie.Need-returns
 returns c = equality-by _ _ _ _ (equal-13 _ (c .if1 .taken)) refl
 
--- src/values.rt:44:9
 returns-2 : tie.Need-returns-2
 returns-2 c = equality-by _ _ _ _ (not-equal-14 _ (c .if2 .taken)) refl
 
--- src/values.rt:37:1
 returns-3 : tie.Need-returns-3
 returns-3 c = no-equality _ _ (c .before .if1 .left) (c .if2 .left)
 

@@ -1,10 +1,10 @@
+-- `operators::values::is_present` meets its contract. Assumes nothing.
 use Rattle.operators.proofs.ValueLaws.{present-is}
 use Rattle.operators.proofs.values.is_present.Statement.{statement}
 use Rattle.operators.proofs.values.is_present.Tie as tie
 use Rattle.operators.proofs.values.is_present.Reads as reads
 use Rattle.operators.proofs.values.is_present.Lts as lts
 
--- src/values.rt:68:1
 returns : tie.Need-returns
 returns c = λ x l. present-is _ x l
 

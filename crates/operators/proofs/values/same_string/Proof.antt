@@ -1,3 +1,4 @@
+-- `operators::values::same_string` meets its contract. Assumes nothing.
 use mathlib.Core.Path.{sym}
 use borrow.Author.Needs.{needs}
 use Rattle.slices.proofs.Equal.{same-is, other-length}

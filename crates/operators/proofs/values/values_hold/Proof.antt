@@ -1,3 +1,4 @@
+-- `operators::values::values_hold` meets its contract. Assumes nothing.
 use Rattle.operators.proofs.ValueLaws.{mixed-kinds, two-strings, two-numbers, two-flags, no-kind}
 use borrow.Author.Needs.{needs}
 use Rattle.operators.proofs.values.values_hold.Statement.{statement}
@@ -9,43 +10,33 @@ use Rattle.operators.proofs.values.numbers_hold.Reads as numbers-hold-r
 use Rattle.operators.proofs.values.same_flag.Reads as same-flag-reads
 use Rattle.operators.proofs.values.same_string.Reads as same-string-reads
 
--- src/values.rt:82:9
 returns : tie.Need-returns
 returns c = λ l m. mixed-kinds _ _ _ l _ _ m (c .if1 .taken)
 
--- src/values.rt:85:13
 same-string-requires : tie.Need-same-string-requires
 same-string-requires c κs = search needs
 
--- src/values.rt:86:9
 equality-holds-requires : tie.Need-equality-holds-requires
 equality-holds-requires c κs = search needs
 
--- src/values.rt:86:9
 returns-2 : tie.Need-returns-2
 returns-2 c = λ l m. two-strings _ _ _ l _ _ m _ _ (c .before .before .if2 .taken) (c .before .before .before .if1 .left) (c .before .same-string .ensures) (c .equality-holds .ensures)
 
--- src/values.rt:89:9
 numbers-hold-requires : tie.Need-numbers-hold-requires
 numbers-hold-requires c κs = search needs
 
--- src/values.rt:89:9
 returns-3 : tie.Need-returns-3
 returns-3 c = λ l m. two-numbers _ _ _ l _ _ m _ (c .before .if3 .taken) (c .before .before .before .if1 .left) (c .numbers-hold .ensures)
 
--- src/values.rt:92:13
 same-flag-requires : tie.Need-same-flag-requires
 same-flag-requires c κs = search needs
 
--- src/values.rt:93:9
 equality-holds-requires-2 : tie.Need-equality-holds-requires-2
 equality-holds-requires-2 c κs = search needs
 
--- src/values.rt:93:9
 returns-4 : tie.Need-returns-4
 returns-4 c = λ l m. two-flags _ _ _ l _ _ m _ _ (c .before .before .before .before .if4 .taken) (c .before .before .before .before .before .before .before .if1 .left) (c .before .same-flag .ensures) (c .equality-holds2 .ensures)
 
--- src/values.rt:76:1
 returns-5 : tie.Need-returns-5
 returns-5 c = λ l m. no-kind _ _ _ l _ _ m (c .before .before .if2 .left) (c .before .if3 .left) (c .if4 .left)
 
