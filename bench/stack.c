@@ -100,6 +100,7 @@ int main(void) {
     begin(); times(31, "("); put("1==resource.a"); times(31, ")"); show("31 nested brackets, `1==resource.a` inside");
     begin(); times(31, "!"); put("true"); show("31 nested `!`");
     begin(); times(31, "if "); put("true"); times(31, " then true else true"); show("31 nested `if`, in the condition");
+    begin(); times(31, "if "); put("\"abcde\" like \"*a*b*c*d*e\""); times(31, " then true else true"); show("31 nested `if`, in the condition, `like` with five `*` inside");
     begin(); times(31, "if true then true else "); put("true"); show("31 nested `if`, in the else part");
     begin(); times(15, "if ("); put("1==resource.a"); times(15, ") then true else true"); show("15 nested `if` and brackets in turn, `1==resource.a` inside");
     begin(); times(1300, "true&&"); put("true"); show("a chain of 1,301 conditions");
