@@ -1,5 +1,5 @@
 -- What the desk promises of look-ups: what is found is the attribute that deciding sees, and where a string's bytes lie. Assumes nothing.
-use mathlib.Core.Path.{_≡_, refl, sym, ap, _∙_}
+use mathlib.Core.Path.{_≡_, refl, sym, _∙_}
 use mathlib.Core.Bool.{Bool, true, false, cond}
 use mathlib.Core.List.{List, [], _∷_}
 use Prim.Native.Nat.{ℕ, zero, suc, _+_, _≤_}
@@ -10,7 +10,6 @@ use lib.Ieee.{Float, ofBits, eq}
 use lib.ListN.{length}
 use Rattle.slices.specs.Same.{same}
 use Rattle.slices.specs.Parts.{part}
-use Rattle.numbers.specs.Bits.{numberAt}
 use Rattle.bags.specs.Reading.{byte, each, following}
 use Rattle.bags.specs.Sections.{pathAt, kindAt, entryEnd, sectionsOf, isBag}
 use Rattle.bags.specs.declared.After.{After}
@@ -28,7 +27,7 @@ use Rattle.lookups.specs.declared.Answer.{Answer}
 use Rattle.lookups.specs.declared.Answer.the-variants.{Found, Refused}
 use Rattle.lookups.proofs.Answers.{refused, found, string-inside}
 use Rattle.lookups.proofs.BagLaws.{bag-whole}
-use Rattle.views.specs.Meaning.{Datum, text}
+use Rattle.views.specs.Meaning.{text}
 use Rattle.views.specs.Values.{datumOf, datumIn, stringAt, baseBag}
 use Rattle.views.proofs.ReadLaws.{look-means}
 use Rattle.deciding.specs.Answers.{viewIn, viewOf}

@@ -42,6 +42,7 @@ pub demand-three : DemandThree
 unfolding ListsExactly OneRow Ascends FirstSlowest
 demand-three = record {
   row-decided = sheets-desk.row-decided;
+  row-listed = sheets-desk.row-listed;
   decided-alike = sheets-desk.decided-alike;
   listed-alike = sheets-desk.listed-alike;
   rows-counted = sheets-desk.rows-counted;

@@ -118,6 +118,18 @@ unfolding said meaning.NamedRightly
 outcome-over text view q ps says =
     rw (policies-said text ps (read-as text ps says)) (outcome-named text view q ps (policyOf (decisionOf text view q ps)) refl (meaning-proofs.named-rightly text view q ps))
 
+-- and who gets yes over it
+pub yes-over : (text : List ℕ) (view : View) (q : Request) (ps : List Policy) → Says text ps
+    → (isAllowed (decisionOf text view q (policiesOf text)) ≡ true) ↔ ((isSystem (q .subject) ≡ true) ⊎ Granted text view q)
+unfolding said meaning.YesExactly
+yes-over text view q ps says = rw (policies-said text ps (read-as text ps says)) (
+  λ y. ⊎-elim inl (λ w. inr (record { policies = ps; says = says; permit = w .0; no-forbid = w .1 })) (meaning-proofs.yes-exactly text view q ps .0 y),
+  λ y. meaning-proofs.yes-exactly text view q ps .1 (⊎-elim inl (λ g. inr (of-these g)) y),
+)
+  where
+    of-these : Granted text view q → Some text view q ps true × (Some text view q ps false → ⊥)
+    of-these g = rw (← one-reading text (g .policies) ps (g .says) says) (g .permit, g .no-forbid)
+
 -- ---- deciding
 
 module _ (text table bag : List ℕ) (q : Request) where

@@ -1,6 +1,6 @@
 -- What the desk promises of sheets: the list, its pages, the refusals. Assumes nothing.
 use mathlib.Core.Path.{_≡_, refl, sym, ap, _∙_, subst}
-use mathlib.Core.Logic.{_↔_}
+use mathlib.Core.Logic.{_⊎_, _↔_}
 use mathlib.Core.Bool.{Bool, true, false, cond}
 use mathlib.Core.List.{List, [], _∷_, _++_, List·Memᴰ}
 use Prim.Native.Nat.{ℕ, zero, suc, _+_, _-_, _*_, _≤_, _<_, zero-le}
@@ -35,9 +35,9 @@ use Rattle.sheets.specs.Promise.{countsAsked, listedFrom, ListedRightly, Called
 use Rattle.sheets.specs.declared.Answer.the-variants.{Listed, Refused}
 use Rattle.sheets.proofs.Promised as sheets-proofs
 use Rattle.desk.specs.Answers.{sheetSays, sheetLeaves, decideSays, viewOfRow, rowsSay}
-use Rattle.desk.specs.Promises.{Says, OutcomeIs, Yes, allowed, system, writtenBy, pageOf, Pages, no-page, page, Shows}
+use Rattle.desk.specs.Promises.{Says, Granted, OutcomeIs, Yes, allowed, system, writtenBy, pageOf, Pages, no-page, page, Shows}
 use Rattle.desk.specs.declared.DeskDecision.{DeskDecision}
-use Rattle.desk.proofs.RequestsPromised.{among, decided-over, outcome-over}
+use Rattle.desk.proofs.RequestsPromised.{among, decided-over, outcome-over, yes-over}
 
 -- ---- the list
 
@@ -45,6 +45,14 @@ pub row-decided : (text question : List ℕ) (q : Request) (ps : List Policy) (r
     → OutcomeIs text (viewOfRow question row) q ps (outcomeOf (decisions text question q row)) (policyOf (decisions text question q row))
 unfolding decisionBy
 row-decided text question q ps row says = outcome-over text (viewOfRow question row) q ps says
+
+pub row-listed : (text question : List ℕ) (q : Request) (ps : List Policy) (row : ℕ) → Says text ps
+    → List·Memᴰ row (listedFrom text question q 0) ↔ ((row < rowsAsked question) × ((isSystem (q .subject) ≡ true) ⊎ Granted text (viewOfRow question row) q))
+unfolding decisionBy
+row-listed text question q ps row says =
+    let both = lists-yes (decisions text question q) (rowsAsked question) 0 row in
+    let yes = yes-over text (viewOfRow question row) q ps says in
+    (λ m. let h = both .0 m in (h .1, yes .0 (h .2)), λ h. both .1 (zero-le, h .0, yes .1 (h .1)))
 
 pub decided-alike : (text table question : List ℕ) (q : Request) (row : ℕ) (bag : List ℕ) → isQuestion question ≡ true → decideSays text table bag q .refusal ≡ 0
     → Shows bag question row → (decideSays text table bag q .outcome ≡ outcomeOf (decisions text question q row)) × (decideSays text table bag q .policy ≡ policyOf (decisions text question q row))

@@ -74,7 +74,7 @@ pub data Yes : DeskDecision → Type 0 where
   allowed : {d : DeskDecision} → d .outcome ≡ 1 → Yes d
   system : {d : DeskDecision} → d .outcome ≡ 4 → Yes d
 
--- over the attributes of a view
+-- over these attributes some permit is satisfied and no forbid is
 pub record Granted (text : List ℕ) (view : View) (q : Request) : Type 0 where
   pub policies : List Policy
   pub says : Says text policies
@@ -138,9 +138,11 @@ abbrev pub Shows : List ℕ → List ℕ → ℕ → Type 0
 Shows bag question row = (root : ℕ) (path : List ℕ) → viewOf bag root path ≡ viewOfRow question row root path
 
 pub record DemandThree : Type 0 where
-  -- a row is decided by the policies over its attributes, however many they are
+  -- a row is decided by the policies over its attributes, however many they are, and is listed exactly if it gets yes over them
   pub row-decided : (text question : List ℕ) (q : Request) (ps : List Policy) (row : ℕ) → Says text ps
       → OutcomeIs text (viewOfRow question row) q ps (outcomeOf (decisions text question q row)) (policyOf (decisions text question q row))
+  pub row-listed : (text question : List ℕ) (q : Request) (ps : List Policy) (row : ℕ) → Says text ps
+      → List·Memᴰ row (listedFrom text question q 0) ↔ ((row < rowsAsked question) × ((isSystem (q .subject) ≡ true) ⊎ Granted text (viewOfRow question row) q))
   -- a row is decided as demand 2 decides over a bag that has its attributes, and is listed exactly if demand 2 answers that with yes
   pub decided-alike : (text table question : List ℕ) (q : Request) (row : ℕ) (bag : List ℕ) → isQuestion question ≡ true → decideSays text table bag q .refusal ≡ 0 → Shows bag question row
       → (decideSays text table bag q .outcome ≡ outcomeOf (decisions text question q row)) × (decideSays text table bag q .policy ≡ policyOf (decisions text question q row))
