@@ -8,8 +8,9 @@ use borrow.Author.Tests.{eqb-true, eqb-false, ne-eqb}
 use lib.Dec.{eqb}
 use lib.Ieee.{Float, ofBits, eq}
 use lib.ListN.{length}
+use denote.Ref.{RefT, now}
 use Rattle.slices.specs.Same.{same}
-use Rattle.slices.specs.Parts.{part}
+use Rattle.slices.specs.Parts.{part, IsPart}
 use Rattle.bags.specs.Reading.{byte, each, following}
 use Rattle.bags.specs.Sections.{pathAt, kindAt, entryEnd, sectionsOf, isBag}
 use Rattle.bags.specs.declared.After.{After}
@@ -33,7 +34,7 @@ use Rattle.views.proofs.ReadLaws.{look-means}
 use Rattle.deciding.specs.Answers.{viewIn, viewOf}
 use Rattle.desk.specs.Answers.{foundAs, lookupSays, stringSays}
 use Rattle.desk.specs.declared.DeskString.{DeskString}
-use Rattle.desk.specs.Promises.{Means, a-string, a-number, flag-off, flag-on, a-list, none-found}
+use Rattle.desk.specs.Promises.{StringAllows, Means, a-string, a-number, flag-off, flag-on, a-list, none-found}
 
 -- ---- the number and the place of what is read
 
@@ -162,3 +163,8 @@ module _ (bag : List ℕ) (root : ℕ) (path : List ℕ) where
           × (startOf (cond b (Found v) (Refused 24)) + lengthOf bag (cond b (Found v) (Refused 24)) ≤ length bag)
       go true form k = rw (← bag-means bag path root, k) (refl, string-inside bag root path v (sym (found bag root path form)) k)
       go false form k = absurd (omega arith)
+
+pub part-rightly : (bag : RefT (List ℕ)) (root : ℕ) (path : List ℕ) (r : RefT (List ℕ)) → StringAllows bag root path r
+    → IsPart bag r (stringSays (now bag) root path .start) (stringSays (now bag) root path .length)
+unfolding stringSays
+part-rightly bag root path r allowed = allowed

@@ -63,6 +63,7 @@ pub look-ups : LookUps
 look-ups = record {
   looked-rightly = look-ups-desk.looked-rightly;
   string-rightly = look-ups-desk.string-rightly;
+  part-rightly = look-ups-desk.part-rightly;
   string-empty = look-ups-desk.string-empty;
   string-none = look-ups-desk.string-none;
 }

@@ -195,12 +195,19 @@ pub data Means (bag : List ℕ) (found : DeskValue) : Datum → Type 0 where
   a-list : found .kind ≡ 4 → found .number ≡ nought → Means bag found (views.texts (listAt bag (found .place)))
   none-found : found .kind ≡ 0 → found .number ≡ nought → found .place ≡ 0 → Means bag found views.absent
 
+-- what the contract of `string_part` allows: a string's bytes as a part of the caller's bag
+abbrev pub StringAllows : RefT (List ℕ) → ℕ → List ℕ → RefT (List ℕ) → Type 0
+StringAllows bag root path r = IsPart bag r (startOf (lookupOf (now bag) root path)) (lengthOf (now bag) (lookupOf (now bag) root path))
+
 pub record LookUps : Type 0 where
   pub looked-rightly : (bag : List ℕ) (root : ℕ) (path : List ℕ) → isBag bag ≡ true → Means bag (lookupSays bag root path) (viewOf bag root path)
   -- a string's bytes are the part of the bag that is told
   pub string-rightly : (bag : List ℕ) (root : ℕ) (path : List ℕ) → lookupSays bag root path .kind ≡ 1
       → (viewOf bag root path ≡ views.text (part bag (stringSays bag root path .start) (stringSays bag root path .length)))
       × (stringSays bag root path .start + stringSays bag root path .length ≤ length bag)
+  -- `string_part` gives that part itself
+  pub part-rightly : (bag : RefT (List ℕ)) (root : ℕ) (path : List ℕ) (r : RefT (List ℕ)) → StringAllows bag root path r
+      → IsPart bag r (stringSays (now bag) root path .start) (stringSays (now bag) root path .length)
   -- any other kind has the empty part, and so has what is no bag, which has kind 0
   pub string-empty : (bag : List ℕ) (root : ℕ) (path : List ℕ) → (lookupSays bag root path .kind ≡ 1 → ⊥) → stringSays bag root path ≡ record { start = 0; length = 0 }
   pub string-none : (bag : List ℕ) (root : ℕ) (path : List ℕ) → isBag bag ≡ false → stringSays bag root path ≡ record { start = 0; length = 0 }
@@ -237,10 +244,6 @@ pub record CompileAllows (text before after : List ℕ) (r : DeskCompiled) : Typ
 pub record SheetAllows (text table question : List ℕ) (q : Request) (start : ℕ) (before : List ℕ) (at : ℕ) (after : List ℕ) (r : DeskPage) : Type 0 where
   pub answered : r ≡ sheetSays text table question q start before at
   pub sheet : after ≡ sheetLeaves text table question q start before at
-
--- a string's bytes as a part of the caller's bag
-abbrev pub StringAllows : RefT (List ℕ) → ℕ → List ℕ → RefT (List ℕ) → Type 0
-StringAllows bag root path r = IsPart bag r (startOf (lookupOf (now bag) root path)) (lengthOf (now bag) (lookupOf (now bag) root path))
 
 pub record OneResult : Type 0 where
   pub of-compile : (text before after after′ : List ℕ) (r r′ : DeskCompiled) → CompileAllows text before after r → CompileAllows text before after′ r′ → (r ≡ r′) × (after ≡ after′)
