@@ -1,6 +1,7 @@
 pub mod RefusalNumbers
 pub mod TextsPromised
 pub mod RequestsPromised
+pub mod LookUpsPromised
 pub mod SheetsPromised
 pub mod Promised
 pub mod Cases

@@ -5,9 +5,10 @@ use Rattle.compiling.specs.Promise.{BeginsExactly}
 use Rattle.compiling.proofs.Promised.{begins-exactly}
 use Rattle.sheets.specs.Promise.{ListsExactly, OneRow, Ascends, FirstSlowest}
 use Rattle.sheets.proofs.Promised as sheets
-use Rattle.desk.specs.Promises.{DemandOne, DemandTwo, DemandThree, Refusals, OneResult}
+use Rattle.desk.specs.Promises.{DemandOne, DemandTwo, DemandThree, LookUps, Refusals, OneResult}
 use Rattle.desk.proofs.TextsPromised as texts
 use Rattle.desk.proofs.RequestsPromised as requests
+use Rattle.desk.proofs.LookUpsPromised as look-ups-desk
 use Rattle.desk.proofs.SheetsPromised as sheets-desk
 
 pub demand-one : DemandOne
@@ -27,6 +28,9 @@ demand-two = record {
   accepted-exactly = texts.accepted-exactly;
   compiled = texts.compiled;
   compiled-begins = texts.compiled-begins;
+  used-begins = texts.used-begins;
+  enough-room = texts.enough-room;
+  no-policies-no-bytes = texts.no-policies-no-bytes;
   one-reading = texts.one-reading;
   yes-exactly = requests.yes-exactly;
   named-rightly = requests.named-rightly;
@@ -37,8 +41,11 @@ demand-two = record {
 pub demand-three : DemandThree
 unfolding ListsExactly OneRow Ascends FirstSlowest
 demand-three = record {
+  row-decided = sheets-desk.row-decided;
+  row-listed = sheets-desk.row-listed;
   decided-alike = sheets-desk.decided-alike;
   listed-alike = sheets-desk.listed-alike;
+  rows-counted = sheets-desk.rows-counted;
   system-rows = sheets-desk.system-rows;
   lists-exactly = sheets.lists-exactly;
   only-combinations = sheets-desk.only-combinations;
@@ -52,6 +59,15 @@ demand-three = record {
   others-stay = sheets-desk.others-stay;
 }
 
+pub look-ups : LookUps
+look-ups = record {
+  looked-rightly = look-ups-desk.looked-rightly;
+  string-rightly = look-ups-desk.string-rightly;
+  part-rightly = look-ups-desk.part-rightly;
+  string-empty = look-ups-desk.string-empty;
+  string-none = look-ups-desk.string-none;
+}
+
 pub refusals : Refusals
 unfolding BeginsExactly
 refusals = record {
@@ -61,11 +77,11 @@ refusals = record {
   decide-exactly = requests.decide-exactly;
   lookup-exactly = requests.lookup-exactly;
   sheet-exactly = sheets-desk.sheet-exactly;
+  rows-exactly = sheets-desk.rows-exactly;
   begins-exactly = begins-exactly;
   compile-zeros = texts.compile-zeros;
   decide-zeros = requests.decide-zeros;
   lookup-zeros = requests.lookup-zeros;
-  string-empty = requests.string-empty;
   sheet-zeros = sheets-desk.sheet-zeros;
 }
 

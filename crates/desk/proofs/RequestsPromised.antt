@@ -1,5 +1,5 @@
 -- What the desk promises of requests and of look-ups: the refusals, yes, the policy named, zeros beside a refusal. Assumes nothing.
-use mathlib.Core.Path.{_≡_, refl, sym, ap, fun-ext}
+use mathlib.Core.Path.{_≡_, refl, fun-ext}
 use mathlib.Core.Logic.{_⊎_, inl, inr, ⊎-elim, _↔_}
 use mathlib.Core.Bool.{Bool, true, false, cond}
 use mathlib.Core.List.{List, [], _∷_, List·Memᴰ, List·Memᴰ·head, List·Memᴰ·tail}
@@ -31,11 +31,10 @@ use Rattle.deciding.proofs.HeldLaws.{policies-said}
 use Rattle.deciding.proofs.Promised as deciding-proofs
 use Rattle.tokens.proofs.TokenLaws.{never, or-cases}
 use Rattle.lookups.specs.Lookups as lookups
-use Rattle.lookups.specs.Lookups.{lookIn, bagOf, lookupOf, lengthOf}
+use Rattle.lookups.specs.Lookups.{lookIn, bagOf, lookupOf}
 use Rattle.lookups.specs.Values.{nought, absent}
 use Rattle.lookups.specs.declared.Answer.the-variants.{Found, Refused}
-use Rattle.lookups.proofs.Answers.{refused, refused-stretch}
-use Rattle.lookups.specs.declared.Stretch.{Stretch}
+use Rattle.lookups.proofs.Answers.{refused}
 use Rattle.desk.specs.Answers.{decidedAs, decideSays, foundAs, lookupSays}
 use Rattle.desk.specs.Promises.{Says, Yes, allowed, system, Granted, OutcomeIs, by-permit, by-forbid, by-none, by-system}
 use Rattle.desk.specs.declared.DeskValue.{DeskValue}
@@ -84,9 +83,9 @@ from-one : {n : ℕ} {p : Policy} {ps : List Policy} → Numbered n p ps → 0 <
 from-one first = omega arith
 from-one (later h) = omega arith
 
-module _ (text bag : List ℕ) (q : Request) (ps : List Policy) where
+module _ (text : List ℕ) (view : View) (q : Request) (ps : List Policy) where
   abbrev decision : Decision
-  decision = decisionOf text (viewOf bag) q ps
+  decision = decisionOf text view q ps
 
   by-policies : isSystem (q .subject) ≡ false → Sorted decision
   unfolding decisionOf policiesDecide
@@ -96,21 +95,40 @@ module _ (text bag : List ℕ) (q : Request) (ps : List Policy) where
   unfolding decisionOf outcomeOf
   four-for-system s = rw s
 
-  allowed-then : isSystem (q .subject) ≡ false → isAllowed decision ≡ true → Some text (viewOf bag) q ps false → ⊥
+  allowed-then : isSystem (q .subject) ≡ false → isAllowed decision ≡ true → Some text view q ps false → ⊥
   unfolding meaning.YesExactly
-  allowed-then s y = ⊎-elim (λ t. absurd (meaning-proofs.never s t)) (λ w. w .1) (meaning-proofs.yes-exactly text (viewOf bag) q ps .0 y)
+  allowed-then s y = ⊎-elim (λ t. absurd (meaning-proofs.never s t)) (λ w. w .1) (meaning-proofs.yes-exactly text view q ps .0 y)
 
-  permit-allowed : Some text (viewOf bag) q ps true → (Some text (viewOf bag) q ps false → ⊥) → isAllowed decision ≡ true
+  permit-allowed : Some text view q ps true → (Some text view q ps false → ⊥) → isAllowed decision ≡ true
   unfolding meaning.YesExactly
-  permit-allowed p f = meaning-proofs.yes-exactly text (viewOf bag) q ps .1 (inr (p, f))
+  permit-allowed p f = meaning-proofs.yes-exactly text view q ps .1 (inr (p, f))
 
-  outcome-named : (n : ℕ) → policyOf decision ≡ n → Names text (viewOf bag) q ps n → OutcomeIs text bag q ps (outcomeOf decision) n
+  outcome-named : (n : ℕ) → policyOf decision ≡ n → Names text view q ps n → OutcomeIs text view q ps (outcomeOf decision) n
   outcome-named n e (nobody s) = rw (four-for-system s) (by-system s)
   outcome-named n e (a-forbid s l) =
       let named : 0 < policyOf decision = rw e (from-one (l .bites .numbered)) in
       rw (two-if-named (by-policies s) (λ y. allowed-then s y (record { number = n; bites = l .bites })) named) (by-forbid s l)
   outcome-named n e (a-permit s f l) = rw (one-if-allowed (by-policies s) (permit-allowed (record { number = n; bites = l .bites }) f)) (by-permit s f l)
   outcome-named n e (none-named s f g) = rw (three-if-none (by-policies s) e) (by-none s f g)
+
+-- what the policies that a text says decide over a view
+pub outcome-over : (text : List ℕ) (view : View) (q : Request) (ps : List Policy) → Says text ps
+    → OutcomeIs text view q ps (outcomeOf (decisionOf text view q (policiesOf text))) (policyOf (decisionOf text view q (policiesOf text)))
+unfolding said meaning.NamedRightly
+outcome-over text view q ps says =
+    rw (policies-said text ps (read-as text ps says)) (outcome-named text view q ps (policyOf (decisionOf text view q ps)) refl (meaning-proofs.named-rightly text view q ps))
+
+-- and who gets yes over it
+pub yes-over : (text : List ℕ) (view : View) (q : Request) (ps : List Policy) → Says text ps
+    → (isAllowed (decisionOf text view q (policiesOf text)) ≡ true) ↔ ((isSystem (q .subject) ≡ true) ⊎ Granted text view q)
+unfolding said meaning.YesExactly
+yes-over text view q ps says = rw (policies-said text ps (read-as text ps says)) (
+  λ y. ⊎-elim inl (λ w. inr (record { policies = ps; says = says; permit = w .0; no-forbid = w .1 })) (meaning-proofs.yes-exactly text view q ps .0 y),
+  λ y. meaning-proofs.yes-exactly text view q ps .1 (⊎-elim inl (λ g. inr (of-these g)) y),
+)
+  where
+    of-these : Granted text view q → Some text view q ps true × (Some text view q ps false → ⊥)
+    of-these g = rw (← one-reading text (g .policies) ps (g .says) says) (g .permit, g .no-forbid)
 
 -- ---- deciding
 
@@ -174,14 +192,14 @@ module _ (text table bag : List ℕ) (q : Request) where
   unfolding saysYes
   then-yes a e = ⊎-elim (λ (h : eqb (saidOf a .outcome) 1 ≡ true). allowed (eqb-true _ _ h)) (λ (h : eqb (saidOf a .outcome) 4 ≡ true). system (eqb-true _ _ h)) (or-cases _ _ e)
 
-  with-table : Heard → Granted text bag q → (isSystem (q .subject) ≡ true) ⊎ deciding.Granted text table bag q
+  with-table : Heard → Granted text (viewOf bag) q → (isSystem (q .subject) ≡ true) ⊎ deciding.Granted text table bag q
   with-table (of-the-system s) g = inl s
   with-table (of-another h) g = inr (record { policies = g .policies; heard = h (g .policies) (g .says); permit = g .permit; no-forbid = g .no-forbid })
 
-  without-table : deciding.Granted text table bag q → Granted text bag q
+  without-table : deciding.Granted text table bag q → Granted text (viewOf bag) q
   without-table g = record { policies = g .policies; says = record { short = g .heard .short; belongs = g .heard .belongs }; permit = g .permit; no-forbid = g .no-forbid }
 
-  pub yes-exactly : decideSays text table bag q .refusal ≡ 0 → Yes (decideSays text table bag q) ↔ ((isSystem (q .subject) ≡ true) ⊎ Granted text bag q)
+  pub yes-exactly : decideSays text table bag q .refusal ≡ 0 → Yes (decideSays text table bag q) ↔ ((isSystem (q .subject) ≡ true) ⊎ Granted text (viewOf bag) q)
   unfolding decideSays deciding.YesExactly
   yes-exactly e = (
     λ y. ⊎-elim inl (λ g. inr (without-table g)) (deciding-proofs.yes-exactly text table bag q .0 (yes-then (answerOf text table bag q) y)),
@@ -218,11 +236,9 @@ module _ (text table bag : List ℕ) (q : Request) where
   decided-by e (none-where-all-is-right s t u v w b) = rw (s, t, u, v, w, begins-exactly text table .1 b)
 
   pub outcome-rightly : (ps : List Policy) → decideSays text table bag q .refusal ≡ 0 → Says text ps
-      → OutcomeIs text bag q ps (decideSays text table bag q .outcome) (decideSays text table bag q .policy)
-  unfolding decideSays saidOf said meaning.NamedRightly
-  outcome-rightly ps e says =
-      rw (decided-by e (decide-exactly (decideSays text table bag q .refusal) .0 refl), policies-said text ps (read-as text ps says))
-      (outcome-named text bag q ps (policyOf (decisionOf text (viewOf bag) q ps)) refl (meaning-proofs.named-rightly text (viewOf bag) q ps))
+      → OutcomeIs text (viewOf bag) q ps (decideSays text table bag q .outcome) (decideSays text table bag q .policy)
+  unfolding decideSays saidOf
+  outcome-rightly ps e says = rw (decided-by e (decide-exactly (decideSays text table bag q .refusal) .0 refl)) (outcome-over text (viewOf bag) q ps says)
 
   -- what is decided depends on the attributes alone
   pub decided-over : decideSays text table bag q .refusal ≡ 0 → (view : View) → ((root : ℕ) (path : List ℕ) → viewOf bag root path ≡ view root path)
@@ -269,6 +285,3 @@ module _ (bag : List ℕ) (root : ℕ) (path : List ℕ) where
 
   pub lookup-zeros : (lookupSays bag root path .refusal ≡ 0 → ⊥) → lookupSays bag root path ≡ record { refusal = 24; kind = 0; number = nought; place = 0 }
   lookup-zeros = zeros looked
-
-  pub string-empty : isBag bag ≡ false → lengthOf bag (lookupOf bag root path) ≡ 0
-  string-empty e = sym (ap (λ (p : Stretch). p .length) (refused-stretch bag (lookupOf bag root path) 24 (sym (refused bag root path e))))

@@ -1,33 +1,58 @@
 -- What the desk promises of sheets: the list, its pages, the refusals. Assumes nothing.
 use mathlib.Core.Path.{_≡_, refl, sym, ap, _∙_, subst}
-use mathlib.Core.Logic.{_↔_}
-use mathlib.Core.Bool.{true}
+use mathlib.Core.Logic.{_⊎_, _↔_}
+use mathlib.Core.Bool.{Bool, true, false, cond}
 use mathlib.Core.List.{List, [], _∷_, _++_, List·Memᴰ}
-use Prim.Native.Nat.{ℕ, zero, suc, _+_, _*_, _≤_, _<_, zero-le}
+use Prim.Native.Nat.{ℕ, zero, suc, _+_, _-_, _*_, _≤_, _<_, zero-le}
+use native.Mathlib.Nat.{mul-pos}
 use native.Mathlib.Omega.{arith}
 use lib.ListN.{length, getD, take, drop}
 use lib.Seq.{take-at, drop-at, length-take-le}
 use Rattle.tokens.proofs.TokenLaws.{never}
-use Rattle.questions.specs.Questions.{isQuestion}
+use Rattle.grammar.specs.Policies.{Policy}
+use Rattle.bags.specs.Reading.{many}
+use Rattle.bags.specs.Sections.{sectionsOf}
+use Rattle.bags.specs.declared.After.the-variants.{At}
+use Rattle.bags.specs.declared.sections.Divided.{Divided}
+use Rattle.bags.specs.declared.sections.Divided.the-variants.{In, Broken}
+use Rattle.bags.proofs.ReadLaws.{first}
+use Rattle.questions.specs.Columns.{columnEnd}
+use Rattle.questions.specs.Questions.{isQuestion, product, rowsOf}
+use Rattle.questions.proofs.ColumnLaws as questions
+use Rattle.questions.proofs.ColumnLaws.{column-at, question-is}
+use Rattle.questions.proofs.PlaceLaws.{rows-done, rows-more}
 use Rattle.meaning.specs.Targets.{Request, isSystem}
 use Rattle.meaning.specs.Decisions.{decisionOf, outcomeOf, policyOf, isAllowed}
 use Rattle.meaning.specs.declared.Decision.{Decision}
 use Rattle.meaning.specs.declared.Decision.the-variants.{Allowed, Forbidden, Nothing, System}
-use Rattle.pages.specs.Rows.{Combination, rowOf, choicesAt}
+use Rattle.pages.specs.Rows.{Combination, rowOf, choicesAt, countsOf}
 use Rattle.pages.specs.Listing.{pageRows, nextRow, rowSize, roomIn, bytesOf, over}
 use Rattle.pages.proofs.Listed.{lists-yes}
 use Rattle.pages.proofs.Progress.{bytes-length}
-use Rattle.sheets.specs.Sheets.{decisionBy, decisions, rowsAsked, refusalOf, unless, answerOf, sheetAfter, saidOf, saidTo}
+use Rattle.sheets.specs.Sheets.{decisionBy, decisions, dividedAs, rowsIn, rowsAsked, refusalOf, unless, answerOf, sheetAfter, saidOf, saidTo}
 use Rattle.sheets.specs.Promise as sheets
 use Rattle.sheets.specs.Promise.{countsAsked, listedFrom, ListedRightly, Called, no-call, call, PagesJoined, GoesOn, OthersStay, NothingChanged, no-room, no-question, above, never-the-system, bad-subject, bad-action, bad-resource, not-compiled, none-wrong}
 use Rattle.sheets.specs.declared.Answer.the-variants.{Listed, Refused}
 use Rattle.sheets.proofs.Promised as sheets-proofs
-use Rattle.desk.specs.Answers.{sheetSays, sheetLeaves, decideSays, viewOfRow}
-use Rattle.desk.specs.Promises.{Yes, allowed, system, writtenBy, pageOf, Pages, no-page, page, Shows}
+use Rattle.desk.specs.Answers.{sheetSays, sheetLeaves, decideSays, viewOfRow, rowsSay}
+use Rattle.desk.specs.Promises.{Says, Granted, OutcomeIs, Yes, allowed, system, writtenBy, pageOf, Pages, no-page, page, Shows}
 use Rattle.desk.specs.declared.DeskDecision.{DeskDecision}
-use Rattle.desk.proofs.RequestsPromised.{among, decided-over}
+use Rattle.desk.proofs.RequestsPromised.{among, decided-over, outcome-over, yes-over}
 
 -- ---- the list
+
+pub row-decided : (text question : List ℕ) (q : Request) (ps : List Policy) (row : ℕ) → Says text ps
+    → OutcomeIs text (viewOfRow question row) q ps (outcomeOf (decisions text question q row)) (policyOf (decisions text question q row))
+unfolding decisionBy
+row-decided text question q ps row says = outcome-over text (viewOfRow question row) q ps says
+
+pub row-listed : (text question : List ℕ) (q : Request) (ps : List Policy) (row : ℕ) → Says text ps
+    → List·Memᴰ row (listedFrom text question q 0) ↔ ((row < rowsAsked question) × ((isSystem (q .subject) ≡ true) ⊎ Granted text (viewOfRow question row) q))
+unfolding decisionBy
+row-listed text question q ps row says =
+    let both = lists-yes (decisions text question q) (rowsAsked question) 0 row in
+    let yes = yes-over text (viewOfRow question row) q ps says in
+    (λ m. let h = both .0 m in (h .1, yes .0 (h .2)), λ h. both .1 (zero-le, h .0, yes .1 (h .1)))
 
 pub decided-alike : (text table question : List ℕ) (q : Request) (row : ℕ) (bag : List ℕ) → isQuestion question ≡ true → decideSays text table bag q .refusal ≡ 0
     → Shows bag question row → (decideSays text table bag q .outcome ≡ outcomeOf (decisions text question q row)) × (decideSays text table bag q .policy ≡ policyOf (decisions text question q row))
@@ -68,6 +93,37 @@ from-start text question q start row =
     let here = lists-yes (decisions text question q) (rowsAsked question) start row in
     let all = lists-yes (decisions text question q) (rowsAsked question) 0 row in
     (λ m. let h = here .0 m in (h .0, all .1 (zero-le, h .1, h .2)), λ h. let k = all .0 (h .1) in here .1 (h .0, k .1, k .2))
+
+-- ---- the number of rows
+
+rows-some : (s : List ℕ) (n at e : ℕ) → many n (columnEnd s) at ≡ At e → 0 < rowsOf n s at
+rows-some s zero at e h = rw (rows-done s 0 at (omega arith)) (omega arith)
+rows-some s (suc n) at e h =
+    let f = first (columnEnd s) (suc n) at e (omega arith) h in
+    let m : suc n - 1 ≡ n = omega arith in
+    rw (rows-more s (suc n) at (f .stop) (omega arith) (f .ends), m)
+    (mul-pos (column-at s at (f .stop) (f .ends) .some) (rows-some s n (f .stop) e (rw m at (f .later))))
+
+-- a question has a row
+asked-some : (question : List ℕ) → isQuestion question ≡ true → 0 < rowsAsked question
+unfolding dividedAs
+asked-some question form = go (sectionsOf question) refl
+  where
+    go : (d : Divided) → sectionsOf question ≡ d → 0 < rowsIn question (dividedAs d)
+    go (In p) q = let k = question-is question p (rw (form, q)) in rows-some question _ _ (k .last) (k .columns)
+    go Broken q = absurd (never (questions.no-question question (rw (form, q)) ∙ form))
+
+pub rows-counted : (question : List ℕ) → isQuestion question ≡ true → (rowsSay question ≡ rowsAsked question) × (rowsAsked question ≡ product (countsAsked question))
+unfolding rowsSay rowsOf countsOf
+rows-counted question form = (rw form, refl)
+
+pub rows-exactly : (question : List ℕ) → (rowsSay question ≡ 0) ↔ (isQuestion question ≡ false)
+unfolding rowsSay
+rows-exactly question = go (isQuestion question) refl
+  where
+    go : (b : Bool) → isQuestion question ≡ b → (cond b (rowsAsked question) 0 ≡ 0) ↔ (b ≡ false)
+    go true e = (λ z. absurd (let h = asked-some question e in omega arith), λ f. absurd (never (sym f)))
+    go false e = (λ z. refl, λ f. refl)
 
 -- ---- the pages
 

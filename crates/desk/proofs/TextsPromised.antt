@@ -1,13 +1,14 @@
 -- What the desk promises of rule texts: when a text is accepted, what it gets, and which refusal it gets otherwise. Assumes nothing.
-use mathlib.Core.Path.{_≡_, refl, ap₂, _∙_}
+use mathlib.Core.Path.{_≡_, refl, sym, ap, ap₂, _∙_}
 use mathlib.Core.Logic.{_↔_}
 use mathlib.Core.Bool.{Bool, true, false}
-use mathlib.Core.List.{List, [], _++_}
-use Prim.Native.Nat.{ℕ, _≤_, _<_}
+use mathlib.Core.List.{List, [], _++_, append-nil}
+use Prim.Native.Nat.{ℕ, _≤_, _<_, zero-le}
 use native.Mathlib.Omega.{arith}
 use borrow.Author.Tests.{ltb-true, ltb-false, le-ltb}
 use lib.Dec.{ltb}
-use lib.ListN.{length, drop}
+use lib.ListN.{length, take, drop}
+use lib.Seq.{take-at}
 use Rattle.reading.specs.Lexemes.{choose, tokensOf}
 use Rattle.reading.specs.Reader.{took}
 use Rattle.grammar.specs.Policies.{Policy}
@@ -16,7 +17,7 @@ use Rattle.grammar.specs.Promise as grammar
 use Rattle.grammar.specs.Promise.{Unambiguous}
 use Rattle.grammar.proofs.Exactly as grammar-proofs
 use Rattle.compiling.specs.Outcome.{mostBytes, roomFor, compiledBytes, said, compiledOf, saidOf, tableBy, tableAfter}
-use Rattle.compiling.specs.Promise.{AcceptedExactly, UnfitExactly, RefusedThere, RefusedExactly, NothingChanged, ZerosElsewhere, CompiledBegins}
+use Rattle.compiling.specs.Promise.{AcceptedExactly, UnfitExactly, RefusedThere, RefusedExactly, NothingChanged, ZerosElsewhere, CompiledBegins, BeginsExactly, EnoughRoom, NoPoliciesNoBytes}
 use Rattle.compiling.specs.declared.Compiled.{Compiled}
 use Rattle.compiling.specs.declared.Compiled.the-variants.{Policies, Refused}
 use Rattle.compiling.proofs.Promised as compiling-proofs
@@ -149,6 +150,32 @@ module _ (text table : List ℕ) where
   compiled-begins n =
       let b = accepted-says told n in
       compiling-proofs.compiled-begins text table _ _ (says-accepted (b .policies) (b .says) (roomy told n))
+
+  pub used-begins : compileSays text table .refusal ≡ 0 → beginsSays text (take (compileSays text table .bytes) (compileLeaves text table)) ≡ true
+  unfolding compileSays saidOf BeginsExactly
+  used-begins n =
+      let b = accepted-says told n in
+      let c = compiled (b .policies) n (b .says) in
+      let used = compiledBytes (b .policies) in
+      rw (c .1, c .2, take-at used (drop (length used) table) (length used) refl)
+      (compiling-proofs.begins-exactly text used .1
+      (record { short = b .says .short; value = b .policies; belongs = b .says .belongs; begins = record { rest = []; is = sym (append-nil used) } }))
+
+  pub enough-room : compileSays text table .bytes ≤ roomFor text
+  unfolding compileSays saidOf EnoughRoom
+  enough-room = go (compiledOf text (length table)) refl
+    where
+      go : (c : Compiled) → compiledOf text (length table) ≡ c → saidOf c .bytes ≤ roomFor text
+      go (Policies policies bytes) e = compiling-proofs.enough-room text (length table) policies bytes e
+      go (Refused number line column) e = zero-le
+
+  pub no-policies-no-bytes : compileSays text table .policies ≡ 0 → compileSays text table .bytes ≡ 0
+  unfolding compileSays saidOf NoPoliciesNoBytes
+  no-policies-no-bytes = go (compiledOf text (length table)) refl
+    where
+      go : (c : Compiled) → compiledOf text (length table) ≡ c → saidOf c .policies ≡ 0 → saidOf c .bytes ≡ 0
+      go (Policies policies bytes) e n = compiling-proofs.no-policies-no-bytes text (length table) bytes (e ∙ ap (λ (p : ℕ). Policies p bytes) n)
+      go (Refused number line column) e n = refl
 
   -- ---- the refusals by size, and the zeros
 

@@ -1,4 +1,4 @@
--- The desk's promises on one page: the three demands, when each refusal is given, and that every call has one result. proofs/Promised.antt proves each record. Definitions only.
+-- The desk's promises on one page: the three demands, what a look-up finds, when each refusal is given, and that every call has one result. proofs/Promised.antt proves each record. Definitions only.
 -- `compileSays`, `decideSays`, `lookupSays` and `sheetSays` are what the calls answer, `compileLeaves` and `sheetLeaves` what they leave in the table and the sheet (Answers.antt; src/lib.rt has the
 -- contracts). That every call ends and reads nothing outside what it is lent is what the prover shows of every function; no call has a `requires`, so this holds for arbitrary bytes.
 use mathlib.Core.Path.{_≡_}
@@ -8,20 +8,24 @@ use mathlib.Core.List.{List, [], _∷_, _++_, List·Memᴰ}
 use Prim.Native.Nat.{ℕ, _+_, _*_, _≤_, _<_}
 use lib.ListN.{length, getD, take, drop}
 use denote.Ref.{RefT, now}
-use Rattle.slices.specs.Parts.{IsPart}
+use Rattle.slices.specs.Parts.{IsPart, part}
+use Rattle.numbers.specs.Bits.{numberAt}
 use Rattle.reading.specs.Lexemes.{tokensOf}
 use Rattle.grammar.specs.Policies.{Policy}
 use Rattle.grammar.specs.Grammar.{RuleText, sizes}
 use Rattle.compiling.specs.Outcome.{mostBytes, roomFor, compiledBytes}
 use Rattle.compiling.specs.Promise.{RefusedThere, Begun}
 use Rattle.bags.specs.Sections.{isBag}
-use Rattle.questions.specs.Questions.{isQuestion}
+use Rattle.questions.specs.Questions.{isQuestion, product}
+use Rattle.views.specs.Meaning as views
+use Rattle.views.specs.Meaning.{View, Datum}
+use Rattle.views.specs.Values.{stringAt, listAt}
 use Rattle.meaning.specs.Targets.{Request, isSystem}
 use Rattle.meaning.specs.Decisions.{Some, Lowest, Names, outcomeOf, policyOf}
 use Rattle.deciding.specs.Answers.{viewOf}
 use Rattle.deciding.specs.Promise as deciding
 use Rattle.lookups.specs.Lookups.{lookupOf, startOf, lengthOf}
-use Rattle.lookups.specs.Values.{nought}
+use Rattle.lookups.specs.Values.{nought, unit}
 use Rattle.pages.specs.Rows.{Combination, rowOf, choicesAt}
 use Rattle.pages.specs.Listing.{rowSize, roomIn, bytesOf}
 use Rattle.sheets.specs.Sheets.{decisions, rowsAsked}
@@ -70,18 +74,19 @@ pub data Yes : DeskDecision → Type 0 where
   allowed : {d : DeskDecision} → d .outcome ≡ 1 → Yes d
   system : {d : DeskDecision} → d .outcome ≡ 4 → Yes d
 
-pub record Granted (text bag : List ℕ) (q : Request) : Type 0 where
+-- over these attributes some permit is satisfied and no forbid is
+pub record Granted (text : List ℕ) (view : View) (q : Request) : Type 0 where
   pub policies : List Policy
   pub says : Says text policies
-  pub permit : Some text (viewOf bag) q policies true
-  pub no-forbid : Some text (viewOf bag) q policies false → ⊥
+  pub permit : Some text view q policies true
+  pub no-forbid : Some text view q policies false → ⊥
 
 -- outcome and policy: 1 where a permit decides, 2 where a forbid does, 3 where nothing is satisfied, 4 for the system; the policy number is 0 for 3 and 4
-pub data OutcomeIs (text bag : List ℕ) (q : Request) (ps : List Policy) : ℕ → ℕ → Type 0 where
-  by-permit : {n : ℕ} → isSystem (q .subject) ≡ false → (Some text (viewOf bag) q ps false → ⊥) → Lowest text (viewOf bag) q ps true n → OutcomeIs text bag q ps 1 n
-  by-forbid : {n : ℕ} → isSystem (q .subject) ≡ false → Lowest text (viewOf bag) q ps false n → OutcomeIs text bag q ps 2 n
-  by-none : isSystem (q .subject) ≡ false → (Some text (viewOf bag) q ps false → ⊥) → (Some text (viewOf bag) q ps true → ⊥) → OutcomeIs text bag q ps 3 0
-  by-system : isSystem (q .subject) ≡ true → OutcomeIs text bag q ps 4 0
+pub data OutcomeIs (text : List ℕ) (view : View) (q : Request) (ps : List Policy) : ℕ → ℕ → Type 0 where
+  by-permit : {n : ℕ} → isSystem (q .subject) ≡ false → (Some text view q ps false → ⊥) → Lowest text view q ps true n → OutcomeIs text view q ps 1 n
+  by-forbid : {n : ℕ} → isSystem (q .subject) ≡ false → Lowest text view q ps false n → OutcomeIs text view q ps 2 n
+  by-none : isSystem (q .subject) ≡ false → (Some text view q ps false → ⊥) → (Some text view q ps true → ⊥) → OutcomeIs text view q ps 3 0
+  by-system : isSystem (q .subject) ≡ true → OutcomeIs text view q ps 4 0
 
 pub record DemandTwo : Type 0 where
   pub accepted-exactly : (text table : List ℕ) → roomFor text ≤ length table → (compileSays text table .refusal ≡ 0) ↔ Belongs text
@@ -92,16 +97,21 @@ pub record DemandTwo : Type 0 where
       × (compileLeaves text table ≡ compiledBytes ps ++ drop (length (compiledBytes ps)) table)
   -- a table into which a text was compiled begins right
   pub compiled-begins : (text table : List ℕ) → compileSays text table .refusal ≡ 0 → beginsSays text (compileLeaves text table) ≡ true
+  -- and so do the bytes used, alone
+  pub used-begins : (text table : List ℕ) → compileSays text table .refusal ≡ 0 → beginsSays text (take (compileSays text table .bytes) (compileLeaves text table)) ≡ true
+  -- 8 bytes of table for each byte of text are enough, and no policies use no bytes
+  pub enough-room : (text table : List ℕ) → compileSays text table .bytes ≤ roomFor text
+  pub no-policies-no-bytes : (text table : List ℕ) → compileSays text table .policies ≡ 0 → compileSays text table .bytes ≡ 0
   -- a text says one list of policies
   pub one-reading : (text : List ℕ) (ps qs : List Policy) → Says text ps → Says text qs → ps ≡ qs
   pub yes-exactly : (text table bag : List ℕ) (q : Request) → decideSays text table bag q .refusal ≡ 0
-      → Yes (decideSays text table bag q) ↔ ((isSystem (q .subject) ≡ true) ⊎ Granted text bag q)
+      → Yes (decideSays text table bag q) ↔ ((isSystem (q .subject) ≡ true) ⊎ Granted text (viewOf bag) q)
   -- For any subject but the system the answer names the lowest-numbered satisfied forbid, else the lowest-numbered satisfied permit, else none; for the system it names none.
   pub named-rightly : (text table bag : List ℕ) (q : Request) (ps : List Policy) → decideSays text table bag q .refusal ≡ 0 → Says text ps
       → Names text (viewOf bag) q ps (decideSays text table bag q .policy)
   -- with its outcome
   pub outcome-rightly : (text table bag : List ℕ) (q : Request) (ps : List Policy) → decideSays text table bag q .refusal ≡ 0 → Says text ps
-      → OutcomeIs text bag q ps (decideSays text table bag q .outcome) (decideSays text table bag q .policy)
+      → OutcomeIs text (viewOf bag) q ps (decideSays text table bag q .outcome) (decideSays text table bag q .policy)
   pub system-names-none : (text table bag : List ℕ) (q : Request) → isSystem (q .subject) ≡ true → decideSays text table bag q ≡ record { refusal = 0; outcome = 4; policy = 0 }
 
 -- ---- Demand 3. The sheet lists every combination that demand 2 answers with yes, and no other, each exactly once, first column slowest, with its deciding rule. Asked for page by page from
@@ -128,11 +138,18 @@ abbrev pub Shows : List ℕ → List ℕ → ℕ → Type 0
 Shows bag question row = (root : ℕ) (path : List ℕ) → viewOf bag root path ≡ viewOfRow question row root path
 
 pub record DemandThree : Type 0 where
+  -- a row is decided by the policies over its attributes, however many they are, and is listed exactly if it gets yes over them
+  pub row-decided : (text question : List ℕ) (q : Request) (ps : List Policy) (row : ℕ) → Says text ps
+      → OutcomeIs text (viewOfRow question row) q ps (outcomeOf (decisions text question q row)) (policyOf (decisions text question q row))
+  pub row-listed : (text question : List ℕ) (q : Request) (ps : List Policy) (row : ℕ) → Says text ps
+      → List·Memᴰ row (listedFrom text question q 0) ↔ ((row < rowsAsked question) × ((isSystem (q .subject) ≡ true) ⊎ Granted text (viewOfRow question row) q))
   -- a row is decided as demand 2 decides over a bag that has its attributes, and is listed exactly if demand 2 answers that with yes
   pub decided-alike : (text table question : List ℕ) (q : Request) (row : ℕ) (bag : List ℕ) → isQuestion question ≡ true → decideSays text table bag q .refusal ≡ 0 → Shows bag question row
       → (decideSays text table bag q .outcome ≡ outcomeOf (decisions text question q row)) × (decideSays text table bag q .policy ≡ policyOf (decisions text question q row))
   pub listed-alike : (text table question : List ℕ) (q : Request) (row : ℕ) (bag : List ℕ) → isQuestion question ≡ true → decideSays text table bag q .refusal ≡ 0 → Shows bag question row
       → row < rowsAsked question → List·Memᴰ row (listedFrom text question q 0) ↔ Yes (decideSays text table bag q)
+  -- a question has as many rows as its columns' candidates have combinations
+  pub rows-counted : (question : List ℕ) → isQuestion question ≡ true → (rowsSay question ≡ rowsAsked question) × (rowsAsked question ≡ product (countsAsked question))
   -- the system's rows are all outcome 4
   pub system-rows : (text question : List ℕ) (q : Request) (row : ℕ) → isSystem (q .subject) ≡ true
       → (outcomeOf (decisions text question q row) ≡ 4) × (policyOf (decisions text question q row) ≡ 0)
@@ -167,6 +184,34 @@ pub record DemandThree : Type 0 where
       × (drop (at + rowSize * sheetSays text table question q start sheet at .written) (sheetLeaves text table question q start sheet at)
       ≡ drop (at + rowSize * sheetSays text table question q start sheet at .written) sheet)
 
+-- ---- Look-ups. What is found in a bag is the attribute that deciding sees.
+
+-- the kind, number and place that stand for an attribute: a flag counts 0 or 1, a string and a list 0, and an absent one has zeros
+pub data Means (bag : List ℕ) (found : DeskValue) : Datum → Type 0 where
+  a-string : found .kind ≡ 1 → found .number ≡ nought → Means bag found (views.text (stringAt bag (found .place)))
+  a-number : found .kind ≡ 2 → found .number ≡ numberAt bag (found .place) → Means bag found (views.number (found .number))
+  flag-off : found .kind ≡ 3 → found .number ≡ nought → Means bag found (views.flag false)
+  flag-on : found .kind ≡ 3 → found .number ≡ unit → Means bag found (views.flag true)
+  a-list : found .kind ≡ 4 → found .number ≡ nought → Means bag found (views.texts (listAt bag (found .place)))
+  none-found : found .kind ≡ 0 → found .number ≡ nought → found .place ≡ 0 → Means bag found views.absent
+
+-- what the contract of `string_part` allows: a string's bytes as a part of the caller's bag
+abbrev pub StringAllows : RefT (List ℕ) → ℕ → List ℕ → RefT (List ℕ) → Type 0
+StringAllows bag root path r = IsPart bag r (startOf (lookupOf (now bag) root path)) (lengthOf (now bag) (lookupOf (now bag) root path))
+
+pub record LookUps : Type 0 where
+  pub looked-rightly : (bag : List ℕ) (root : ℕ) (path : List ℕ) → isBag bag ≡ true → Means bag (lookupSays bag root path) (viewOf bag root path)
+  -- a string's bytes are the part of the bag that is told
+  pub string-rightly : (bag : List ℕ) (root : ℕ) (path : List ℕ) → lookupSays bag root path .kind ≡ 1
+      → (viewOf bag root path ≡ views.text (part bag (stringSays bag root path .start) (stringSays bag root path .length)))
+      × (stringSays bag root path .start + stringSays bag root path .length ≤ length bag)
+  -- `string_part` gives that part itself
+  pub part-rightly : (bag : RefT (List ℕ)) (root : ℕ) (path : List ℕ) (r : RefT (List ℕ)) → StringAllows bag root path r
+      → IsPart bag r (stringSays (now bag) root path .start) (stringSays (now bag) root path .length)
+  -- any other kind has the empty part, and so has what is no bag, which has kind 0
+  pub string-empty : (bag : List ℕ) (root : ℕ) (path : List ℕ) → (lookupSays bag root path .kind ≡ 1 → ⊥) → stringSays bag root path ≡ record { start = 0; length = 0 }
+  pub string-none : (bag : List ℕ) (root : ℕ) (path : List ℕ) → isBag bag ≡ false → stringSays bag root path ≡ record { start = 0; length = 0 }
+
 -- ---- Refusals. Each is given exactly when document 01 says, in its order, with zeros beside its number.
 
 pub record Refusals : Type 0 where
@@ -179,13 +224,14 @@ pub record Refusals : Type 0 where
   pub lookup-exactly : (bag : List ℕ) (root : ℕ) (path : List ℕ) → (lookupSays bag root path .refusal ≡ 24) ↔ (isBag bag ≡ false)
   pub sheet-exactly : (text table question : List ℕ) (q : Request) (start : ℕ) (sheet : List ℕ) (at number : ℕ)
       → (sheetSays text table question q start sheet at .refusal ≡ number) ↔ sheets.Refusal text table question q start sheet at number
+  -- the number of rows is 0 exactly where the bytes are no question
+  pub rows-exactly : (question : List ℕ) → (rowsSay question ≡ 0) ↔ (isQuestion question ≡ false)
   -- a table begins right exactly when the text belongs to the grammar and the table begins with its compiled bytes
   pub begins-exactly : (text table : List ℕ) → (beginsSays text table ≡ true) ↔ Begun text table
   pub compile-zeros : (text table : List ℕ) → (compileSays text table .refusal ≡ 0 → ⊥) → (compileSays text table .policies ≡ 0) × (compileSays text table .bytes ≡ 0)
   pub decide-zeros : (text table bag : List ℕ) (q : Request) → (decideSays text table bag q .refusal ≡ 0 → ⊥)
       → (decideSays text table bag q .outcome ≡ 0) × (decideSays text table bag q .policy ≡ 0)
   pub lookup-zeros : (bag : List ℕ) (root : ℕ) (path : List ℕ) → (lookupSays bag root path .refusal ≡ 0 → ⊥) → lookupSays bag root path ≡ record { refusal = 24; kind = 0; number = nought; place = 0 }
-  pub string-empty : (bag : List ℕ) (root : ℕ) (path : List ℕ) → isBag bag ≡ false → lengthOf bag (lookupOf bag root path) ≡ 0
   pub sheet-zeros : (text table question : List ℕ) (q : Request) (start : ℕ) (sheet : List ℕ) (at : ℕ) → (sheetSays text table question q start sheet at .refusal ≡ 0 → ⊥)
       → (sheetSays text table question q start sheet at .written ≡ 0) × (sheetSays text table question q start sheet at .next ≡ 0)
 
@@ -198,10 +244,6 @@ pub record CompileAllows (text before after : List ℕ) (r : DeskCompiled) : Typ
 pub record SheetAllows (text table question : List ℕ) (q : Request) (start : ℕ) (before : List ℕ) (at : ℕ) (after : List ℕ) (r : DeskPage) : Type 0 where
   pub answered : r ≡ sheetSays text table question q start before at
   pub sheet : after ≡ sheetLeaves text table question q start before at
-
--- a string's bytes as a part of the caller's bag
-abbrev pub StringAllows : RefT (List ℕ) → ℕ → List ℕ → RefT (List ℕ) → Type 0
-StringAllows bag root path r = IsPart bag r (startOf (lookupOf (now bag) root path)) (lengthOf (now bag) (lookupOf (now bag) root path))
 
 pub record OneResult : Type 0 where
   pub of-compile : (text before after after′ : List ℕ) (r r′ : DeskCompiled) → CompileAllows text before after r → CompileAllows text before after′ r′ → (r ≡ r′) × (after ≡ after′)
