@@ -8,7 +8,9 @@ use Rattle.questions.specs.Questions.{isQuestion}
 use Rattle.meaning.specs.Targets.{Request}
 use Rattle.pages.specs.Listing.{listed, pageRows, nextRow}
 use Rattle.pages.specs.declared.Page.{Page}
-use Rattle.sheets.specs.Sheets.{decisions, rowsAsked, requestRefusal}
+use Rattle.sheets.specs.Sheets.{decisions, rowsAsked, requestRefusal, unless}
+use Rattle.sheets.specs.declared.Answer.{Answer}
+use Rattle.sheets.specs.declared.Answer.the-variants.{Listed, Refused}
 
 -- the sheet's refusal number, and 0 where it gets none: the program has room for a row, and starts with row 0
 unfoldable pub refusalFor : List ℕ → List ℕ → List ℕ → Request → ℕ
@@ -31,3 +33,7 @@ pub record PagePrinted (text s : List ℕ) (q : Request) (rows start : ℕ) (pag
 -- how many rows are printed in all
 abbrev pub allListed : List ℕ → List ℕ → Request → ℕ → ℕ
 allListed text s q rows = length (listed (decisions text s q) rows 0)
+
+-- what is printed of a sheet: its refusal's number, or how many rows are listed and how many there are
+unfoldable pub printedFor : List ℕ → List ℕ → List ℕ → Request → Answer
+printedFor text table s q = unless (refusalFor text table s q) (Listed (allListed text s q (rowsAsked s)) (rowsAsked s)) Refused

@@ -4,7 +4,8 @@ ghost use Prim.Native.Nat.{_+_, _*_, _≤_, _<_};
 ghost use lib.ListN.{length};
 ghost use Rattle.io.specs.Counts.{Counts};
 ghost use Rattle.targets.specs.Matching.{request};
-ghost use Rattle.sheet.specs.Printed.{refusalFor, Accepted, PagePrinted, allListed};
+ghost use Rattle.sheet.specs.Lines.{requestIn, EndsAt, GoesOnAt};
+ghost use Rattle.sheet.specs.Printed.{refusalFor, Accepted, PagePrinted, allListed, printedFor};
 use compiling::Compiled;
 use compiling::compile;
 use libc::STDOUT_FILENO;
@@ -29,7 +30,7 @@ fn read_file(name: &[u8], buf: &mut [u8]) -> usize
 // Where the line that starts at `at` ends: at its line feed, or where the bytes end.
 fn line_end(s: &[u8], at: usize) -> usize
     requires { ⌜ at ≤ length (now s) ⌝ }
-    ensures { λ r. ⌜ (at ≤ r) × (r ≤ length (now (s .entry))) ⌝ }
+    ensures { λ r. ⌜ EndsAt (now (s .entry)) at r ⌝ }
 {
     let mut i = at;
     while i < s.len() {
@@ -44,7 +45,7 @@ fn line_end(s: &[u8], at: usize) -> usize
 // Where the next line starts: past the line feed, if there is one.
 fn line_after(s: &[u8], end: usize) -> usize
     requires { ⌜ end ≤ length (now s) ⌝ }
-    ensures { λ r. ⌜ (end ≤ r) × (r ≤ length (now (s .entry))) ⌝ }
+    ensures { λ r. ⌜ GoesOnAt (now (s .entry)) end r ⌝ }
 {
     if end < s.len() { end + 1 } else { end }
 }
@@ -194,6 +195,7 @@ fn refusal<'a>(
     }
 }
 
+// Prints the sheet, and gives what it printed: the refusal's number, or how many rows were listed and how many there are.
 fn print_sheet<'a>(
     text: &'a [u8],
     table: &[u8],
@@ -201,11 +203,13 @@ fn print_sheet<'a>(
     subject: &[u8],
     action: &'a [u8],
     resource: &[u8],
-) {
+) -> Answer
+    ensures { λ r. ⌜ r ≡ printedFor (now (text .entry)) (now (table .entry)) (now (question .entry)) (request (now (subject .entry)) (now (action .entry)) (now (resource .entry))) ⌝ }
+{
     let number = refusal(text, table, question, subject, action, resource);
     if 0 < number {
         print_refusal(number, 0, 0);
-        return;
+        return Answer::Refused(number);
     }
     let rows = row_count(question);
     io::write_all(STDOUT_FILENO, b"rows ");
@@ -213,23 +217,31 @@ fn print_sheet<'a>(
     let listed = print_pages(text, table, question, subject, action, resource, rows);
     io::write_all(STDOUT_FILENO, b"allowed ");
     print_number(listed, b"\n");
+    Answer::Listed(listed, rows)
 }
 
 // The sheet of a request that has its three lines: subject, action, resource.
-fn print_request<'a>(text: &'a [u8], table: &[u8], question: &'a [u8], request: &'a [u8]) {
-    let subject = line_end(request, 0);
-    let second = line_after(request, subject);
-    let action = line_end(request, second);
-    let third = line_after(request, action);
-    let resource = line_end(request, third);
+fn print_request<'a>(
+    text: &'a [u8],
+    table: &[u8],
+    question: &'a [u8],
+    lines: &'a [u8],
+) -> Answer
+    ensures { λ r. ⌜ r ≡ printedFor (now (text .entry)) (now (table .entry)) (now (question .entry)) (requestIn (now (lines .entry))) ⌝ }
+{
+    let subject = line_end(lines, 0);
+    let second = line_after(lines, subject);
+    let action = line_end(lines, second);
+    let third = line_after(lines, action);
+    let resource = line_end(lines, third);
     print_sheet(
         text,
         table,
         question,
-        &request[..subject],
-        &request[second..action],
-        &request[third..resource],
-    );
+        &lines[..subject],
+        &lines[second..action],
+        &lines[third..resource],
+    )
 }
 
 // A file is read with room for one byte more than its limit, so that what is too long is refused and not cut; of a request three lines of 101 bytes are enough.
@@ -243,11 +255,8 @@ fn main() {
     let r = read_file(b"request.txt", &mut request);
     match compile(&text[..n], &mut table) {
         Compiled::Refused(number, line, column) => print_refusal(number, line, column),
-        Compiled::Policies(_, _) => print_request(
-            &text[..n],
-            &table,
-            &question[..q],
-            &request[..r],
-        ),
+        Compiled::Policies(_, _) => {
+            print_request(&text[..n], &table, &question[..q], &request[..r]);
+        }
     }
 }
