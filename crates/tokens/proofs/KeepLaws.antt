@@ -11,7 +11,7 @@ use borrow.Author.Tests.{lt-leb, leb-false}
 use Rattle.tokens.specs.Bytes.{classOf, letter, digit, mark}
 use Rattle.tokens.specs.Runs.{is, run, runEnd}
 use Rattle.tokens.specs.Words.{wordKind}
-use Rattle.tokens.specs.Tokens.{token, sized, wordTo, wordAt, stringTo, stringAt, fraction, numberTo, numberAt, markFrom, markAt, tokenBy, tokenFrom, tokenAt}
+use Rattle.tokens.specs.Tokens.{sized, wordTo, wordAt, stringTo, stringAt, fraction, numberTo, numberAt, markFrom, markAt, tokenBy, tokenFrom, tokenAt}
 use Rattle.tokens.proofs.ReadLaws.{either, mark-spans}
 use Rattle.tokens.specs.declared.classes.Sort.{Sort}
 use Rattle.tokens.specs.declared.classes.Sort.the-variants.{Blanks, WordBytes, Digits, StringBytes}
@@ -34,14 +34,9 @@ agree : (P : Token → Type 0) (test test′ : Bool) (a b a′ b′ : Token) →
 agree P true test′ a b a′ b′ e f g p = rw e (f p)
 agree P false test′ a b a′ b′ e f g p = rw e (g p)
 
--- what all cases of a choice have
-all : (P : Token → Type 0) (test : Bool) (a b : Token) → P a → P b → P (cond test a b)
-all P true a b f g = f
-all P false a b f g = g
-
 sized-end : (kind most size start end : ℕ) → sized kind most size start end .end ≡ end
 unfolding sized
-sized-end kind most size start end = all (λ (t : Token). t .end ≡ end) (leb size most) _ _ refl refl
+sized-end kind most size start end = either (λ (t : Token). t .end ≡ end) (leb size most) _ _ (λ _. refl) (λ _. refl)
 
 module _ (text more : List ℕ) where
   Inside : Token → Type 0
@@ -71,8 +66,8 @@ module _ (text more : List ℕ) where
       let end = runEnd StringBytes text (start + 1) in
       let P : Token → Type 0 = λ (t : Token). t .end + 1 < length text → end < length text in
       let inside : end < length text =
-      all P (leb (length text) end) _ _ (λ i. omega arith)
-      (all P (eqb (getD text end 0) 34) _ _ (λ i. omega (arith, sized-end 34 127 (end - (start + 1)) start (end + 1))) (λ i. omega arith)) h in
+      either P (leb (length text) end) _ _ (λ _ i. omega arith)
+      (λ _. either P (eqb (getD text end 0) 34) _ _ (λ _ i. omega (arith, sized-end 34 127 (end - (start + 1)) start (end + 1))) (λ _ i. omega arith)) h in
       let tests : leb (length (text ++ more)) end ≡ leb (length text) end =
       lt-leb (length (text ++ more)) end (omega (arith, length-append text more)) ∙ sym (lt-leb (length text) end inside) in
       ap (stringTo (text ++ more) start) (run-end-kept StringBytes (start + 1) (omega arith) inside)
@@ -88,7 +83,7 @@ module _ (text more : List ℕ) where
       let long = sized-end 48 15 (end - first - 1) start end in
       let short = sized-end 48 15 (whole - first) start whole in
       let inside : whole + 1 < length text =
-      all (λ (t : Token). t .end + 1 < length text → whole + 1 < length text) (fraction text whole) _ _ (λ i. omega (arith, long)) (λ i. omega (arith, short)) h in
+      either (λ (t : Token). t .end + 1 < length text → whole + 1 < length text) (fraction text whole) _ _ (λ _ i. omega (arith, long)) (λ _ i. omega (arith, short)) h in
       let tests : fraction (text ++ more) whole ≡ fraction text whole = rw (byte-kept whole (omega arith), byte-kept (whole + 1) inside) in
       ap (numberTo (text ++ more) start first) (run-end-kept Digits first (omega arith) (omega arith))
       ∙ agree Inside (fraction text whole) (fraction (text ++ more) whole) _ _ _ _ tests

@@ -3,7 +3,7 @@ use mathlib.Core.Path.{_≡_, refl, sym, ap, _∙_}
 use mathlib.Core.Bool.{Bool, true, false, cond, _&&_}
 use mathlib.Core.List.{List, [], _∷_}
 use mathlib.Core.Logic.{_⊎_, inl, inr, ⊎-elim}
-use Prim.Native.Nat.{ℕ, suc, _+_, _≤_}
+use Prim.Native.Nat.{ℕ, suc, _+_, _≤_, _<_}
 use native.Mathlib.Omega.{arith}
 use lib.Dec.{leb, eqb}
 use lib.ListN.{length, getD}
@@ -32,9 +32,13 @@ kind-among (w ∷ more) first word = go (same word w) (kind-among more (suc firs
     go true h = inr (omega arith)
     go false h = ⊎-elim (λ (e : rest ≡ name). inl e) (λ (l : suc first ≤ rest). inr (omega arith)) h
 
-word-no-number : (word : List ℕ) → wordKind word ≡ number → ⊥
-word-no-number word e =
+-- a word's kind is above that of strings and that of numbers
+pub word-high : (word : List ℕ) → number < wordKind word
+word-high word =
     ⊎-elim (λ (n : wordKind word ≡ name). omega arith) (λ (l : 201 ≤ wordKind word). omega arith) (kind-among reserved 201 word)
+
+word-no-number : (word : List ℕ) → wordKind word ≡ number → ⊥
+word-no-number word e = omega (arith, word-high word)
 
 -- a number that was read from its first digit on, which stands at `start` or after a minus there
 pub record ReadAsNumber (text : List ℕ) (t : Token) : Type 0 where
