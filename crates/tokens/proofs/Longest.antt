@@ -87,7 +87,8 @@ string-stands (split {p} a (c ∷ q) n) =
 
 -- ---- numbers
 
-digits-append : (p q : List ℕ) → digits (p ++ q) ≡ digits p + digits q
+-- how many digits two lists have together, and digits alone
+pub digits-append : (p q : List ℕ) → digits (p ++ q) ≡ digits p + digits q
 unfolding digits
 digits-append [] q = sym (zero-add (digits q))
 digits-append (b ∷ p) q = go (is Digits b) (digits-append p q)
@@ -97,7 +98,7 @@ digits-append (b ∷ p) q = go (is Digits b) (digits-append p q)
     go true e = omega arith
     go false e = e
 
-digits-all : {p : List ℕ} → All Digits p → digits p ≡ length p
+pub digits-all : {p : List ℕ} → All Digits p → digits p ≡ length p
 unfolding digits
 digits-all empty = refl
 digits-all (next e a) = rw e (ap suc (digits-all a))
