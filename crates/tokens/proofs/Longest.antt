@@ -18,7 +18,7 @@ use Rattle.tokens.specs.Tokens.{token, badByte, sized, wordAt, stringAt,
 use Rattle.tokens.specs.Forms.{All, empty, next, SomeDigits, digits-from, Unsigned, whole, pointed, plain, minus, marks, Among, Form, a-word, a-string, a-number, a-mark, digits, sizeOf, mostOf, NoForm, Longest, Stands, end-of-text, a-token, too-long, a-colon, bad-byte, unended, bad-inside, StandsAt}
 use Rattle.tokens.specs.declared.classes.Sort.the-variants.{Blanks, Digits, Letters, WordBytes, StringBytes}
 use Rattle.tokens.specs.declared.reader.Token.{Token}
-use Rattle.tokens.proofs.TokenLaws.{never, and-left, and-right, every, one-passes, markBytes, tested}
+use Rattle.tokens.proofs.TokenLaws.{never, and-left, and-right, every, one-passes, markBytes, told-by-class}
 use Rattle.tokens.proofs.ReadLaws.{either}
 use Rattle.tokens.proofs.KindLaws.{word-high}
 use Rattle.tokens.proofs.ShiftLaws.{further, from-further}
@@ -181,7 +181,7 @@ digits-stand g (split (next d a) q n) e = number-stands g (digits-from d a) q n
 
 -- a test that each byte of the class of the marks passes, which `refl` shows
 byte-passes : (test : ℕ → Bool) → every test markBytes ≡ true → (b : ℕ) → eqb (classOf b) mark ≡ true → test b ≡ true
-byte-passes test v b e = one-passes test markBytes b v (tested b .1 e)
+byte-passes test v b e = one-passes test markBytes b v (told-by-class b .1 e)
 
 -- two bytes that are a mark
 pair-stands : {kind : ℕ} (b c : ℕ) (l : List ℕ) → Among marks kind (b ∷ c ∷ []) → reach (b ∷ l) ≡ 2 → getD l 0 0 ≡ c → c ≢ 0 → Stands 0 (b ∷ l) (token kind 0 2)

@@ -70,15 +70,15 @@ abbrev pub markBytes : List ℕ
 markBytes = bytes "(){}[],;.!&|=<>\"-_"
 
 -- a digit is one of the bytes `0` to `9`, and a byte of the class of the marks is one of those
-pub tested : (b : ℕ) → (eqb (classOf b) digit ≡ true → within 48 57 b ≡ true) × (eqb (classOf b) mark ≡ true → oneOf markBytes b ≡ true)
+pub told-by-class : (b : ℕ) → (eqb (classOf b) digit ≡ true → within 48 57 b ≡ true) × (eqb (classOf b) mark ≡ true → oneOf markBytes b ≡ true)
 unfolding classOf
-tested b =
+told-by-class b =
     let t = class-tells (within 65 90 b || within 97 122 b) (within 48 57 b) (oneOf (bytes " \t\n\r") b) (oneOf markBytes b) (ltb b 0x20 || eqb b 0x7f) (classOf b) refl in
     (λ e. t .0 (eqb-true (classOf b) digit e), λ e. t .1 (eqb-true (classOf b) mark e))
 
 pub digit-byte : (b : ℕ) → is Digits b ≡ true → (48 ≤ b) × (b ≤ 57)
 digit-byte b e =
-    let h = tested b .0 e in
+    let h = told-by-class b .0 e in
     (leb-true 48 b (and-left (leb 48 b) (leb b 57) h), leb-true b 57 (and-right (leb 48 b) (leb b 57) h))
 
 -- a mark before `=` leaves room for 128
