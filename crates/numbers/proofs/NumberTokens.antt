@@ -1,27 +1,24 @@
 -- The bytes of a number token are a number literal: they have the form that document 01 gives numbers, and that is a literal's. Assumes nothing.
-use mathlib.Core.Path.{_≡_, refl, sym, ap, _∙_}
+use mathlib.Core.Path.{_≡_, refl}
 use mathlib.Core.Bool.{Bool, true, false, not}
 use mathlib.Core.List.{List, [], _∷_, _++_, append-nil}
-use Prim.Native.Nat.{ℕ, _+_, _-_, _≤_, _<_}
+use Prim.Native.Nat.{ℕ, _-_, _≤_, _<_}
 use native.Mathlib.Omega.{arith}
 use borrow.Author.Tests.{eqb-false, not-true}
 use lib.Dec.{eqb}
 use lib.ListN.{length, take, drop}
-use lib.Seq.{drop-drop, drop-append-seam, take-append-seam}
 use Rattle.tokens.specs.Bytes.{classOf}
 use Rattle.tokens.specs.Kinds.{number}
 use Rattle.tokens.specs.Tokens.{tokenAt}
-use Rattle.tokens.specs.Forms.{All, empty, next, SomeDigits, digits-from, Unsigned, whole, pointed as with-point, Number, plain, minus as with-minus, marks, Form, a-word, a-string, a-number, a-mark, digits, Stands, end-of-text, a-token, too-long, a-colon, bad-byte, unended, bad-inside}
+use Rattle.tokens.specs.Forms.{All, empty, next, SomeDigits, digits-from, Unsigned, whole, pointed as with-point, Number, plain, minus as with-minus, marks, Form, a-word, a-string, a-number, a-mark, digits}
 use Rattle.tokens.specs.declared.classes.Sort.the-variants.{Digits as digitBytes}
-use Rattle.tokens.specs.declared.reader.Token.{Token}
 use Rattle.tokens.proofs.TokenLaws.{every, digit-byte}
 use Rattle.tokens.proofs.KindLaws.{word-high}
 use Rattle.tokens.proofs.FormLaws.{some-all, mark-passes}
-use Rattle.tokens.proofs.Longest.{digits-append, digits-all, longest-token}
+use Rattle.tokens.proofs.Longest.{digits-append, digits-all}
+use Rattle.tokens.proofs.Told.{token-told}
 use Rattle.numbers.specs.Literals.{Digits, none, more, minus, pointed, IsNumber}
 use Rattle.numbers.proofs.Spelled.{spells}
-
--- ---- the form
 
 all-digits : {l : List ℕ} → All digitBytes l → Digits l
 all-digits empty = none
@@ -62,25 +59,7 @@ by-kind (a-string a) k = absurd (omega arith)
 by-kind (a-number n) k = n
 by-kind (a-mark {kind} m) k = absurd (eqb-false kind number (not-true _ (mark-passes (λ kind l. not (eqb kind number)) m refl)) k)
 
--- ---- the token
-
-number-stands : {start : ℕ} {l : List ℕ} {t : Token} → Stands start l t → t .kind ≡ number → (t .start ≡ start) × IsNumber (take (t .end - t .start) l)
-number-stands {start} (a-token {kind} {p} f few) k =
-    let size : start + length p - start ≡ length p = omega arith in
-    (refl, rw (size, f .begins .parts, take-append-seam p (f .begins .more)) (form-number (by-kind (f .form) k) (rw k at few)))
-number-stands end-of-text k = absurd (omega arith)
-number-stands (too-long f h) k = absurd (omega arith)
-number-stands (a-colon f) k = absurd (omega arith)
-number-stands (bad-byte f c q) k = absurd (omega arith)
-number-stands (unended f a) k = absurd (omega arith)
-number-stands (bad-inside l f a o) k = absurd (omega arith)
-
 -- the bytes of every number token are a number literal
 pub token-is-number : (text : List ℕ) (at : ℕ) → at ≤ length text → tokenAt text at .kind ≡ number
     → IsNumber (take (tokenAt text at .end - tokenAt text at .start) (drop (tokenAt text at .start) text))
-token-is-number text at h k =
-    let s = longest-token text at h in
-    let n = number-stands (s .stands) k in
-    let behind : drop (at + length (s .blanks)) text ≡ s .rest =
-    sym (drop-drop (length (s .blanks)) at text) ∙ (ap (drop (length (s .blanks))) (s .parts) ∙ drop-append-seam (s .blanks) (s .rest)) in
-    rw (n .0, behind) (rw (n .0) at (n .1))
+token-is-number text at h k = let t = token-told text at h (omega arith) in form-number (by-kind (t .form) k) (rw k at (t .few))
