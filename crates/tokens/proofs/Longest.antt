@@ -22,7 +22,7 @@ use Rattle.tokens.proofs.TokenLaws.{never, and-left, and-right, every, 
 use Rattle.tokens.proofs.ReadLaws.{either}
 use Rattle.tokens.proofs.KindLaws.{word-high}
 use Rattle.tokens.proofs.ShiftLaws.{further, from-further}
-use Rattle.tokens.proofs.FormLaws.{run-is, Split, split, split-run, at-seam, hasFraction, fractionReach, digitsReach, stringReach, markReach, reach, some-all, some-first, reach-digits, listed, listed-among, mark-small, no-form, longest, one-longest}
+use Rattle.tokens.proofs.FormLaws.{run-is, Split, split, split-run, at-seam, hasFraction, fractionReach, digitsReach, stringReach, markReach, reach, some-all, some-first, reach-digits, isAmong, is-among, mark-small, no-form, longest, one-longest}
 
 -- ---- a form and its size
 
@@ -190,16 +190,16 @@ pair-stands b c (x ∷ l) m r e n = rw e (a-token (longest (a-mark m) l (rw e at
 
 module _ (b : ℕ) (class : eqb (classOf b) mark ≡ true) where
   doubled-listed : doubled b ≡ true → Among marks b (b ∷ b ∷ [])
-  unfolding every listed marks same
+  unfolding every isAmong marks same
   doubled-listed d =
-      let passed = byte-passes (λ (b : ℕ). not (doubled b) || listed marks b (b ∷ b ∷ [])) refl b class in
-      listed-among marks b (b ∷ b ∷ []) (rw d at passed)
+      let passed = byte-passes (λ (b : ℕ). not (doubled b) || isAmong marks b (b ∷ b ∷ [])) refl b class in
+      is-among marks b (b ∷ b ∷ []) (rw d at passed)
 
   equals-listed : beforeEquals b ≡ true → Among marks (b + 128) (b ∷ 61 ∷ [])
-  unfolding every listed marks same
+  unfolding every isAmong marks same
   equals-listed d =
-      let passed = byte-passes (λ (b : ℕ). not (beforeEquals b) || listed marks (b + 128) (b ∷ 61 ∷ [])) refl b class in
-      listed-among marks (b + 128) (b ∷ 61 ∷ []) (rw d at passed)
+      let passed = byte-passes (λ (b : ℕ). not (beforeEquals b) || isAmong marks (b + 128) (b ∷ 61 ∷ [])) refl b class in
+      is-among marks (b + 128) (b ∷ 61 ∷ []) (rw d at passed)
 
   no-colon : b ≢ 58
   unfolding classOf
@@ -207,10 +207,10 @@ module _ (b : ℕ) (class : eqb (classOf b) mark ≡ true) where
 
   module _ (no-quote : eqb b 34 ≡ false) (no-minus : eqb b 45 ≡ false) where
     single-listed : doubled b ≡ false → eqb b 95 ≡ false → Among marks b (b ∷ [])
-    unfolding every listed marks same
+    unfolding every isAmong marks same
     single-listed d u =
-        let passed = byte-passes (λ (b : ℕ). eqb b 34 || (eqb b 45 || (doubled b || (eqb b 95 || listed marks b (b ∷ []))))) refl b class in
-        listed-among marks b (b ∷ []) (rw (no-quote, no-minus, d, u) at passed)
+        let passed = byte-passes (λ (b : ℕ). eqb b 34 || (eqb b 45 || (doubled b || (eqb b 95 || isAmong marks b (b ∷ []))))) refl b class in
+        is-among marks b (b ∷ []) (rw (no-quote, no-minus, d, u) at passed)
 
     mark-far : (l : List ℕ) → reach (b ∷ l) ≡ markReach b (getD l 0 0)
     unfolding reach
