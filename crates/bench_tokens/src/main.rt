@@ -8,6 +8,7 @@ use tokens::kinds;
 use tokens::reader::Token;
 use tokens::reader::next_token;
 
+// The sum with a token.
 fn plus(sum: u64, t: Token) -> u64 {
     let s = wrapping_add_u64(sum, t.kind as u64);
     let s = wrapping_add_u64(s, t.start as u64);
@@ -40,6 +41,7 @@ fn with_all(classes: &[u8; 256], text: &[u8], before: u64) -> u64
     }
 }
 
+// The sum after so many passes over the text.
 fn repeat(times: u32, classes: &[u8; 256], text: &[u8]) -> u64
     requires { ⌜ now classes ≡ classTable ⌝ }
 {

@@ -43,6 +43,7 @@ fn is_literal(classes: &[u8; 256], bytes: &[u8]) -> bool
     (t.kind == kinds::NUMBER) & (t.start == 0) & (t.end == bytes.len())
 }
 
+// Writes the line of a literal and eight bytes.
 fn answer(classes: &[u8; 256], literal: &[u8], bytes: &[u8; 8])
     requires { ⌜ now classes ≡ classTable ⌝ }
 {

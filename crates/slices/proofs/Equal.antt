@@ -2,12 +2,12 @@
 use mathlib.Core.Path.{_≡_, refl, ap}
 use mathlib.Core.Bool.{Bool, true, false, _&&_}
 use mathlib.Core.List.{List, [], _∷_}
-use Prim.Native.Nat.{ℕ, suc}
+use Prim.Native.Nat.{ℕ}
 use native.Mathlib.Omega.{arith}
 use lib.Dec.{eqb}
 use lib.ListN.{length}
 use borrow.Author.Tests.{eqb-true, eqb-false}
-use Rattle.slices.specs.Decides.{Decides, yes-to, no-to, refuted, one-answer, carried}
+use Rattle.slices.specs.Decides.{Decides, yes-to, no-to, refuted, one-answer}
 use Rattle.slices.specs.Same.{same}
 
 -- equal heads and tails, exactly where the whole lists are equal

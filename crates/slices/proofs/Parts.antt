@@ -19,7 +19,7 @@ pub part-is : (s r : RefT (List ℕ)) (a e start n : ℕ) → start ≡ a → n 
 unfolding part
 part-is s r a e start n p q b o = record { bytes = simp (p, q) b; block = ap (λ (x : ℕ × ℕ). x .0) o; offset = rw p (ap (λ (x : ℕ × ℕ). x .1) o) }
 
--- what is lent by `&mut s[a..]`
+-- what is lent by `&s[a..]` and `&mut s[a..]`
 pub tail-lent : (a : ℕ) (xs : List ℕ) → take (length xs - a) (drop a xs) ≡ drop a xs
 tail-lent a xs = take-all (length xs - a) (drop a xs) (omega (arith, length-drop a xs))
 

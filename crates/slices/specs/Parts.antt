@@ -9,7 +9,7 @@ use denote.Ref.{RefT, now}
 unfoldable pub part : List ℕ → ℕ → ℕ → List ℕ
 part s at n = take n (drop at s)
 
--- r is the n bytes of the slice s from a on: the bytes, and where they lie
+-- r is the n bytes of the slice s from a on: the same bytes, in the same block of memory, a further on than s
 pub record IsPart (s r : RefT (List ℕ)) (a n : ℕ) : Type 0 where
   pub bytes : now r ≡ part (now s) a n
   pub block : r .ptr .0 ≡ s .ptr .0

@@ -131,19 +131,19 @@ unfolding every
 mark-passes test first v = and-left _ _ v
 mark-passes test (later {m} m′) v = mark-passes test m′ (and-right (test (m .1) (bytes (m .0))) _ v)
 
--- whether a mark is listed
-unfoldable pub listed : List (String × ℕ) → ℕ → List ℕ → Bool
-listed [] kind l = false
-listed (m ∷ ms) kind l = (eqb kind (m .1) && same l (bytes (m .0))) || listed ms kind l
+-- `Among` as a test that computes
+unfoldable pub isAmong : List (String × ℕ) → ℕ → List ℕ → Bool
+isAmong [] kind l = false
+isAmong (m ∷ ms) kind l = (eqb kind (m .1) && same l (bytes (m .0))) || isAmong ms kind l
 
-pub listed-among : (ms : List (String × ℕ)) (kind : ℕ) (l : List ℕ) → listed ms kind l ≡ true → Among ms kind l
-unfolding listed
-listed-among [] kind l e = absurd (never e)
-listed-among (m ∷ ms) kind l e =
+pub is-among : (ms : List (String × ℕ)) (kind : ℕ) (l : List ℕ) → isAmong ms kind l ≡ true → Among ms kind l
+unfolding isAmong
+is-among [] kind l e = absurd (never e)
+is-among (m ∷ ms) kind l e =
     ⊎-elim
     (λ (h : (eqb kind (m .1) && same l (bytes (m .0))) ≡ true).
     rw (eqb-true kind (m .1) (and-left _ _ h), same-decides l (bytes (m .0)) .sound (and-right (eqb kind (m .1)) _ h)) first)
-    (λ (h : listed ms kind l ≡ true). later (listed-among ms kind l h))
+    (λ (h : isAmong ms kind l ≡ true). later (is-among ms kind l h))
     (or-cases _ _ e)
 
 -- the kind of bytes that have a form

@@ -11,7 +11,7 @@ use borrow.Author.Tests.{lt-leb, leb-false}
 use Rattle.tokens.specs.Bytes.{classOf, letter, digit, mark}
 use Rattle.tokens.specs.Runs.{is, run, runEnd}
 use Rattle.tokens.specs.Words.{wordKind}
-use Rattle.tokens.specs.Tokens.{token, sized, wordTo, wordAt, stringTo, stringAt, fraction, numberTo, numberAt, markFrom, markAt, tokenBy, tokenFrom, tokenAt}
+use Rattle.tokens.specs.Tokens.{sized, wordTo, wordAt, stringTo, stringAt, fraction, numberTo, numberAt, markFrom, markAt, tokenBy, tokenFrom, tokenAt}
 use Rattle.tokens.proofs.ReadLaws.{either, mark-spans}
 use Rattle.tokens.specs.declared.classes.Sort.{Sort}
 use Rattle.tokens.specs.declared.classes.Sort.the-variants.{Blanks, WordBytes, Digits, StringBytes}
@@ -29,19 +29,14 @@ run-kept sort (b ∷ rest) more h = go (is sort b) (run-kept sort rest more) h
     go false f h′ = refl
 
 -- two choices by one test agree where their cases do
-agree : (P : Token → Type 0) (test test′ : Bool) (a b a′ b′ : Token) → test′ ≡ test → (P a → a′ ≡ a) → (P b → b′ ≡ b) → P (cond test a b)
+same-choice : (P : Token → Type 0) (test test′ : Bool) (a b a′ b′ : Token) → test′ ≡ test → (P a → a′ ≡ a) → (P b → b′ ≡ b) → P (cond test a b)
     → cond test′ a′ b′ ≡ cond test a b
-agree P true test′ a b a′ b′ e f g p = rw e (f p)
-agree P false test′ a b a′ b′ e f g p = rw e (g p)
-
--- what all cases of a choice have
-all : (P : Token → Type 0) (test : Bool) (a b : Token) → P a → P b → P (cond test a b)
-all P true a b f g = f
-all P false a b f g = g
+same-choice P true test′ a b a′ b′ e f g p = rw e (f p)
+same-choice P false test′ a b a′ b′ e f g p = rw e (g p)
 
 sized-end : (kind most size start end : ℕ) → sized kind most size start end .end ≡ end
 unfolding sized
-sized-end kind most size start end = all (λ (t : Token). t .end ≡ end) (leb size most) _ _ refl refl
+sized-end kind most size start end = either (λ (t : Token). t .end ≡ end) (leb size most) _ _ (λ _. refl) (λ _. refl)
 
 module _ (text more : List ℕ) where
   Inside : Token → Type 0
@@ -71,13 +66,13 @@ module _ (text more : List ℕ) where
       let end = runEnd StringBytes text (start + 1) in
       let P : Token → Type 0 = λ (t : Token). t .end + 1 < length text → end < length text in
       let inside : end < length text =
-      all P (leb (length text) end) _ _ (λ i. omega arith)
-      (all P (eqb (getD text end 0) 34) _ _ (λ i. omega (arith, sized-end 34 127 (end - (start + 1)) start (end + 1))) (λ i. omega arith)) h in
+      either P (leb (length text) end) _ _ (λ _ i. omega arith)
+      (λ _. either P (eqb (getD text end 0) 34) _ _ (λ _ i. omega (arith, sized-end 34 127 (end - (start + 1)) start (end + 1))) (λ _ i. omega arith)) h in
       let tests : leb (length (text ++ more)) end ≡ leb (length text) end =
       lt-leb (length (text ++ more)) end (omega (arith, length-append text more)) ∙ sym (lt-leb (length text) end inside) in
       ap (stringTo (text ++ more) start) (run-end-kept StringBytes (start + 1) (omega arith) inside)
-      ∙ agree Inside (leb (length text) end) (leb (length (text ++ more)) end) _ _ _ _ tests (λ _. refl)
-      (agree Inside (eqb (getD text end 0) 34) (eqb (getD (text ++ more) end 0) 34) _ _ _ _ (ap (λ (b : ℕ). eqb b 34) (byte-kept end inside)) (λ _. refl) (λ _. refl))
+      ∙ same-choice Inside (leb (length text) end) (leb (length (text ++ more)) end) _ _ _ _ tests (λ _. refl)
+      (same-choice Inside (eqb (getD text end 0) 34) (eqb (getD (text ++ more) end 0) 34) _ _ _ _ (ap (λ (b : ℕ). eqb b 34) (byte-kept end inside)) (λ _. refl) (λ _. refl))
       h
 
   number-kept : (start first : ℕ) → first < length text → Inside (numberAt text start first) → numberAt (text ++ more) start first ≡ numberAt text start first
@@ -88,10 +83,10 @@ module _ (text more : List ℕ) where
       let long = sized-end 48 15 (end - first - 1) start end in
       let short = sized-end 48 15 (whole - first) start whole in
       let inside : whole + 1 < length text =
-      all (λ (t : Token). t .end + 1 < length text → whole + 1 < length text) (fraction text whole) _ _ (λ i. omega (arith, long)) (λ i. omega (arith, short)) h in
+      either (λ (t : Token). t .end + 1 < length text → whole + 1 < length text) (fraction text whole) _ _ (λ _ i. omega (arith, long)) (λ _ i. omega (arith, short)) h in
       let tests : fraction (text ++ more) whole ≡ fraction text whole = rw (byte-kept whole (omega arith), byte-kept (whole + 1) inside) in
       ap (numberTo (text ++ more) start first) (run-end-kept Digits first (omega arith) (omega arith))
-      ∙ agree Inside (fraction text whole) (fraction (text ++ more) whole) _ _ _ _ tests
+      ∙ same-choice Inside (fraction text whole) (fraction (text ++ more) whole) _ _ _ _ tests
       (λ i. ap (λ (e : ℕ). sized 48 15 (e - first - 1) start e) (run-end-kept Digits (whole + 1) (omega arith) (omega (arith, long, i))))
       (λ _. refl) h
 
@@ -102,9 +97,9 @@ module _ (text more : List ℕ) where
       let next = getD text (start + 1) 0 in
       ap (λ (b : ℕ). markFrom (text ++ more) start b (getD (text ++ more) (start + 1) 0)) (byte-kept start (omega arith))
       ∙ (ap (markFrom (text ++ more) start first) (byte-kept (start + 1) l)
-      ∙ agree Inside (eqb first 34) (eqb first 34) _ _ _ _ refl (string-kept start (omega arith))
-      (agree Inside (eqb first 45) (eqb first 45) _ _ _ _ refl
-      (agree Inside (is Digits next) (is Digits next) _ _ _ _ refl (number-kept start (start + 1) l) (λ _. refl))
+      ∙ same-choice Inside (eqb first 34) (eqb first 34) _ _ _ _ refl (string-kept start (omega arith))
+      (same-choice Inside (eqb first 45) (eqb first 45) _ _ _ _ refl
+      (same-choice Inside (is Digits next) (is Digits next) _ _ _ _ refl (number-kept start (start + 1) l) (λ _. refl))
       (λ _. refl))
       h)
 
@@ -112,9 +107,9 @@ module _ (text more : List ℕ) where
       → tokenBy (text ++ more) start (getD text start 0) class ≡ tokenBy text start (getD text start 0) class
   unfolding Inside
   by-kept start l class h =
-      agree Inside (eqb class letter) (eqb class letter) _ _ _ _ refl (word-kept start l)
-      (agree Inside (eqb class digit) (eqb class digit) _ _ _ _ refl (number-kept start start l)
-      (agree Inside (eqb class mark) (eqb class mark) _ _ _ _ refl marked (λ _. refl)))
+      same-choice Inside (eqb class letter) (eqb class letter) _ _ _ _ refl (word-kept start l)
+      (same-choice Inside (eqb class digit) (eqb class digit) _ _ _ _ refl (number-kept start start l)
+      (same-choice Inside (eqb class mark) (eqb class mark) _ _ _ _ refl marked (λ _. refl)))
       h
     where
       marked : Inside (markAt text start) → markAt (text ++ more) start ≡ markAt text start
@@ -131,6 +126,6 @@ module _ (text more : List ℕ) where
       let tests : leb (length (text ++ more)) start ≡ leb (length text) start =
       lt-leb (length (text ++ more)) start (omega (arith, length-append text more)) ∙ sym (lt-leb (length text) start inside) in
       ap (tokenFrom (text ++ more)) (run-end-kept Blanks at l inside)
-      ∙ agree Inside (leb (length text) start) (leb (length (text ++ more)) start) _ _ _ _ tests (λ _. refl)
+      ∙ same-choice Inside (leb (length text) start) (leb (length (text ++ more)) start) _ _ _ _ tests (λ _. refl)
       (λ i. ap (λ (b : ℕ). tokenBy (text ++ more) start b (classOf b)) (byte-kept start inside) ∙ by-kept start inside (classOf first) i)
       h

@@ -12,3 +12,4 @@ pub mod Examples
 pub mod ShiftLaws
 pub mod KeepLaws
 pub mod Longest
+pub mod Told

@@ -6,23 +6,23 @@ use mathlib.Core.Logic.{_⊎_, inl, inr, _≢_}
 use Prim.Native.Nat.{ℕ, suc, _+_, _-_, _≤_, _<_}
 use native.Mathlib.Nat.{add-assoc, add-zero, zero-add}
 use native.Mathlib.Omega.{arith}
-use lib.Dec.{leb, ltb, eqb}
+use lib.Dec.{leb, eqb}
 use lib.ListN.{length, getD, take, drop, length-append, take-append-drop}
 use lib.Seq.{take-append-seam, drop-append-seam, drop-append-add, getD-append-add, length-take-le}
 use borrow.Author.Tests.{eqb-true, eqb-false, leb-true, leb-false, le-leb, lt-leb, ne-eqb}
-use Rattle.slices.specs.Ascii.{bytes}
 use Rattle.slices.specs.Same.{same}
-use Rattle.tokens.specs.Bytes.{within, oneOf, classOf, letter, digit, mark}
+use Rattle.tokens.specs.Bytes.{classOf, letter, digit, mark}
 use Rattle.tokens.specs.Runs.{is, run, runEnd}
-use Rattle.tokens.specs.Words.{wordKind, reserved, kindAmong}
+use Rattle.tokens.specs.Words.{wordKind}
 use Rattle.tokens.specs.Tokens.{token, badByte, sized, wordAt, stringAt, numberAt, doubled, beforeEquals, markOf, markAt, tokenFrom, tokenAt}
 use Rattle.tokens.specs.Forms.{All, empty, next, SomeDigits, digits-from, Unsigned, whole, pointed, plain, minus, marks, Among, Form, a-word, a-string, a-number, a-mark, digits, sizeOf, mostOf, NoForm, Longest, Stands, end-of-text, a-token, too-long, a-colon, bad-byte, unended, bad-inside, StandsAt}
 use Rattle.tokens.specs.declared.classes.Sort.the-variants.{Blanks, Digits, Letters, WordBytes, StringBytes}
 use Rattle.tokens.specs.declared.reader.Token.{Token}
-use Rattle.tokens.proofs.TokenLaws.{never, and-left, and-right, every, one-passes}
+use Rattle.tokens.proofs.TokenLaws.{never, and-left, and-right, every, one-passes, markBytes, told-by-class}
 use Rattle.tokens.proofs.ReadLaws.{either}
+use Rattle.tokens.proofs.KindLaws.{word-high}
 use Rattle.tokens.proofs.ShiftLaws.{further, from-further}
-use Rattle.tokens.proofs.FormLaws.{run-is, Split, split, split-run, at-seam, hasFraction, fractionReach, digitsReach, stringReach, markReach, reach, some-all, some-first, reach-digits, listed, listed-among, mark-small, no-form, longest, one-longest}
+use Rattle.tokens.proofs.FormLaws.{run-is, Split, split, split-run, at-seam, hasFraction, fractionReach, digitsReach, stringReach, markReach, reach, some-all, some-first, reach-digits, isAmong, is-among, mark-small, no-form, longest, one-longest}
 
 -- ---- a form and its size
 
@@ -36,22 +36,12 @@ sized-stands {kind} {p} f q r most size end m s e =
 
 -- ---- words
 
--- a word's kind is neither that of strings nor that of numbers
-word-kind : (words : List (List ℕ)) (n : ℕ) (word : List ℕ) → 100 < n → 100 < kindAmong words n word
-unfolding kindAmong
-word-kind [] n word h = omega arith
-word-kind (w ∷ words) n word h = go (same word w) (word-kind words (suc n) word (omega arith))
-  where
-    go : (t : Bool) → 100 < kindAmong words (suc n) word → 100 < cond t n (kindAmong words (suc n) word)
-    go true i = h
-    go false i = i
-
 word-stands : (b : ℕ) {l : List ℕ} → is Letters b ≡ true → Split WordBytes l → Stands 0 (b ∷ l) (wordAt (b ∷ l) 0)
 unfolding wordAt reach
 word-stands b e (split {p} a q n) =
     let r : run WordBytes (b ∷ (p ++ q)) ≡ suc (length p) = run-is (next {b = b} (rw e) a) q n in
     let z : 0 + suc (length p) - 0 ≡ suc (length p) = omega arith in
-    let above = word-kind reserved 201 (b ∷ p) (omega arith) in
+    let above = word-high (b ∷ p) in
     let no-string : eqb (wordKind (b ∷ p)) 34 ≡ false = ne-eqb (wordKind (b ∷ p)) 34 (omega arith) in
     let no-number : eqb (wordKind (b ∷ p)) 48 ≡ false = ne-eqb (wordKind (b ∷ p)) 48 (omega arith) in
     rw (r, z, take-append-seam p q)
@@ -97,7 +87,8 @@ string-stands (split {p} a (c ∷ q) n) =
 
 -- ---- numbers
 
-digits-append : (p q : List ℕ) → digits (p ++ q) ≡ digits p + digits q
+-- how many digits two lists have together, and digits alone
+pub digits-append : (p q : List ℕ) → digits (p ++ q) ≡ digits p + digits q
 unfolding digits
 digits-append [] q = sym (zero-add (digits q))
 digits-append (b ∷ p) q = go (is Digits b) (digits-append p q)
@@ -107,7 +98,7 @@ digits-append (b ∷ p) q = go (is Digits b) (digits-append p q)
     go true e = omega arith
     go false e = e
 
-digits-all : {p : List ℕ} → All Digits p → digits p ≡ length p
+pub digits-all : {p : List ℕ} → All Digits p → digits p ≡ length p
 unfolding digits
 digits-all empty = refl
 digits-all (next e a) = rw e (ap suc (digits-all a))
@@ -188,26 +179,9 @@ digits-stand g (split (next d a) q n) e = number-stands g (digits-from d a) q n
 
 -- ---- marks
 
--- the test that gives a byte the class of the marks
-by-class : (a b c d e : Bool) → cond {A = ℕ} a 5 (cond b 4 (cond c 2 (cond d 3 (cond e 0 1)))) ≡ 3 → d ≡ true
-by-class true b c d e h = absurd (omega arith)
-by-class false true c d e h = absurd (omega arith)
-by-class false false true d e h = absurd (omega arith)
-by-class false false false true e h = refl
-by-class false false false false true h = absurd (omega arith)
-by-class false false false false false h = absurd (omega arith)
-
--- the bytes of that class
-abbrev markBytes : List ℕ
-markBytes = bytes "(){}[],;.!&|=<>\"-_"
-
 -- a test that each byte of the class of the marks passes, which `refl` shows
 byte-passes : (test : ℕ → Bool) → every test markBytes ≡ true → (b : ℕ) → eqb (classOf b) mark ≡ true → test b ≡ true
-unfolding classOf
-byte-passes test v b e =
-    one-passes test markBytes b v
-    (by-class (within 65 90 b || within 97 122 b) (within 48 57 b) (oneOf (bytes " \t\n\r") b) (oneOf markBytes b) (ltb b 0x20 || eqb b 0x7f)
-    (eqb-true (classOf b) mark e))
+byte-passes test v b e = one-passes test markBytes b v (told-by-class b .1 e)
 
 -- two bytes that are a mark
 pair-stands : {kind : ℕ} (b c : ℕ) (l : List ℕ) → Among marks kind (b ∷ c ∷ []) → reach (b ∷ l) ≡ 2 → getD l 0 0 ≡ c → c ≢ 0 → Stands 0 (b ∷ l) (token kind 0 2)
@@ -216,16 +190,16 @@ pair-stands b c (x ∷ l) m r e n = rw e (a-token (longest (a-mark m) l (rw e at
 
 module _ (b : ℕ) (class : eqb (classOf b) mark ≡ true) where
   doubled-listed : doubled b ≡ true → Among marks b (b ∷ b ∷ [])
-  unfolding every listed marks same
+  unfolding every isAmong marks same
   doubled-listed d =
-      let passed = byte-passes (λ (b : ℕ). not (doubled b) || listed marks b (b ∷ b ∷ [])) refl b class in
-      listed-among marks b (b ∷ b ∷ []) (rw d at passed)
+      let passed = byte-passes (λ (b : ℕ). not (doubled b) || isAmong marks b (b ∷ b ∷ [])) refl b class in
+      is-among marks b (b ∷ b ∷ []) (rw d at passed)
 
   equals-listed : beforeEquals b ≡ true → Among marks (b + 128) (b ∷ 61 ∷ [])
-  unfolding every listed marks same
+  unfolding every isAmong marks same
   equals-listed d =
-      let passed = byte-passes (λ (b : ℕ). not (beforeEquals b) || listed marks (b + 128) (b ∷ 61 ∷ [])) refl b class in
-      listed-among marks (b + 128) (b ∷ 61 ∷ []) (rw d at passed)
+      let passed = byte-passes (λ (b : ℕ). not (beforeEquals b) || isAmong marks (b + 128) (b ∷ 61 ∷ [])) refl b class in
+      is-among marks (b + 128) (b ∷ 61 ∷ []) (rw d at passed)
 
   no-colon : b ≢ 58
   unfolding classOf
@@ -233,10 +207,10 @@ module _ (b : ℕ) (class : eqb (classOf b) mark ≡ true) where
 
   module _ (no-quote : eqb b 34 ≡ false) (no-minus : eqb b 45 ≡ false) where
     single-listed : doubled b ≡ false → eqb b 95 ≡ false → Among marks b (b ∷ [])
-    unfolding every listed marks same
+    unfolding every isAmong marks same
     single-listed d u =
-        let passed = byte-passes (λ (b : ℕ). eqb b 34 || (eqb b 45 || (doubled b || (eqb b 95 || listed marks b (b ∷ []))))) refl b class in
-        listed-among marks b (b ∷ []) (rw (no-quote, no-minus, d, u) at passed)
+        let passed = byte-passes (λ (b : ℕ). eqb b 34 || (eqb b 45 || (doubled b || (eqb b 95 || isAmong marks b (b ∷ []))))) refl b class in
+        is-among marks b (b ∷ []) (rw (no-quote, no-minus, d, u) at passed)
 
     mark-far : (l : List ℕ) → reach (b ∷ l) ≡ markReach b (getD l 0 0)
     unfolding reach

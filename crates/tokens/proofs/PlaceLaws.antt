@@ -13,5 +13,5 @@ unfolding pastAll
 past-last [] b p = refl
 past-last (x ∷ xs) b p = past-last xs b (past x p)
 
-pub further : (text : List ℕ) (i : ℕ) → i < length text → placeOf text (i + 1) ≡ past (getD text i 0) (placeOf text i)
-further text i h = rw (add-one, take-suc text i 0 h) (past-last _ _ _)
+pub next-place : (text : List ℕ) (i : ℕ) → i < length text → placeOf text (i + 1) ≡ past (getD text i 0) (placeOf text i)
+next-place text i h = rw (add-one, take-suc text i 0 h) (past-last _ _ _)

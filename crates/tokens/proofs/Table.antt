@@ -1,12 +1,11 @@
--- A table that lists a rule's values at 0, 1, 2, .. has the rule's value at each entry; and a test that passes at each number below a bound holds there.
+-- A table that lists a rule's values at 0, 1, 2, .. has the rule's value at each entry.
 -- A proof that cites `entry` for a constant array has antt compute the rule at every entry and compare it with the array's: one test over the whole table.
 -- Assumes nothing.
 use mathlib.Core.Path.{_≡_, _∙_, sym, ap}
-use mathlib.Core.Bool.{Bool, true}
 use mathlib.Core.List.{List}
 use Prim.Native.Nat.{ℕ, zero, suc, _+_, _<_}
 use native.Mathlib.Nat.{add-zero, zero-add, add-suc, suc-add, le-of-suc-le-suc, not-suc-le-zero}
-use lib.ListN.{getD, replicate, getD-replicate}
+use lib.ListN.{getD}
 use Rattle.tokens.specs.Table.{listed}
 
 module _ {A : Type 0} (rule : ℕ → A) where
@@ -21,7 +20,3 @@ module _ {A : Type 0} (rule : ℕ → A) where
 -- two rules that list the same values below `count`, which `refl` shows where antt can compute them, agree there
 pub agree : {A : Type 0} (f g : ℕ → A) (count k : ℕ) → listed f 0 count ≡ listed g 0 count → k < count → f k ≡ g k
 agree f g count k e h = sym (entry f (f 0) count k h) ∙ (ap (λ (l : List _). getD l k (f 0)) e ∙ entry g (f 0) count k h)
-
--- a test that passes at each number below `count`, which `refl` shows where antt can compute it
-pub holds : (test : ℕ → Bool) (count k : ℕ) → listed test 0 count ≡ replicate count true → k < count → test k ≡ true
-holds test count k e h = sym (entry test true count k h) ∙ (ap (λ (l : List Bool). getD l k true) e ∙ getD-replicate count k true true h)

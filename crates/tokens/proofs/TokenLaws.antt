@@ -1,6 +1,6 @@
--- Laws of tokens. Assumes nothing.
+-- Laws of tests, of the classes of bytes, and of places inside a text, on which the laws of tokens rest. Assumes nothing.
 use mathlib.Core.Path.{_≡_, refl}
-use mathlib.Core.Bool.{Bool, true, false, cond, _&&_, _||_}
+use mathlib.Core.Bool.{Bool, true, false, cond, _&&_, _||_, false≢true, and-eq-true-iff}
 use mathlib.Core.List.{List, [], _∷_}
 use mathlib.Core.Logic.{_⊎_, inl, inr, ⊎-elim}
 use Prim.Native.Nat.{ℕ, zero, suc, _≤_, _<_, zero-le, suc-le-suc}
@@ -9,21 +9,19 @@ use lib.Dec.{eqb, leb, ltb}
 use lib.ListN.{length, getD}
 use borrow.Author.Tests.{eqb-true, leb-true}
 use Rattle.slices.specs.Ascii.{bytes}
-use Rattle.tokens.specs.Bytes.{within, oneOf, classOf, digit}
+use Rattle.tokens.specs.Bytes.{within, oneOf, classOf, textOnly, blank, mark, digit, letter}
 use Rattle.tokens.specs.Runs.{is}
 use Rattle.tokens.specs.Tokens.{fraction, beforeEquals}
 use Rattle.tokens.specs.declared.classes.Sort.the-variants.{Digits}
 
-pub and-left : (a b : Bool) → (a && b) ≡ true → a ≡ true
-and-left true b e = refl
-and-left false b e = e
-
 pub never : false ≡ true → ⊥
-never e = let z : _≡_ {A = ℕ} 0 1 = cc in omega arith
+never e = false≢true e
+
+pub and-left : (a b : Bool) → (a && b) ≡ true → a ≡ true
+and-left a b e = and-eq-true-iff a b .0 e .0
 
 pub and-right : (a b : Bool) → (a && b) ≡ true → b ≡ true
-and-right true b e = e
-and-right false b e = absurd (never e)
+and-right a b e = and-eq-true-iff a b .0 e .1
 
 pub or-cases : (a b : Bool) → (a || b) ≡ true → (a ≡ true) ⊎ (b ≡ true)
 or-cases true b e = inl refl
@@ -57,21 +55,31 @@ pub digit-inside : (text : List ℕ) (i : ℕ) → is Digits (getD text i 0) ≡
 unfolding classOf
 digit-inside text i e = inside (is Digits) text i never e
 
--- a digit is one of the bytes `0` to `9`
-pub digit-byte : (b : ℕ) → is Digits b ≡ true → (48 ≤ b) × (b ≤ 57)
+-- of the tests of `classOf` in turn, a digit passed the second and a byte of the class of the marks the fourth
+class-tells : (l d w m n : Bool) (class : ℕ) → cond l letter (cond d digit (cond w blank (cond m mark (cond n 0 textOnly)))) ≡ class
+    → (class ≡ digit → d ≡ true) × (class ≡ mark → m ≡ true)
+class-tells true d w m n class e = ((λ f. absurd (omega arith)), (λ f. absurd (omega arith)))
+class-tells false true w m n class e = ((λ f. refl), (λ f. absurd (omega arith)))
+class-tells false false true m n class e = ((λ f. absurd (omega arith)), (λ f. absurd (omega arith)))
+class-tells false false false true n class e = ((λ f. absurd (omega arith)), (λ f. refl))
+class-tells false false false false true class e = ((λ f. absurd (omega arith)), (λ f. absurd (omega arith)))
+class-tells false false false false false class e = ((λ f. absurd (omega arith)), (λ f. absurd (omega arith)))
+
+-- the bytes of the class of the marks
+abbrev pub markBytes : List ℕ
+markBytes = bytes "(){}[],;.!&|=<>\"-_"
+
+-- a digit is one of the bytes `0` to `9`, and a byte of the class of the marks is one of those
+pub told-by-class : (b : ℕ) → (eqb (classOf b) digit ≡ true → within 48 57 b ≡ true) × (eqb (classOf b) mark ≡ true → oneOf markBytes b ≡ true)
 unfolding classOf
+told-by-class b =
+    let t = class-tells (within 65 90 b || within 97 122 b) (within 48 57 b) (oneOf (bytes " \t\n\r") b) (oneOf markBytes b) (ltb b 0x20 || eqb b 0x7f) (classOf b) refl in
+    (λ e. t .0 (eqb-true (classOf b) digit e), λ e. t .1 (eqb-true (classOf b) mark e))
+
+pub digit-byte : (b : ℕ) → is Digits b ≡ true → (48 ≤ b) × (b ≤ 57)
 digit-byte b e =
-    let letters = within 65 90 b || within 97 122 b in
-    let h = go letters (within 48 57 b) (oneOf (bytes " \t\n\r") b) (oneOf (bytes "(){}[],;.!&|=<>\"-_") b) (ltb b 32 || eqb b 127) e in
+    let h = told-by-class b .0 e in
     (leb-true 48 b (and-left (leb 48 b) (leb b 57) h), leb-true b 57 (and-right (leb 48 b) (leb b 57) h))
-  where
-    go : (l d w m n : Bool) → eqb (cond l 5 (cond d digit (cond w 2 (cond m 3 (cond n 0 1))))) digit ≡ true → d ≡ true
-    go true d w m n e = absurd (never e)
-    go false true w m n e = refl
-    go false false true m n e = absurd (never e)
-    go false false false true n e = absurd (never e)
-    go false false false false true e = absurd (never e)
-    go false false false false false e = absurd (never e)
 
 -- a mark before `=` leaves room for 128
 pub small : (b : ℕ) → beforeEquals b ≡ true → b ≤ 62

@@ -6,14 +6,16 @@ use mathlib.Core.List.{List, [], _∷_}
 use lib.Dec.{leb, ltb, eqb}
 use Rattle.slices.specs.Ascii.{bytes}
 
+-- whether a byte is one of those from `low` to `high`
 abbrev pub within : ℕ → ℕ → ℕ → Bool
 within low high b = leb low b && leb b high
 
+-- whether a byte is one of some
 abbrev pub oneOf : List ℕ → ℕ → Bool
 oneOf [] b = false
 oneOf (x ∷ xs) b = eqb b x || oneOf xs b
 
--- the classes
+-- the classes: never, text only, blank, mark, digit, letter
 abbrev pub never : ℕ
 never = 0
 

@@ -3,10 +3,11 @@
 use Prim.Native.Nat.{ℕ, _+_}
 use Prim.Native.Char.{code}
 
+-- the end of the text, where no token is left
 abbrev pub endOfText : ℕ
 endOfText = 0
 
--- the refusals of a token: a byte at which none starts or that may not stand in a string, a colon, a string without its end, a token too long
+-- the refusals of a token, by their numbers: a byte at which none starts or that may not stand in a string, a colon, a string without its end, a token too long
 abbrev pub badByte : ℕ
 badByte = 3
 
@@ -19,7 +20,7 @@ unended = 5
 abbrev pub tooLong : ℕ
 tooLong = 6
 
--- words that are not reserved, strings, numbers
+-- words that are not reserved, strings, numbers: each by a byte that begins no mark
 abbrev pub name : ℕ
 name = code "n"
 
@@ -29,7 +30,7 @@ string = code "\""
 abbrev pub number : ℕ
 number = code "0"
 
--- marks
+-- marks, each by its first byte; `and`, `or` and `equal` are `&&`, `||` and `==`
 abbrev pub leftRound : ℕ
 leftRound = code "("
 
@@ -75,6 +76,7 @@ more = code ">"
 abbrev pub less : ℕ
 less = code "<"
 
+-- `!=`, `>=` and `<=`, by 128 more
 abbrev pub notEqual : ℕ
 notEqual = code "!" + 128
 
@@ -84,7 +86,7 @@ atLeast = code ">" + 128
 abbrev pub atMost : ℕ
 atMost = code "<" + 128
 
--- reserved words
+-- reserved words, in document 01's order
 abbrev pub permitWord : ℕ
 permitWord = 201
 

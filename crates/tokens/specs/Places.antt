@@ -7,6 +7,7 @@ use lib.Dec.{eqb}
 use lib.ListN.{take}
 use Rattle.tokens.specs.declared.places.Place.{Place}
 
+-- a line and a column
 abbrev pub place : ℕ → ℕ → Place
 place line column = record { line = line; column = column }
 

@@ -11,10 +11,11 @@ use Rattle.tokens.specs.Bytes.{oneOf, classOf, blank, mark, digit, lette
 use Rattle.tokens.specs.declared.classes.Sort.{Sort}
 use Rattle.tokens.specs.declared.classes.Sort.the-variants.{Blanks, Marks, Digits, Letters, WordBytes, StringBytes, LoneMarks}
 
--- a byte that a word may go on with, and one that may stand in a string
+-- a byte that a word may go on with: a letter, a digit, `_` or `-`
 abbrev pub wordByte : ℕ → Bool
 wordByte b = eqb (classOf b) letter || eqb (classOf b) digit || eqb b (code "_") || eqb b (code "-")
 
+-- a byte that may stand in a string: 0x20 to 0x7E and 0x80 up, but no quote
 abbrev pub stringByte : ℕ → Bool
 stringByte b = leb 0x20 b && not (eqb b 0x7f) && not (eqb b (code "\""))
 
@@ -41,7 +42,7 @@ run sort (b ∷ rest) = cond (is sort b) (suc (run sort rest)) 0
 abbrev pub runEnd : Sort → List ℕ → ℕ → ℕ
 runEnd sort text at = at + run sort (drop at text)
 
--- what a caller may know of a run's end
+-- what a caller may know of a run's end: which place it is, and that this lies in the text, not before `at`
 pub record RunsTo (sort : Sort) (text : List ℕ) (at end : ℕ) : Type 0 where
   pub place : end ≡ runEnd sort text at
   pub low : at ≤ end

@@ -19,5 +19,6 @@ classBit class = getD (0 ∷ 1 ∷ 2 ∷ 4 ∷ 8 ∷ 16 ∷ []) class 0
 unfoldable pub entryOf : ℕ → ℕ
 entryOf b = classBit (classOf b) + cond (wordByte b) 32 0 + cond (stringByte b) 64 0 + cond (loneMark b) 128 0
 
+-- the entries of all 256 bytes
 unfoldable pub classTable : List ℕ
 classTable = listed entryOf 0 256

@@ -25,54 +25,61 @@ badByte at = token kinds.badByte at (at + 1)
 unfoldable pub sized : ℕ → ℕ → ℕ → ℕ → ℕ → Token
 sized kind most size start end = cond (leb size most) (token kind start end) (token kinds.tooLong start end)
 
--- a word: the longest run of word bytes
+-- the word from `start` up to `end`
 abbrev pub wordTo : List ℕ → ℕ → ℕ → Token
 wordTo text start end = sized (wordKind (take (end - start) (drop start text))) 64 (end - start) start end
 
+-- a word: the longest run of word bytes, at most 64
 unfoldable pub wordAt : List ℕ → ℕ → Token
 wordAt text start = wordTo text start (runEnd WordBytes text start)
 
--- a string: the longest run of string bytes after the quote, up to `end`, has a quote after it
+-- what starts with the quote at `start`, where the run of string bytes behind it goes up to `end`: a string, if a quote stands there
 abbrev pub stringTo : List ℕ → ℕ → ℕ → Token
 stringTo text start end =
     cond (leb (length text) end) (token kinds.unended start end)
     (cond (eqb (getD text end 0) (code "\"")) (sized kinds.string 127 (end - (start + 1)) start (end + 1)) (badByte end))
 
+-- a string: a quote, the longest run of string bytes, at most 127, and a quote
 unfoldable pub stringAt : List ℕ → ℕ → Token
 stringAt text start = stringTo text start (runEnd StringBytes text (start + 1))
 
--- a number: the longest run of digits from its first digit, up to `whole`, and a point with the run of digits after it
+-- whether a point and a digit stand at a place
 abbrev pub fraction : List ℕ → ℕ → Bool
 fraction text whole = eqb (getD text whole 0) (code ".") && is Digits (getD text (whole + 1) 0)
 
+-- the number whose digits before the point go from `first` up to `whole`
 abbrev pub numberTo : List ℕ → ℕ → ℕ → ℕ → Token
 numberTo text start first whole =
     cond (fraction text whole)
     (sized kinds.number 15 (runEnd Digits text (whole + 1) - first - 1) start (runEnd Digits text (whole + 1)))
     (sized kinds.number 15 (whole - first) start whole)
 
+-- a number: the longest run of digits from its first digit, which a point and the longest run of digits may follow; at most 15 digits in all
 unfoldable pub numberAt : List ℕ → ℕ → ℕ → Token
 numberAt text start first = numberTo text start first (runEnd Digits text first)
 
--- a mark, by its first byte and the next: `&&`, `||` and `==`; `!=`, `<=` and `>=`; else the one byte, but `_`, with which no token starts
+-- a byte that is a mark only twice in a row: `&&`, `||` and `==`
 abbrev pub doubled : ℕ → Bool
 doubled b = eqb b (code "&") || eqb b (code "|") || eqb b (code "=")
 
+-- a byte that is a longer mark with `=` behind it: `!=`, `<=` and `>=`
 abbrev pub beforeEquals : ℕ → Bool
 beforeEquals b = eqb b (code "!") || eqb b (code "<") || eqb b (code ">")
 
+-- a mark, by its first byte and the next; no token starts with `_`
 unfoldable pub markOf : ℕ → ℕ → ℕ → Token
 markOf start first next =
     cond (doubled first) (cond (eqb next first) (token first start (start + 2)) (badByte start))
     (cond (beforeEquals first && eqb next (code "=")) (token (first + 128) start (start + 2))
     (cond (eqb first (code "_")) (badByte start) (token first start (start + 1))))
 
--- what starts with a byte of the class of the marks: a string, a number below 0, or a mark
+-- what starts with a byte of the class of the marks, by that byte and the next: a string, a number with a minus, or a mark
 abbrev pub markFrom : List ℕ → ℕ → ℕ → ℕ → Token
 markFrom text start first next =
     cond (eqb first (code "\"")) (stringAt text start)
     (cond (eqb first (code "-")) (cond (is Digits next) (numberAt text start (start + 1)) (badByte start)) (markOf start first next))
 
+-- the same, by the text
 unfoldable pub markAt : List ℕ → ℕ → Token
 markAt text start = markFrom text start (getD text start 0) (getD text (start + 1) 0)
 
@@ -84,6 +91,7 @@ tokenBy text start first class =
     (cond (eqb class mark) (markAt text start)
     (cond (eqb first (code ":")) (token kinds.colon start (start + 1)) (badByte start))))
 
+-- what starts at a place where no blank is: the end of the text, or a token
 abbrev pub tokenFrom : List ℕ → ℕ → Token
 tokenFrom text start =
     cond (leb (length text) start) (token kinds.endOfText start start) (tokenBy text start (getD text start 0) (classOf (getD text start 0)))

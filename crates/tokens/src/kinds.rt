@@ -1,6 +1,7 @@
-// The kinds of tokens. A mark of one byte is its byte, as b'(' or b';'; a refused token has the refusal's number for its kind.
+// The kinds of tokens, as specs/Kinds.antt has them. A mark of one byte is its byte, as b'(' or b';'.
 pub const END_OF_TEXT: u8 = 0;
 
+// A refused token has its refusal's number.
 pub const BAD_BYTE: u8 = 3;
 
 pub const COLON: u8 = 4;
@@ -9,24 +10,28 @@ pub const UNENDED: u8 = 5;
 
 pub const TOO_LONG: u8 = 6;
 
+// A word that is not reserved, a string, a number.
 pub const NAME: u8 = b'n';
 
 pub const STRING: u8 = b'"';
 
 pub const NUMBER: u8 = b'0';
 
-// The marks of two bytes.
+// The marks of two bytes: `&&`, `||`, `==`, `!=`, `<=`, `>=`.
 pub const AND: u8 = b'&';
 
 pub const OR: u8 = b'|';
 
 pub const EQUAL: u8 = b'=';
 
-pub const NOT_EQUAL: u8 = b'!' + 128;
+pub const NOT_EQUAL: u8 = b'!' + WITH_EQUALS;
 
-pub const AT_MOST: u8 = b'<' + 128;
+pub const AT_MOST: u8 = b'<' + WITH_EQUALS;
 
-pub const AT_LEAST: u8 = b'>' + 128;
+pub const AT_LEAST: u8 = b'>' + WITH_EQUALS;
+
+// What an `=` adds to the mark before it.
+pub const WITH_EQUALS: u8 = 128;
 
 // The reserved words, in document 01's order.
 pub const PERMIT: u8 = 201;

@@ -4,7 +4,7 @@ ghost use Prim.Native.Nat.{_<_, _≤_, _+_, _^_};
 ghost use lib.ListN.{getD, length};
 ghost use Rattle.tokens.specs.Bytes.{classOf};
 ghost use Rattle.tokens.specs.Table.{classTable};
-ghost use Rattle.tokens.specs.Tokens.{sized, fraction, wordAt, stringAt, numberAt, markOf, markAt, tokenBy, tokenAt, Reads};
+ghost use Rattle.tokens.specs.Tokens.{token, sized, fraction, wordAt, stringAt, numberAt, markOf, markAt, tokenBy, tokenAt, Reads};
 use crate::classes::Sort;
 use crate::classes::is_of;
 use crate::kinds;
@@ -33,6 +33,18 @@ fn within(kind: u8, most: usize, size: usize, start: usize, end: usize) -> Token
     }
 }
 
+// The token, or the refusal, of the one byte at `start`.
+fn one_byte(kind: u8, start: usize) -> Token
+    requires { ⌜ start + 1 < 2 ^ 64 ⌝ }
+    ensures { λ r. ⌜ r ≡ token kind start (start + 1) ⌝ }
+{
+    Token {
+        kind,
+        start,
+        end: start + 1,
+    }
+}
+
 // The byte at a place, and 0 past the text's end.
 fn byte(text: &[u8], at: usize) -> u8
     ensures { λ r. ⌜ r ≡ getD (now (text .entry)) at 0 ⌝ }
@@ -40,6 +52,7 @@ fn byte(text: &[u8], at: usize) -> u8
     if at < text.len() { text[at] } else { 0 }
 }
 
+// The word that starts with the letter at `start`: at most 64 bytes.
 fn word(classes: &[u8; 256], text: &[u8], start: usize) -> Token
     requires { ⌜ (now classes ≡ classTable) × (start < length (now text)) ⌝ }
     ensures { λ r. ⌜ r ≡ wordAt (now (text .entry)) start ⌝ }
@@ -48,6 +61,7 @@ fn word(classes: &[u8; 256], text: &[u8], start: usize) -> Token
     within(word_kind(&text[start..end]), 64, end - start, start, end)
 }
 
+// The string that starts with the quote at `start`: at most 127 bytes between the quotes.
 fn string(classes: &[u8; 256], text: &[u8], start: usize) -> Token
     requires { ⌜ (now classes ≡ classTable) × (start < length (now text)) ⌝ }
     ensures { λ r. ⌜ r ≡ stringAt (now (text .entry)) start ⌝ }
@@ -63,11 +77,7 @@ fn string(classes: &[u8; 256], text: &[u8], start: usize) -> Token
     if text[end] == b'"' {
         within(kinds::STRING, 127, end - (start + 1), start, end + 1)
     } else {
-        Token {
-            kind: kinds::BAD_BYTE,
-            start: end,
-            end: end + 1,
-        }
+        one_byte(kinds::BAD_BYTE, end)
     }
 }
 
@@ -80,7 +90,7 @@ fn has_fraction(classes: &[u8; 256], text: &[u8], whole: usize) -> bool
     point & is_of(classes, Sort::Digits, byte(text, whole + 1))
 }
 
-// The number whose first digit is at `first`.
+// The number whose first digit is at `first`: at most 15 digits, without the point.
 fn number(classes: &[u8; 256], text: &[u8], start: usize, first: usize) -> Token
     requires { ⌜ (now classes ≡ classTable) × (first < length (now text)) ⌝ }
     ensures { λ r. ⌜ r ≡ numberAt (now (text .entry)) start first ⌝ }
@@ -107,30 +117,18 @@ fn mark_of(start: usize, first: u8, next: u8) -> Token
                 end: start + 2,
             };
         }
-        return Token {
-            kind: kinds::BAD_BYTE,
-            start,
-            end: start + 1,
-        };
+        return one_byte(kinds::BAD_BYTE, start);
     }
     if ((first == b'!') | (first == b'<') | (first == b'>')) & (next == b'=') {
         Token {
-            kind: first + 128,
+            kind: first + kinds::WITH_EQUALS,
             start,
             end: start + 2,
         }
     } else if first == b'_' {
-        Token {
-            kind: kinds::BAD_BYTE,
-            start,
-            end: start + 1,
-        }
+        one_byte(kinds::BAD_BYTE, start)
     } else {
-        Token {
-            kind: first,
-            start,
-            end: start + 1,
-        }
+        one_byte(first, start)
     }
 }
 
@@ -148,11 +146,7 @@ fn from_mark(classes: &[u8; 256], text: &[u8], start: usize) -> Token
         if is_of(classes, Sort::Digits, next) {
             return number(classes, text, start, start + 1);
         }
-        return Token {
-            kind: kinds::BAD_BYTE,
-            start,
-            end: start + 1,
-        };
+        return one_byte(kinds::BAD_BYTE, start);
     }
     mark_of(start, first, next)
 }
@@ -164,11 +158,7 @@ fn token_from(classes: &[u8; 256], text: &[u8], start: usize) -> Token
 {
     let first = text[start];
     if is_of(classes, Sort::LoneMarks, first) {
-        return Token {
-            kind: first,
-            start,
-            end: start + 1,
-        };
+        return one_byte(first, start);
     }
     if is_of(classes, Sort::Letters, first) {
         return word(classes, text, start);
@@ -180,17 +170,9 @@ fn token_from(classes: &[u8; 256], text: &[u8], start: usize) -> Token
         return from_mark(classes, text, start);
     }
     if first == b':' {
-        Token {
-            kind: kinds::COLON,
-            start,
-            end: start + 1,
-        }
+        one_byte(kinds::COLON, start)
     } else {
-        Token {
-            kind: kinds::BAD_BYTE,
-            start,
-            end: start + 1,
-        }
+        one_byte(kinds::BAD_BYTE, start)
     }
 }
 

@@ -35,6 +35,7 @@ fn first_refused(before: Token, t: Token) -> Token
     }
 }
 
+// The line of a text: its tokens' number and sum, and the token told of with its place.
 fn report(count: usize, sum: u64, t: Token, p: Place) {
     vectors::print_number(count as u64, b' ');
     vectors::print_number(sum, b' ');
@@ -45,6 +46,7 @@ fn report(count: usize, sum: u64, t: Token, p: Place) {
     vectors::print_number(p.column as u64, b'\n');
 }
 
+// Reads all tokens of the text, up to its end, and writes its line.
 fn list(classes: &[u8; 256], text: &[u8])
     requires { ⌜ now classes ≡ classTable ⌝ }
 {
@@ -69,6 +71,7 @@ fn list(classes: &[u8; 256], text: &[u8])
     }
 }
 
+// One vector: a text, which may be a few bytes too long.
 fn vector(classes: &[u8; 256])
     requires { ⌜ now classes ≡ classTable ⌝ }
 {

@@ -9,7 +9,7 @@ use borrow.Author.Tests.{not-true, not-false}
 use borrow.Fn.Kinds.{In, Out}
 use borrow.Fn.PlainCycle.{Measures, is, falls, and}
 use lib.ListN.{length, drop}
-use Rattle.slices.proofs.Rest.{part-is}
+use Rattle.slices.proofs.Parts.{tail-lent}
 use Rattle.slices.specs.Decides.{yes-to, no-to, refuted, carried}
 use Rattle.patterns.specs.Like.{star, Matches, none}
 use Rattle.patterns.proofs.Laws.{star-at, match-end, no-match-past, no-match-here, match-on, star-last, star-stops, star-on, barred-at}
@@ -71,7 +71,7 @@ after-star-loop-again t c =
 after-star-returns-2 : AfterStar after-star-lts.Need-returns-2
 after-star-returns-2 t c =
     let at-loop = c .before .before .before .before .before .before .before in
-    carried (at-loop .loop .inv .1) (yes-to (none (rw part-is at (c .before .like .ensures .sound (c .if3 .taken)))))
+    carried (at-loop .loop .inv .1) (yes-to (none (rw tail-lent at (c .before .like .ensures .sound (c .if3 .taken)))))
 
 after-star-returns-3 : AfterStar after-star-lts.Need-returns-3
 after-star-returns-3 t c =
@@ -79,7 +79,7 @@ after-star-returns-3 t c =
     let at-test = at-like .before .before .before .before .before in
     let string = at-test .before .before .before .before .args .string .now in
     let fails = refuted (at-like .like .ensures) (c .before .if3 .left) in
-    carried (at-test .before .loop .inv .1) (no-to (star-stops _ string (at-test .before .loop .i) (at-test .loop-test .taken) (rw part-is at fails) (c .if4 .taken)))
+    carried (at-test .before .loop .inv .1) (no-to (star-stops _ string (at-test .before .loop .i) (at-test .loop-test .taken) (rw tail-lent at fails) (c .if4 .taken)))
 
 after-star-loop-again-2 : AfterStar after-star-lts.Need-loop-again-2
 after-star-loop-again-2 t c =
@@ -87,13 +87,13 @@ after-star-loop-again-2 t c =
     let at-test = at-like .before .before .before .before .before in
     let string = at-test .before .before .before .before .args .string .now in
     let fails = refuted (at-like .like .ensures) (c .before .if3 .left) in
-    (omega arith, Iff·trans (at-test .before .loop .inv .1) (star-on _ string (at-test .before .loop .i) (at-test .loop-test .taken) (rw part-is at fails) (c .if4 .left)))
+    (omega arith, Iff·trans (at-test .before .loop .inv .1) (star-on _ string (at-test .before .loop .i) (at-test .loop-test .taken) (rw tail-lent at fails) (c .if4 .left)))
 
 after-star-returns-4 : AfterStar after-star-lts.Need-returns-4
 after-star-returns-4 t c =
     let at-end = c .before .before in
     let string = at-end .before .before .before .before .args .string .now in
-    carried (at-end .before .loop .inv .1) (carried (star-last _ string (at-end .before .loop .i) (at-end .loop-test .left)) (rw part-is at (c .like2 .ensures)))
+    carried (at-end .before .loop .inv .1) (carried (star-last _ string (at-end .before .loop .i) (at-end .loop-test .left)) (rw tail-lent at (c .like2 .ensures)))
 
 -- ---- like: the pattern matches the string exactly when what is left of the one from i on matches what is left of the other
 
@@ -111,7 +111,7 @@ like-returns t c =
     let at-test = c .before .before .before .before .before in
     carried
     (at-test .before .loop .inv .2)
-    (rw (star-at _ _ (at-test .loop-test .taken) (c .before .before .before .if1 .taken)) (simp part-is at (c .after-star .ensures)))
+    (rw (star-at _ _ (at-test .loop-test .taken) (c .before .before .before .if1 .taken)) (simp tail-lent at (c .after-star .ensures)))
 
 like-returns-2 : Like like-lts.Need-returns-2
 like-returns-2 t c =

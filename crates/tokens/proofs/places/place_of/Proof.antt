@@ -5,7 +5,7 @@ use denote.Ref.{now}
 use lib.ListN.{getD}
 use borrow.Author.Needs.{needs}
 use Rattle.tokens.specs.Places.{past, pastAll, placeOf}
-use Rattle.tokens.proofs.PlaceLaws.{further}
+use Rattle.tokens.proofs.PlaceLaws.{next-place}
 use Rattle.tokens.proofs.places.place_of.Statement.{statement}
 use Rattle.tokens.proofs.places.place_of.Tie as tie
 
@@ -24,7 +24,7 @@ loop-again c =
     let at-loop = c .before .before .before in
     let text = now (at-loop .before .before .args .text) in
     let i = at-loop .loop .i in
-    let next = c .past-byte .ensures .0 ∙ (ap (past (getD text i 0)) (at-loop .loop .inv .0) ∙ sym (further text i (search needs))) in
+    let next = c .past-byte .ensures .0 ∙ (ap (past (getD text i 0)) (at-loop .loop .inv .0) ∙ sym (next-place text i (search needs))) in
     (next, search needs, search needs, search needs)
 
 returns : tie.Need-returns Inv-loop μ-loop

@@ -44,8 +44,8 @@ returns-2 c =
 returns-3 : tie.Need-returns-3
 unfolding markAt
 returns-3 c =
-    let other = ap (is Digits) (sym (c .before .before .before .before .byte .ensures)) ∙ (sym (c .before .is-of .ensures) ∙ c .if3 .left) in
-    simp (ne-eqb _ _ (c .before .before .before .if1 .left), eq-eqb _ _ (c .before .before .if2 .taken), other)
+    let other = ap (is Digits) (sym (c .before .before .before .before .before .byte .ensures)) ∙ (sym (c .before .before .is-of .ensures) ∙ c .before .if3 .left) in
+    simp (ne-eqb _ _ (c .before .before .before .before .if1 .left), eq-eqb _ _ (c .before .before .before .if2 .taken), other) (c .one-byte .ensures)
 
 returns-4 : tie.Need-returns-4
 unfolding markAt
@@ -67,7 +67,7 @@ from-mark-spec =
     (λ c. search needs)
     number-requires
     returns-2
-    (λ c. search needs)
+    (λ c κs. search needs)
     returns-3
     (λ c κs. search needs)
     returns-4)

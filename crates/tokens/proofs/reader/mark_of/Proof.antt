@@ -13,10 +13,10 @@ returns c = simp (c .before .if1 .taken, eq-eqb _ _ (c .if2 .taken))
 
 returns-2 : tie.Need-returns-2
 unfolding markOf
-returns-2 c = simp (c .before .if1 .taken, ne-eqb _ _ (c .if2 .left))
+returns-2 c = simp (c .before .before .if1 .taken, ne-eqb _ _ (c .before .if2 .left)) (c .one-byte .ensures)
 
-add-t15 : tie.Need-add-t15
-add-t15 c = omega (arith, small (c .before .before .args .first) (and-left _ _ (c .if3 .taken)))
+add-t14 : tie.Need-add-t14
+add-t14 c = omega (arith, small (c .before .before .args .first) (and-left _ _ (c .if3 .taken)))
 
 returns-3 : tie.Need-returns-3
 unfolding markOf
@@ -24,11 +24,11 @@ returns-3 c = simp (c .before .if1 .left, c .if3 .taken)
 
 returns-4 : tie.Need-returns-4
 unfolding markOf
-returns-4 c = simp (c .before .before .if1 .left, c .before .if3 .left, eq-eqb _ _ (c .if4 .taken))
+returns-4 c = simp (c .before .before .before .if1 .left, c .before .before .if3 .left, eq-eqb _ _ (c .before .if4 .taken)) (c .one-byte2 .ensures)
 
 returns-5 : tie.Need-returns-5
 unfolding markOf
-returns-5 c = simp (c .before .before .if1 .left, c .before .if3 .left, ne-eqb _ _ (c .if4 .left))
+returns-5 c = simp (c .before .before .before .if1 .left, c .before .before .if3 .left, ne-eqb _ _ (c .before .if4 .left)) (c .one-byte3 .ensures)
 
 pub mark-of-spec : {M : Type 1} → statement M
 mark-of-spec =
@@ -36,12 +36,12 @@ mark-of-spec =
     (tie.spec
     (λ c. search needs)
     returns
-    (λ c. search needs)
+    (λ c κs. search needs)
     returns-2
-    add-t15
+    add-t14
     (λ c. search needs)
-    (λ c. search needs)
-    (λ c. search needs)
+    (λ c κs. search needs)
+    (λ c κs. search needs)
     returns-3
     returns-4
     returns-5)

@@ -1,9 +1,9 @@
 -- `tokens::reader::number` meets its contract: the test decides `numberTo` at the end of the whole part. Assumes nothing.
-use mathlib.Core.Path.{_≡_, sym, _∙_, ap}
+use mathlib.Core.Path.{sym, _∙_}
 use native.Mathlib.Omega.{arith}
 use denote.Ref.{now}
 use borrow.Author.Needs.{needs}
-use Rattle.tokens.specs.Tokens.{numberTo, numberAt}
+use Rattle.tokens.specs.Tokens.{numberAt}
 use Rattle.tokens.proofs.TokenLaws.{point-inside}
 use Rattle.tokens.proofs.reader.number.Statement.{statement}
 use Rattle.tokens.proofs.reader.number.Tie as tie
@@ -18,25 +18,15 @@ run-end-requires-2 c κs =
 returns : tie.Need-returns
 unfolding numberAt
 returns c =
-    let after-run = c .before .before .before .before in
-    let args = after-run .before .before .args in
-    let text = now (args .text) in
-    let whole = after-run .run-end .result in
-    let here : c .within .result ≡ numberTo text (args .start) (args .first) whole =
-    rw (sym (c .before .before .before .has-fraction .ensures) ∙ c .before .before .if1 .taken, ← c .before .run-end2 .ensures .place)
-    (c .within .ensures) in
-    here ∙ ap (numberTo text (args .start) (args .first)) (after-run .run-end .ensures .place)
+    let at-test = c .before .before .before in
+    rw (← at-test .before .run-end .ensures .place, sym (at-test .has-fraction .ensures) ∙ c .before .before .if1 .taken, ← c .before .run-end2 .ensures .place)
+    (c .within .ensures)
 
 returns-2 : tie.Need-returns-2
 unfolding numberAt
 returns-2 c =
-    let after-run = c .before .before .before in
-    let args = after-run .before .before .args in
-    let text = now (args .text) in
-    let whole = after-run .run-end .result in
-    let here : c .within2 .result ≡ numberTo text (args .start) (args .first) whole =
-    rw (sym (c .before .before .has-fraction .ensures) ∙ c .before .if1 .left) (c .within2 .ensures) in
-    here ∙ ap (numberTo text (args .start) (args .first)) (after-run .run-end .ensures .place)
+    let at-test = c .before .before in
+    rw (← at-test .before .run-end .ensures .place, sym (at-test .has-fraction .ensures) ∙ c .before .if1 .left) (c .within2 .ensures)
 
 pub number-spec : {M : Type 1} → statement M
 number-spec =

@@ -28,7 +28,9 @@ returns-2 c =
     (simp (lt-leb _ _ (c .before .before .before .if1 .left), eq-eqb _ _ (c .before .if2 .taken)) (c .within .ensures))
 
 returns-3 : tie.Need-returns-3
-returns-3 c = ended (c .before .before .before) _ (simp (lt-leb _ _ (c .before .before .if1 .left), ne-eqb _ _ (c .if2 .left)))
+returns-3 c =
+    ended (c .before .before .before .before) _
+    (simp (lt-leb _ _ (c .before .before .before .if1 .left), ne-eqb _ _ (c .before .if2 .left)) (c .one-byte .ensures))
 
 pub string-spec : {M : Type 1} → statement M
 string-spec =
@@ -42,6 +44,6 @@ string-spec =
     (λ c. search needs)
     (λ c. search needs)
     (λ c κs. search needs)
-    (λ c. search needs)
+    (λ c κs. search needs)
     returns-2
     returns-3)

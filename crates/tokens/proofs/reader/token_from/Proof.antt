@@ -9,8 +9,8 @@ use Rattle.tokens.proofs.reader.token_from.Tie as tie
 
 returns : tie.Need-returns
 returns c =
-    let args = c .before .before .before .before .args in
-    sym (lone-token (now (args .text)) (args .start) (sym (c .before .is-of .ensures) ∙ c .if1 .taken))
+    let args = c .before .before .before .before .before .args in
+    c .one-byte .ensures ∙ sym (lone-token (now (args .text)) (args .start) (sym (c .before .before .is-of .ensures) ∙ c .before .if1 .taken))
 
 returns-2 : tie.Need-returns-2
 returns-2 c =
@@ -35,25 +35,27 @@ returns-4 c =
 
 returns-5 : tie.Need-returns-5
 returns-5 c =
-    let no-letter = c .before .before .before .before .before in
-    let no-digit = c .before .before .before in
+    let no-letter = c .before .before .before .before .before .before in
+    let no-digit = c .before .before .before .before in
     simp (
       sym (no-letter .before .is-of2 .ensures) ∙ no-letter .if2 .left,
       sym (no-digit .before .is-of3 .ensures) ∙ no-digit .if3 .left,
-      sym (c .before .before .is-of4 .ensures) ∙ c .before .if4 .left,
-      eq-eqb _ _ (c .if5 .taken),
+      sym (c .before .before .before .is-of4 .ensures) ∙ c .before .before .if4 .left,
+      eq-eqb _ _ (c .before .if5 .taken),
     )
+    (c .one-byte2 .ensures)
 
 returns-6 : tie.Need-returns-6
 returns-6 c =
-    let no-letter = c .before .before .before .before .before in
-    let no-digit = c .before .before .before in
+    let no-letter = c .before .before .before .before .before .before in
+    let no-digit = c .before .before .before .before in
     simp (
       sym (no-letter .before .is-of2 .ensures) ∙ no-letter .if2 .left,
       sym (no-digit .before .is-of3 .ensures) ∙ no-digit .if3 .left,
-      sym (c .before .before .is-of4 .ensures) ∙ c .before .if4 .left,
-      ne-eqb _ _ (c .if5 .left),
+      sym (c .before .before .before .is-of4 .ensures) ∙ c .before .before .if4 .left,
+      ne-eqb _ _ (c .before .if5 .left),
     )
+    (c .one-byte3 .ensures)
 
 pub token-from-spec : {M : Type 1} → statement M
 token-from-spec =
@@ -61,7 +63,7 @@ token-from-spec =
     (tie.spec
     (λ c. search needs)
     (λ c κs. search needs)
-    (λ c. search needs)
+    (λ c κs. search needs)
     returns
     (λ c κs. search needs)
     (λ c κs. search needs)
@@ -72,7 +74,7 @@ token-from-spec =
     (λ c κs. search needs)
     (λ c κs. search needs)
     returns-4
-    (λ c. search needs)
-    (λ c. search needs)
+    (λ c κs. search needs)
+    (λ c κs. search needs)
     returns-5
     returns-6)

@@ -1,7 +1,6 @@
 -- `tokens::words::kind_of_2` meets its contract: the choices are those of `kindBy` among the words of its length. Assumes nothing.
 use Rattle.tokens.proofs.WordLaws.{kindBy, of-length}
 use Rattle.tokens.specs.Words.{reserved}
-use denote.Ref.{now}
 use mathlib.Core.Path.{sym, _∙_}
 use borrow.Author.Needs.{needs}
 use Rattle.tokens.proofs.words.kind_of_2.Statement.{statement}
@@ -9,7 +8,11 @@ use Rattle.tokens.proofs.words.kind_of_2.Tie as tie
 
 returns : tie.Need-returns
 unfolding reserved kindBy
-returns c = c .kind-if3 .ensures ∙ rw (c .before .before .kind-if2 .ensures, c .before .before .before .before .kind-if .ensures) (sym (of-length 2 (now (c .before .before .before .before .before .before .before .args .word)) (c .before .before .before .before .before .before .before .pre)))
+returns c =
+    let second = c .before .before in
+    let first = second .before .before in
+    let entry = first .before .before .before in
+    c .kind-if3 .ensures ∙ rw (second .kind-if2 .ensures, first .kind-if .ensures) (sym (of-length _ _ (entry .pre)))
 
 pub kind-of-2-spec : {M : Type 1} → statement M
 kind-of-2-spec =

@@ -1,7 +1,6 @@
 -- `tokens::words::kind_of_3` meets its contract: the choices are those of `kindBy` among the words of its length. Assumes nothing.
 use Rattle.tokens.proofs.WordLaws.{kindBy, of-length}
 use Rattle.tokens.specs.Words.{reserved}
-use denote.Ref.{now}
 use mathlib.Core.Path.{sym, _∙_}
 use borrow.Author.Needs.{needs}
 use Rattle.tokens.proofs.words.kind_of_3.Statement.{statement}
@@ -9,7 +8,10 @@ use Rattle.tokens.proofs.words.kind_of_3.Tie as tie
 
 returns : tie.Need-returns
 unfolding reserved kindBy
-returns c = c .kind-if2 .ensures ∙ rw (c .before .before .kind-if .ensures) (sym (of-length 3 (now (c .before .before .before .before .before .args .word)) (c .before .before .before .before .before .pre)))
+returns c =
+    let first = c .before .before in
+    let entry = first .before .before .before in
+    c .kind-if2 .ensures ∙ rw (first .kind-if .ensures) (sym (of-length _ _ (entry .pre)))
 
 pub kind-of-3-spec : {M : Type 1} → statement M
 kind-of-3-spec =

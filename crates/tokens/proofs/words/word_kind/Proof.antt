@@ -9,15 +9,15 @@ use Rattle.tokens.proofs.words.word_kind.Tie as tie
 
 returns-4 : tie.Need-returns-4
 unfolding reserved kindBy
-returns-4 c = c .kind-if .ensures ∙ sym (of-length 5 (now (c .before .before .before .before .args .word)) (c .before .before .match .keys4))
+returns-4 c = c .kind-if .ensures ∙ sym (of-length _ _ (c .before .before .match .keys4))
 
 returns-6 : tie.Need-returns-6
 unfolding reserved kindBy
-returns-6 c = c .kind-if2 .ensures ∙ sym (of-length 8 (now (c .before .before .before .before .args .word)) (c .before .before .match .keys6))
+returns-6 c = c .kind-if2 .ensures ∙ sym (of-length _ _ (c .before .before .match .keys6))
 
 returns-7 : tie.Need-returns-7
 unfolding reserved kindBy
-returns-7 c = c .kind-if3 .ensures ∙ sym (of-length 9 (now (c .before .before .before .before .args .word)) (c .before .before .match .keys7))
+returns-7 c = c .kind-if3 .ensures ∙ sym (of-length _ _ (c .before .before .match .keys7))
 
 returns-9 : tie.Need-returns-9
 returns-9 c =
