@@ -1,7 +1,8 @@
 -- The test `ascending` decides whether paths ascend strictly. Assumes nothing.
 use Prim.Native.Nat.{ℕ}
 use mathlib.Core.List.{List, [], _∷_}
-use Rattle.slices.specs.Decides.{Decides, yes-to, both, carried}
+use Rattle.slices.specs.Decides.{Decides}
+use Rattle.slices.proofs.Decided.{yes-to, both, carried}
 use Rattle.slices.specs.Order.{Before, before}
 use Rattle.slices.proofs.Order.{before-decides}
 use Rattle.bags.specs.Sections.{ascends, ascending, Ascending, none, one, more}

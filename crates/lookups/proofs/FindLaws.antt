@@ -10,7 +10,7 @@ use lib.Dec.{eqb}
 use lib.ListN.{length, take, drop, length-take, length-drop, drop-of-length-le}
 use lib.Seq.{drop-cons}
 use Rattle.slices.specs.Same.{same}
-use Rattle.slices.specs.Decides.{one-answer, no-to}
+use Rattle.slices.proofs.Decided.{one-answer, no-to}
 use Rattle.slices.proofs.Equal.{same-decides, other-length}
 use Rattle.tokens.specs.Bytes.{classOf}
 use Rattle.tokens.specs.Runs.{is}

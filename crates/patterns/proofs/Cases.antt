@@ -1,6 +1,6 @@
 -- Document 01's cases J and K. Assumes nothing.
 use mathlib.Core.Path.{refl}
-use Rattle.slices.specs.Decides.{refuted}
+use Rattle.slices.proofs.Decided.{refuted}
 use Rattle.slices.specs.Ascii.{bytes}
 use Rattle.patterns.specs.Like.{Matches}
 use Rattle.patterns.specs.Likes.{stands, steps, runs, likes}

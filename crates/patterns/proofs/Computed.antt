@@ -6,7 +6,8 @@ use mathlib.Core.List.{List, [], _∷_}
 use Prim.Native.Nat.{ℕ}
 use lib.Dec.{eqb}
 use borrow.Author.Tests.{eqb-true, eqb-false}
-use Rattle.slices.specs.Decides.{Decides, one-answer, yes-to, no-to, refuted, both}
+use Rattle.slices.specs.Decides.{Decides}
+use Rattle.slices.proofs.Decided.{one-answer, yes-to, no-to, refuted, both}
 use Rattle.patterns.specs.Like.{star, mark, colon, Admits, Matches, ends, one, none, more}
 use Rattle.patterns.specs.Likes.{stands, steps, runs, likes}
 use Rattle.patterns.proofs.Laws.{mark-admits, itself-admits, head-admits, tails-match, nothing-left, star-ends, star-takes}

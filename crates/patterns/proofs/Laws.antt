@@ -8,7 +8,8 @@ use mathlib.Core.Bool.{Bool, true, false, not, _&&_}
 use lib.Dec.{eqb}
 use lib.ListN.{length, getD, drop, length-drop, drop-of-length-le}
 use borrow.Author.Tests.{eqb-true, eqb-false, eq-eqb, ne-eqb, not-true}
-use Rattle.slices.specs.Decides.{Decides, yes-to}
+use Rattle.slices.specs.Decides.{Decides}
+use Rattle.slices.proofs.Decided.{yes-to}
 use Rattle.slices.proofs.Rest.{rest-at}
 use Rattle.patterns.specs.Like.{star, mark, colon, Admits, itself, any, Matches, ends, one, none, more}
 use Rattle.patterns.specs.Likes.{bars}

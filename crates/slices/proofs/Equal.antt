@@ -7,7 +7,8 @@ use native.Mathlib.Omega.{arith}
 use lib.Dec.{eqb}
 use lib.ListN.{length}
 use borrow.Author.Tests.{eqb-true, eqb-false}
-use Rattle.slices.specs.Decides.{Decides, yes-to, no-to, refuted, one-answer}
+use Rattle.slices.specs.Decides.{Decides}
+use Rattle.slices.proofs.Decided.{yes-to, no-to, refuted, one-answer}
 use Rattle.slices.specs.Same.{same}
 
 -- equal heads and tails, exactly where the whole lists are equal

@@ -1,3 +1,4 @@
+pub mod Decided
 pub mod Equal
 pub mod Order
 pub mod Parts

@@ -14,7 +14,8 @@ use Rattle.tokens.proofs.TokenLaws.{never, and-left, and-right}
 use Rattle.table.specs.declared.Entry.{Entry}
 use Rattle.table.specs.Entries.{entry}
 use Rattle.table.specs.Layout.{entrySize, entryBytes, bytesOf, fits, putAt, puts, numberOf, entryAt, entryIs, held, startsWith, Begins}
-use Rattle.slices.specs.Decides.{Decides, yes-to, no-to, refuted}
+use Rattle.slices.specs.Decides.{Decides}
+use Rattle.slices.proofs.Decided.{yes-to, no-to, refuted}
 use Rattle.table.proofs.Fields.{field-back}
 
 -- ---- one list of entries after another

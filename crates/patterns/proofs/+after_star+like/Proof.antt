@@ -10,7 +10,7 @@ use borrow.Fn.Kinds.{In, Out}
 use borrow.Fn.PlainCycle.{Measures, is, falls, and}
 use lib.ListN.{length, drop}
 use Rattle.slices.proofs.Parts.{tail-lent}
-use Rattle.slices.specs.Decides.{yes-to, no-to, refuted, carried}
+use Rattle.slices.proofs.Decided.{yes-to, no-to, refuted, carried}
 use Rattle.patterns.specs.Like.{star, Matches, none}
 use Rattle.patterns.proofs.Laws.{star-at, match-end, no-match-past, no-match-here, match-on, star-last, star-stops, star-on, barred-at}
 use Rattle.patterns.proofs.after_star.Reads as after-star

@@ -1,5 +1,5 @@
 -- `patterns::admits` meets its contract. Assumes nothing.
-use Rattle.slices.specs.Decides.{no-to}
+use Rattle.slices.proofs.Decided.{no-to}
 use Rattle.patterns.proofs.Laws.{mark-admits, same-admits, only-itself}
 use Rattle.patterns.proofs.admits.Statement.{statement}
 use Rattle.patterns.proofs.admits.Tie as tie
