@@ -13,10 +13,9 @@ use Rattle.reading.specs.Reader.{numbered, refuseBy}
 use Rattle.reading.proofs.Local.{same}
 use Rattle.reading.proofs.Readers.{Goes, goes-refuseBy, number-below}
 use Rattle.grammar.specs.Policies.{Root, Root.Principal, Root.Resource, Root.Env, Root.Action}
-use Rattle.grammar.specs.Rules.{isEffect, isReserved, isLiteral}
+use Rattle.grammar.specs.Rules.{isEffect, isReserved, isLiteral, endsBare, deepens}
 use Rattle.grammar.specs.Grammar.{pathNumber}
 use Rattle.grammar.specs.Parser.{noName, bare, noType, noLevel, noPattern, tooMany, noPolicy}
-use Rattle.grammar.specs.Numbers.{endsBare, deepens}
 use Rattle.grammar.proofs.Begun.{made, Beyond, Kept, few}
 
 -- ---- the number of each limit
@@ -70,7 +69,7 @@ unfolding numbered noPolicy
 effect-number x t = rw (is-token (λ k. isEffect (made k)) (refl, refl, refl, refl, refl, refl, refl) (x .kind) t, t)
 
 pub level-number : (x : Lexeme) → deepens x ≡ true → numbered noLevel x ≡ 12
-unfolding numbered noLevel deepens
+unfolding numbered noLevel
 level-number x t = rw (is-token (λ k. deepens (made k)) (refl, refl, refl, refl, refl, refl, refl) (x .kind) t, t)
 
 -- ---- other numbers
@@ -80,7 +79,7 @@ one-below true m n l k = l
 one-below false m n l k = k
 
 pub bare-below : (x : Lexeme) → bare x < 11
-unfolding bare endsBare
+unfolding bare
 bare-below x = one-below (endsBare x) 8 10 (omega arith) (omega arith)
 
 pub type-below : (x : Lexeme) → noType x < 11
@@ -107,7 +106,7 @@ unfolding noPolicy
 effect-below x e = rw e (omega arith)
 
 pub level-below : (x : Lexeme) → deepens x ≡ false → noLevel x < 11
-unfolding noLevel deepens
+unfolding noLevel
 level-below x e = rw e (omega arith)
 
 -- ---- what goes on where a limit refuses

@@ -11,14 +11,14 @@ use Rattle.tokens.proofs.TokenLaws.{never}
 use Rattle.reading.specs.Lexemes.{Lexeme, is}
 use Rattle.reading.specs.Reader.{numbered, ten}
 use Rattle.grammar.specs.Policies.{Root, Root.Principal, Root.Resource, Root.Env, Root.Action}
-use Rattle.grammar.specs.Rules.{isEffect, isReserved, isRoot, rootOf, isLiteral, isComparator, isContains, mostLiterals}
+use Rattle.grammar.specs.Rules.{isEffect, isReserved, isRoot, rootOf, isLiteral, isComparator, isContains, endsBare, deepens, mostLiterals}
 use Rattle.grammar.specs.Parser.{noName, bare, noType, noLevel, noPattern, tooMany, noPolicy}
-use Rattle.grammar.specs.Numbers.{behind, atName, atType, atPattern, afterPolicy, atCondition, leftRoot, afterLeft, afterAction, actionIn, oneMore, endsBare, deepens, numberOf}
+use Rattle.grammar.specs.Numbers.{behind, atName, atType, atPattern, afterPolicy, atCondition, leftRoot, afterLeft, afterAction, actionIn, oneMore, numberOf}
 use Rattle.grammar.proofs.Begun.{made}
 use Rattle.grammar.proofs.Completeness.{other-kind}
 
 -- what the tests say of a place that is none of a literal in a list
-pub record Place (n l t b p s : Bool) (c : List Lexeme) : Type 0 where
+pub record Spot (n l t b p s : Bool) (c : List Lexeme) : Type 0 where
   pub name : atName c ≡ n
   pub left : afterLeft c ≡ l
   pub type : atType c ≡ t
@@ -29,17 +29,17 @@ pub record Place (n l t b p s : Bool) (c : List Lexeme) : Type 0 where
 
 -- where no test holds, where a condition must begin, behind an attribute as left operand
 abbrev pub Quiet : List Lexeme → Type 0
-Quiet = Place false false false false false false
+Quiet = Spot false false false false false false
 
-abbrev pub Begins : List Lexeme → Type 0
-Begins = Place false false false true false false
+abbrev pub AtCondition : List Lexeme → Type 0
+AtCondition = Spot false false false true false false
 
 abbrev pub Left : List Lexeme → Type 0
-Left = Place false true false false false false
+Left = Spot false true false false false false
 
 -- ---- numbers
 
-number-is : {n l t b p s : Bool} {c : List Lexeme} → Place n l t b p s c → (x : Lexeme) → numberOf c x
+number-is : {n l t b p s : Bool} {c : List Lexeme} → Spot n l t b p s c → (x : Lexeme) → numberOf c x
     ≡ cond (ltb (x .kind) 7) (x .kind) (cond (n && isReserved x) 7 (cond (l && endsBare x) 8 (cond (t && is kinds.name x) 9 (cond (n && is kinds.name x && afterAction c) 11
     (cond (b && deepens x) 12 (cond (p && is kinds.string x) 13 (cond (s && isEffect x) 15 (cond (n && is kinds.name x) 16 10))))))))
 unfolding numberOf
@@ -49,27 +49,27 @@ pub quiet-ten : {c : List Lexeme} → Quiet c → (x : Lexeme) → numbered ten 
 unfolding numbered
 quiet-ten h x = sym (number-is h x)
 
-pub begins-deepest : {c : List Lexeme} → Begins c → (x : Lexeme) → numbered noLevel x ≡ numberOf c x
-unfolding numbered noLevel deepens
+pub begins-deepest : {c : List Lexeme} → AtCondition c → (x : Lexeme) → numbered noLevel x ≡ numberOf c x
+unfolding numbered noLevel
 begins-deepest h x = sym (number-is h x)
 
-pub begins-ten : {c : List Lexeme} → Begins c → (x : Lexeme) → deepens x ≡ false → numbered ten x ≡ numberOf c x
+pub begins-ten : {c : List Lexeme} → AtCondition c → (x : Lexeme) → deepens x ≡ false → numbered ten x ≡ numberOf c x
 unfolding numbered
 begins-ten h x e = rw (number-is h x, e)
 
 pub left-bare : {c : List Lexeme} → Left c → (x : Lexeme) → numbered bare x ≡ numberOf c x
-unfolding numbered bare endsBare
+unfolding numbered bare
 left-bare h x = sym (number-is h x)
 
-pub type-number : {c : List Lexeme} → Place false false true false false false c → (x : Lexeme) → numbered noType x ≡ numberOf c x
+pub type-number : {c : List Lexeme} → Spot false false true false false false c → (x : Lexeme) → numbered noType x ≡ numberOf c x
 unfolding numbered noType
 type-number h x = sym (number-is h x)
 
-pub pattern-number : {c : List Lexeme} → Place false false false false true false c → (x : Lexeme) → numbered noPattern x ≡ numberOf c x
+pub pattern-number : {c : List Lexeme} → Spot false false false false true false c → (x : Lexeme) → numbered noPattern x ≡ numberOf c x
 unfolding numbered noPattern
 pattern-number h x = sym (number-is h x)
 
-pub policy-number : {c : List Lexeme} → Place false false false false false true c → (x : Lexeme) → numbered noPolicy x ≡ numberOf c x
+pub policy-number : {c : List Lexeme} → Spot false false false false false true c → (x : Lexeme) → numbered noPolicy x ≡ numberOf c x
 unfolding numbered noPolicy
 policy-number h x = sym (number-is h x)
 
@@ -79,7 +79,7 @@ isAction Resource = false
 isAction Env = false
 isAction Action = true
 
-pub name-number : {c : List Lexeme} → Place true false false false false false c → (root : Root) → afterAction c ≡ isAction root → (x : Lexeme) → numbered (noName root) x ≡ numberOf c x
+pub name-number : {c : List Lexeme} → Spot true false false false false false c → (root : Root) → afterAction c ≡ isAction root → (x : Lexeme) → numbered (noName root) x ≡ numberOf c x
 unfolding numbered noName
 name-number {c = c} h root e x = go root (is kinds.name x) refl ∙ sym (rw e at (number-is h x))
   where
@@ -113,7 +113,7 @@ opens k = eqb k kinds.leftBrace || eqb k kinds.bang || eqb k kinds.ifWord || eqb
 
 -- behind a token of the kind k, which is no name, no comma and no `(`
 pub at-kind : (k : ℕ) → (eqb k kinds.name ≡ false) × (eqb k kinds.comma ≡ false) × (eqb k kinds.leftRound ≡ false) → (y : Lexeme) (c : List Lexeme) → y .kind ≡ k
-    → Place (eqb k kinds.dot || eqb k kinds.hasWord) false (eqb k kinds.isWord) (opens k) (eqb k kinds.likeWord) (eqb k kinds.semicolon) (y ∷ c)
+    → Spot (eqb k kinds.dot || eqb k kinds.hasWord) false (eqb k kinds.isWord) (opens k) (eqb k kinds.likeWord) (eqb k kinds.semicolon) (y ∷ c)
 unfolding behind atCondition
 at-kind k h y c e = record {
   name = rw e;
@@ -179,12 +179,12 @@ quiet-comma y c e f = record { name = rw e; left = no-left y c (rw e); type = rw
     go (l ∷ c) f x = rw (e, f)
 
 -- behind a name: it goes by what the name is of
-pub at-left : (l : Bool) (y : Lexeme) (c : List Lexeme) → y .kind ≡ kinds.name → afterLeft (y ∷ c) ≡ l → Place false l false false false false (y ∷ c)
+pub at-left : (l : Bool) (y : Lexeme) (c : List Lexeme) → y .kind ≡ kinds.name → afterLeft (y ∷ c) ≡ l → Spot false l false false false false (y ∷ c)
 unfolding behind atCondition
 at-left l y c e f = record { name = rw e; left = f; type = rw e; begins = rw e; pattern = rw e; policy = rw e; list = no-list y c (rw e) }
 
 -- a bracket where a condition begins
-pub begins-round : (y : Lexeme) {c : List Lexeme} → y .kind ≡ kinds.leftRound → Begins c → Begins (y ∷ c)
+pub begins-round : (y : Lexeme) {c : List Lexeme} → y .kind ≡ kinds.leftRound → AtCondition c → AtCondition (y ∷ c)
 unfolding behind atCondition
 begins-round y {c = c} e h = record { name = rw e; left = no-left y c (rw e); type = rw e; begins = rw (e, no-other c (h .begins)); pattern = rw e; policy = rw e; list = no-list y c (rw e) }
   where
@@ -206,7 +206,7 @@ pub data OnPath (left : Bool) : Root → List Lexeme → Type 0 where
   had : {x h : Lexeme} {c : List Lexeme} → isRoot x ≡ true → h .kind ≡ kinds.hasWord → left ≡ false → OnPath left (rootOf x) (h ∷ x ∷ c)
   longer : {root : Root} {n d : Lexeme} {c : List Lexeme} → OnPath left root c → n .kind ≡ kinds.name → d .kind ≡ kinds.dot → OnPath left root (d ∷ n ∷ c)
 
-path-place : {left : Bool} {root : Root} {c : List Lexeme} → OnPath left root c → Place true false false false false false c
+path-place : {left : Bool} {root : Root} {c : List Lexeme} → OnPath left root c → Spot true false false false false false c
 path-place (dotted {d = d} t e k) = at-kind kinds.dot (refl, refl, refl) d _ e
 path-place (had {h = h} t e k) = at-kind kinds.hasWord (refl, refl, refl) h _ e
 path-place (longer {d = d} h k e) = at-kind kinds.dot (refl, refl, refl) d _ e
@@ -250,7 +250,7 @@ after-name (longer {n = m} {d = d} {c = c} h k e) n f = rw (eq-eqb (n .kind) kin
 pub data Named (left : Bool) (root : Root) : List Lexeme → Type 0 where
   named : {n : Lexeme} {c : List Lexeme} → OnPath left root c → n .kind ≡ kinds.name → Named left root (n ∷ c)
 
-pub named-place : {left : Bool} {root : Root} {c : List Lexeme} → Named left root c → Place false left false false false false c
+pub named-place : {left : Bool} {root : Root} {c : List Lexeme} → Named left root c → Spot false left false false false false c
 named-place (named {n = n} h e) = at-left _ n _ e (after-name h n e)
 
 -- ---- lists

@@ -21,7 +21,7 @@ use Rattle.reading.specs.Lexemes.{Lexeme, size}
 use Rattle.reading.specs.Reads.{Chain.alone, Chain.more}
 use Rattle.grammar.specs.Policies.{span, Root, Root.Principal, Root.Resource, Root.Env, Root.Action}
 use Rattle.grammar.specs.Rules.{spanOf, admitted}
-use Rattle.grammar.specs.Grammar.{sizes, Path, firstPath, longerPath, spanned, first, NextName, Names}
+use Rattle.grammar.specs.Grammar.{sizes, Path, firstPath, longerPath, spanned, first, NextName, APath}
 use Rattle.grammar.specs.Grammar as grammar
 use Rattle.tokens.specs.Blanks.{unblanked}
 use Rattle.placing.specs.Placed.{pathAt, IsName, a-name, one-name, one-more, PathPlaced}
@@ -165,6 +165,6 @@ module _ {text : List ℕ} {root : Root} where
   step (w, token ld (token l rest)) kd k a = (next-walked w ld kd l k a, rest)
 
   -- a path that the grammar reads
-  pub walked : {i r : List Lexeme} {p : Path} {at : ℕ} → Names sizes root i r p → Running text at i → Walked text root p × Running text (p .end) r
+  pub walked : {i r : List Lexeme} {p : Path} {at : ℕ} → APath sizes root i r p → Running text at i → Walked text root p × Running text (p .end) r
   walked (alone (first k a)) (token l rest) = (first-walked l k a, rest)
   walked (more {x = d} j t (grammar.NextName.next k a)) f = step (walked j f) (eqb-true (d .kind) kinds.dot t) k a
