@@ -1,6 +1,6 @@
 -- Each refusal of the reader of rule texts has the number that the table says. Assumes nothing.
 use mathlib.Core.Path.{_≡_, refl, ap, _∙_}
-use mathlib.Core.Bool.{Bool, true, false, _&&_, _||_}
+use mathlib.Core.Bool.{Bool, true, false, _&&_, and-true, and-false, or-true}
 use mathlib.Core.List.{List, [], _∷_, _++_, reverse, reverseAux}
 use Prim.Native.Nat.{ℕ, zero, suc, _≤_}
 use native.Mathlib.Omega.{arith}
@@ -163,10 +163,6 @@ no-action-in : (w : Lexeme) (c : List Lexeme) → NoAction c → actionIn (w ∷
 unfolding behind actionIn
 no-action-in w [] e = refl
 no-action-in w (a ∷ c) e = rw e (and-false (is kinds.inWord w))
-  where
-    and-false : (b : Bool) → (b && false) ≡ false
-    and-false true = refl
-    and-false false = refl
 
 tells-operator : (a : Operand) (K : List Lexeme → Type 0) → Tells (At K) (read-bare a) (Ends Quiet) → Tells (λ c i. K c × NoAction c) (read-operator a) (Ends Quiet)
 unfolding read-operator read-pattern isLike
@@ -203,10 +199,6 @@ tells-call w root p =
   where
     quiet : {c : List Lexeme} → Called c → Quiet c
     quiet (word t) = quiet-contains _ _ t
-
-    or-true : (b : Bool) → (b || true) ≡ true
-    or-true true = refl
-    or-true false = refl
 
     round : {o : Lexeme} {c i : List Lexeme} → o .kind ≡ kinds.leftRound → Stepped o (At Called) c i → Quiet c
     round {o = o} e (stepped (word {x = x} t)) = quiet-round o _ e (rw t (or-true (isEffect x)))
@@ -442,11 +434,7 @@ tells-policies = record { at = λ c i h. rw (policies-step [] i) (first .at c i 
 
 no-policy-first : (x : Lexeme) → begins [] x ≡ false → numbered noPolicy x ≡ numberOf [] x
 unfolding numbered noPolicy numberOf begins behind afterLeft atCondition oneMore
-no-policy-first x f = rw (effectless (isEffect x) f)
-  where
-    effectless : (b : Bool) → (b && true) ≡ false → b ≡ false
-    effectless true e = e
-    effectless false e = refl
+no-policy-first x f = rw (rw (and-true (isEffect x)) at f)
 
 tells-end : (ps : List Policy) → Tells (Between ps) (atEnd ps) (λ qs c i. Unit {0})
 unfolding atEnd refuseBy numberAt Without

@@ -1,6 +1,6 @@
 -- Places in a rule text, by the last tokens before them, and the numbers that the table has there. Assumes nothing.
 use mathlib.Core.Path.{_≡_, refl, sym, _∙_}
-use mathlib.Core.Bool.{Bool, true, false, cond, _&&_, _||_}
+use mathlib.Core.Bool.{Bool, true, false, cond, _&&_, _||_, or-false}
 use mathlib.Core.List.{List, [], _∷_}
 use Prim.Native.Nat.{ℕ, zero, suc, _≤_}
 use native.Mathlib.Omega.{arith}
@@ -79,9 +79,9 @@ isAction Resource = false
 isAction Env = false
 isAction Action = true
 
-pub name-number : {c : List Lexeme} → Spot true false false false false false c → (root : Root) → afterAction c ≡ isAction root → (x : Lexeme) → numbered (noName root) x ≡ numberOf c x
+on-path-number : {c : List Lexeme} → Spot true false false false false false c → (root : Root) → afterAction c ≡ isAction root → (x : Lexeme) → numbered (noName root) x ≡ numberOf c x
 unfolding numbered noName
-name-number {c = c} h root e x = go root (is kinds.name x) refl ∙ sym (rw e at (number-is h x))
+on-path-number {c = c} h root e x = go root (is kinds.name x) refl ∙ sym (rw e at (number-is h x))
   where
     go : (root : Root) (o : Bool) → is kinds.name x ≡ o → numbered (noName root) x
         ≡ cond (ltb (x .kind) 7) (x .kind) (cond (isReserved x) 7 (cond (is kinds.name x && isAction root) 11 (cond (is kinds.name x) 16 10)))
@@ -231,15 +231,14 @@ path-action (had {x = x} t e k) = rw (e, t) (sym (root-kind x t))
 path-action (longer h k e) = rw (e, k) (path-action h)
 
 pub path-number : {left : Bool} {root : Root} {c : List Lexeme} → OnPath left root c → (x : Lexeme) → numbered (noName root) x ≡ numberOf c x
-path-number {root = root} h x = name-number (path-place h) root (path-action h) x
+path-number {root = root} h x = on-path-number (path-place h) root (path-action h) x
 
 after-name : {left : Bool} {root : Root} {c : List Lexeme} → OnPath left root c → (n : Lexeme) → n .kind ≡ kinds.name → afterLeft (n ∷ c) ≡ left
 unfolding afterLeft leftRoot
 after-name (dotted {x = x} {c = c} t e k) n f = rw (f, e, t, k) (go _ (no-left x c (other-kind (λ k. isRoot (made k)) (x .kind) kinds.name t refl)))
   where
     go : (l : Bool) {b : Bool} → b ≡ false → (l || b) ≡ l
-    go true e = refl
-    go false e = e
+    go l e = rw e (or-false l)
 after-name (had t e k) n f = rw (f, e, k)
 after-name (longer {n = m} {d = d} {c = c} h k e) n f = rw (eq-eqb (n .kind) kinds.name f, eq-eqb (d .kind) kinds.dot e, no-root m k) (after-name h m k)
   where
