@@ -12,7 +12,7 @@ use borrow.Author.Tests.{eqb-true, eq-eqb, ne-eqb, leb-true}
 use Rattle.tokens.specs.Kinds as kinds
 use Rattle.tokens.proofs.TokenLaws.{never, and-left, and-right, or-cases}
 use Rattle.reading.specs.Lexemes.{Lexeme, is, choose}
-use Rattle.reading.specs.Reads.{Reads, Chain, Chain.alone, Chain.more, Onto, Onto.onto, Before, Before.ended, After.begun}
+use Rattle.reading.specs.Reads.{Reads, Chain, Chain.alone, Chain.more, Onto, Onto.onto, Before.ended, After.begun}
 use Rattle.reading.specs.Reader.{Answer, took, Reader, refuseBy, numbered, bind, on, need, mapped, upTo, onwards}
 use Rattle.reading.proofs.Readers.{Shrinks, shrinks-onto, Without, on-without, on-token, on-other}
 use Rattle.reading.proofs.Complete.{Nearly, exact, excused, nearly-bind, nearly-on, Complete, complete-mapped, complete-before, complete-chain}

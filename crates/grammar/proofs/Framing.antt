@@ -8,7 +8,7 @@ use native.Mathlib.Omega.{arith}
 use lib.ListN.{length}
 use Rattle.tokens.specs.Kinds as kinds
 use Rattle.reading.specs.Lexemes.{Lexeme, is}
-use Rattle.reading.specs.Reads.{Reads, Chain, Before, Before.ended, After, After.begun}
+use Rattle.reading.specs.Reads.{Reads, Before, Before.ended, After, After.begun}
 use Rattle.reading.proofs.Readers.{Shrinks, shrinks-onto, shrinks-before, shrinks-chain}
 use Rattle.grammar.specs.Policies.{Root, Literal, Operand, Tree, both, either, Part, Actions, Policy}
 use Rattle.grammar.specs.Rules.{isLiteral, principalTypes, resourceTypes}

@@ -43,14 +43,10 @@ is-token test f k t = go (ltb k 7) refl
     go false e = e
 
 pub name-number : (root : Root) (x : Lexeme) → x .kind ≡ kinds.name → numbered (noName root) x ≡ pathNumber root
-unfolding numbered noName pathNumber
-name-number Principal x e = rw e
-name-number Resource x e = rw e
-name-number Env x e = rw e
-name-number Action x e = rw e
+unfolding numbered noName
+name-number root x e = rw e
 
 pub path-limit : (root : Root) → 11 ≤ pathNumber root
-unfolding pathNumber
 path-limit Principal = omega arith
 path-limit Resource = omega arith
 path-limit Env = omega arith
@@ -88,10 +84,7 @@ type-below x = one-below (is kinds.name x) 9 10 (omega arith) (omega arith)
 
 pub name-below : (root : Root) (x : Lexeme) → is kinds.name x ≡ false → noName root x < 11
 unfolding noName
-name-below Principal x e = rw e (one-below (isReserved x) 7 10 (omega arith) (omega arith))
-name-below Resource x e = rw e (one-below (isReserved x) 7 10 (omega arith) (omega arith))
-name-below Env x e = rw e (one-below (isReserved x) 7 10 (omega arith) (omega arith))
-name-below Action x e = rw e (one-below (isReserved x) 7 10 (omega arith) (omega arith))
+name-below root x e = rw e (one-below (isReserved x) 7 10 (omega arith) (omega arith))
 
 pub pattern-below : (x : Lexeme) → is kinds.string x ≡ false → noPattern x < 11
 unfolding noPattern

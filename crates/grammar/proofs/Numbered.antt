@@ -13,7 +13,7 @@ use Rattle.reading.specs.Lexemes.{Lexeme, is}
 use Rattle.reading.specs.Reader.{took, refuse, Reader, numbered, refuseBy, ten, bind, on, before, onwards}
 use Rattle.reading.proofs.Readers.{Without}
 use Rattle.grammar.specs.Policies.{Span, Root, Literal, text, number, truth, Operand, attribute, literal, Which, Tree, among, within, contains, both, either, Policy}
-use Rattle.grammar.specs.Rules.{isEffect, isRoot, rootOf, isLiteral, literalOf, isComparator, isContains, deepens, principalTypes, resourceTypes, mostLiterals}
+use Rattle.grammar.specs.Rules.{isEffect, isRoot, rootOf, isLiteral, literalOf, isComparator, isContains, principalTypes, resourceTypes, mostLiterals}
 use Rattle.grammar.specs.Grammar.{Path}
 use Rattle.grammar.specs.Parser.{Way, plain, calling, noName, bare, noType, noLevel, noPattern, tooMany, noPolicy, fits, read-first-name, goesOn, read-next-name, read-way, noExit, read-path, read-attribute, read-operand, isElement, read-element, read-list, read-bare, read-in, isLike, read-pattern, read-operator, read-call, read-rest, read-rooted, read-simple, read-joined, read-conjunction, read-disjunction, read-negated, read-bracketed, read-conditional, read-deeper, read-condition, read-conditions, read-type, read-principal, read-action, read-resource, read-when, read-policy, begins, read-next-policy, atEnd, read-text}
 use Rattle.grammar.specs.Numbers.{behind, atCondition, afterLeft, actionIn, oneMore, numberOf, numberAt, NumberedRightly}

@@ -81,18 +81,15 @@ isAction Action = true
 
 on-path-number : {c : List Lexeme} → Spot true false false false false false c → (root : Root) → afterAction c ≡ isAction root → (x : Lexeme) → numbered (noName root) x ≡ numberOf c x
 unfolding numbered noName
-on-path-number {c = c} h root e x = go root (is kinds.name x) refl ∙ sym (rw e at (number-is h x))
+on-path-number {c = c} h root e x = go (is kinds.name x) root refl ∙ sym (rw e at (number-is h x))
   where
-    go : (root : Root) (o : Bool) → is kinds.name x ≡ o → numbered (noName root) x
+    go : (o : Bool) (root : Root) → is kinds.name x ≡ o → numbered (noName root) x
         ≡ cond (ltb (x .kind) 7) (x .kind) (cond (isReserved x) 7 (cond (is kinds.name x && isAction root) 11 (cond (is kinds.name x) 16 10)))
-    go Principal true q = rw (eqb-true (x .kind) kinds.name q)
-    go Resource true q = rw (eqb-true (x .kind) kinds.name q)
-    go Env true q = rw (eqb-true (x .kind) kinds.name q)
-    go Action true q = rw (eqb-true (x .kind) kinds.name q)
-    go Principal false q = rw q
-    go Resource false q = rw q
-    go Env false q = rw q
-    go Action false q = rw q
+    go true Principal q = rw (eqb-true (x .kind) kinds.name q)
+    go true Resource q = rw (eqb-true (x .kind) kinds.name q)
+    go true Env q = rw (eqb-true (x .kind) kinds.name q)
+    go true Action q = rw (eqb-true (x .kind) kinds.name q)
+    go false root q = rw q
 
 -- ---- the place behind a token
 

@@ -38,7 +38,7 @@ abbrev pub sizes : Limits
 sizes = sizesTo 31
 
 -- the number of the limit of a path after the root
-unfoldable pub pathNumber : Root → ℕ
+abbrev pub pathNumber : Root → ℕ
 pathNumber Principal = 16
 pathNumber Resource = 16
 pathNumber Env = 16

@@ -8,18 +8,15 @@ use lib.ListN.{length}
 use Rattle.tokens.specs.Kinds as kinds
 use Rattle.reading.specs.Lexemes.{Lexeme, is}
 use Rattle.reading.specs.Reader.{took, Reader, refuseBy, ten, bind, on, need, before, mapped, onwards, chain}
-use Rattle.grammar.specs.Policies.{Span, Root, Root.Principal, Root.Resource, Root.Env, Root.Action, Literal, text, number, truth, Operand, attribute, literal, Which, Tree, constant, compare, like, among, within, contains, has, not, brackets, both, either, choice, Part, any, typed, pinned, Actions, every, oneOf, Policy}
+use Rattle.grammar.specs.Policies.{Span, Root, Literal, text, number, truth, Operand, attribute, literal, Which, Tree, constant, compare, like, among, within, contains, has, not, brackets, both, either, choice, Part, any, typed, pinned, Actions, every, oneOf, Policy}
 use Rattle.grammar.specs.Rules.{inside, spanOf, isEffect, isReserved, isRoot, rootOf, isLiteral, literalOf, isComparator, comparatorOf, isContains, whichOf, endsBare, deepens, principalTypes, resourceTypes, typeOf, isType, admitted, mostLiterals, mostPolicies, isPattern}
-use Rattle.grammar.specs.Grammar.{Path, firstPath, longerPath, spanned}
+use Rattle.grammar.specs.Grammar.{pathNumber, Path, firstPath, longerPath, spanned}
 
 -- ---- which number a token gets that is not admitted
 
 -- where a name of a path must stand: 7 a reserved word, 11 a name after action, 16 any other name
 unfoldable pub noName : Root → Lexeme → ℕ
-noName Principal x = cond (is kinds.name x) 16 (cond (isReserved x) 7 10)
-noName Resource x = cond (is kinds.name x) 16 (cond (isReserved x) 7 10)
-noName Env x = cond (is kinds.name x) 16 (cond (isReserved x) 7 10)
-noName Action x = cond (is kinds.name x) 11 (cond (isReserved x) 7 10)
+noName root x = cond (is kinds.name x) (pathNumber root) (cond (isReserved x) 7 10)
 
 -- after an attribute as left operand: 8 where it was bare
 unfoldable pub bare : Lexeme → ℕ
