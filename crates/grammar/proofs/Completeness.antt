@@ -30,7 +30,7 @@ pub record Excuses (L : Limits) (Z : ℕ → List Lexeme → Type 0) : Type 0 wh
   pub no-name : (root : Root) (used : ℕ) (x : Lexeme) (r : List Lexeme) → x .kind ≡ kinds.name → L .Name root used x r → admitted root used x ≡ false → Z (numbered (noName root) x) (x ∷ r)
   pub no-pattern : (x : Lexeme) (r : List Lexeme) → x .kind ≡ kinds.string → L .Pattern x r → isPattern (inside x) ≡ false → Z (numbered noPattern x) (x ∷ r)
   pub too-many : (sort : Lexeme → Bool) (k : ℕ) (x : Lexeme) (r : List Lexeme) → isLiteral x ≡ true → sort x ≡ true → L .Count k r → ltb k mostLiterals ≡ false → Z (numbered (tooMany sort) x) (x ∷ r)
-  pub no-policy : (k : ℕ) (x : Lexeme) (r : List Lexeme) → isEffect x ≡ true → L .Number k r → ltb k mostPolicies ≡ false → Z (numbered noPolicy x) (x ∷ r)
+  pub no-policy : (k : ℕ) (x : Lexeme) (r : List Lexeme) → isEffect x ≡ true → L .Effect k r → ltb k mostPolicies ≡ false → Z (numbered noPolicy x) (x ∷ r)
   pub no-level : 31 < L .levels → (x : Lexeme) (r : List Lexeme) → deepens x ≡ true → Z (numbered noLevel x) (x ∷ r)
 
 abbrev Any : List Lexeme → Type 0

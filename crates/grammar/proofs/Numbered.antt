@@ -1,10 +1,10 @@
 -- Each refusal of the reader of rule texts has the number that the table says. Assumes nothing.
 use mathlib.Core.Path.{_≡_, refl, ap, _∙_}
-use mathlib.Core.Bool.{Bool, true, false, _&&_, and-true, and-false, or-true}
+use mathlib.Core.Bool.{Bool, true, false, _&&_, _||_, and-true, and-false, or-true}
 use mathlib.Core.List.{List, [], _∷_, _++_, reverse, reverseAux}
 use Prim.Native.Nat.{ℕ, zero, suc, _≤_}
 use native.Mathlib.Omega.{arith}
-use lib.Dec.{ltb}
+use lib.Dec.{eqb, ltb}
 use lib.ListN.{length, length-append}
 use borrow.Author.Tests.{eqb-true, ltb-true}
 use Rattle.tokens.specs.Kinds as kinds
@@ -21,7 +21,7 @@ use Rattle.grammar.proofs.Begun.{made}
 use Rattle.grammar.proofs.Completeness.{other-kind}
 use Rattle.grammar.proofs.Steps.{policies-step}
 use Rattle.grammar.proofs.Telling.{Past, here, step, Places, Told, good, stops, Tells, tells-weaker, tells-took, tells-refuseBy, tells-bind, Stepped, stepped, tells-on, Plain, tells-ten, tells-need, tells-before, tells-mapped, tells-onwards, tells-chain}
-use Rattle.grammar.proofs.Spots.{Spot, Quiet, AtCondition, Left, quiet-ten, begins-deepest, begins-ten, left-bare, type-number, pattern-number, policy-number, at-kind, quiet-root, quiet-literal, quiet-comparator, quiet-contains, quiet-effect, quiet-round, quiet-comma, at-left, begins-round, OnPath, dotted, had, longer, path-number, Named, named, named-place, InList, opened, further, element-number}
+use Rattle.grammar.proofs.Spots.{Spot, Quiet, AtCondition, Left, quiet-ten, begins-deepest, begins-ten, left-bare, type-number, pattern-number, policy-number, opens, at-kind, quiet-root, quiet-literal, quiet-comparator, quiet-contains, quiet-effect, quiet-round, quiet-comma, at-left, begins-round, OnPath, dotted, had, longer, path-number, Named, named, named-place, InList, opened, further, element-number}
 
 -- places by what stands before them
 abbrev At : (List Lexeme → Type 0) → Places
@@ -32,6 +32,11 @@ Ends K a c i = K c
 
 quietly : Plain (At Quiet)
 quietly = record { at = λ c i h x. quiet-ten h x }
+
+-- behind a token of the kind k, which is no name, no comma and no `(`
+behind-kind : (k : ℕ) → (eqb k kinds.name ≡ false) × (eqb k kinds.comma ≡ false) × (eqb k kinds.leftRound ≡ false) → {P : Places} {x : Lexeme} {c i : List Lexeme} → x .kind ≡ k → Stepped x P c i
+    → Spot (eqb k kinds.dot || eqb k kinds.hasWord) false (eqb k kinds.isWord) (opens k) (eqb k kinds.likeWord) (eqb k kinds.semicolon) c
+behind-kind k h e (stepped q) = at-kind k h _ _ e
 
 -- ---- paths
 
@@ -169,18 +174,12 @@ unfolding read-operator read-pattern isLike
 tells-operator a K b =
     tells-on _ _ _ (λ x t. tells-mapped _ _ (tells-weaker tells-operand (λ c i h. compared t h) (λ v c i h. h)))
     (tells-on _ _ _
-    (λ x t. tells-on _ _ _ (λ y u. tells-took _ (λ c i h. matched (eqb-true _ _ (and-left _ _ u)) h)) (tells-refuseBy noPattern (λ c r y h. pattern-number (liked (eqb-true _ _ t) (h .0)) y)))
+    (λ x t. tells-on _ _ _ (λ y u. tells-took _ (λ c i h. behind-kind kinds.string (refl, refl, refl) (eqb-true _ _ (and-left _ _ u)) h)) (tells-refuseBy noPattern (λ c r y h. pattern-number (behind-kind kinds.likeWord (refl, refl, refl) (eqb-true _ _ t) (h .0)) y)))
     (tells-on _ _ _ (λ x t. tells-weaker (tells-in a) (λ c i h. held (eqb-true _ _ t) h) (λ v c i h. h))
     (tells-weaker b (λ c i h. h .0 .0 .0 .0) (λ v c i h. h))))
   where
     compared : {x : Lexeme} {P : Places} {c i : List Lexeme} → isComparator x ≡ true → Stepped x P c i → Quiet c
     compared t (stepped h) = quiet-comparator _ _ t
-
-    matched : {x : Lexeme} {P : Places} {c i : List Lexeme} → x .kind ≡ kinds.string → Stepped x P c i → Quiet c
-    matched e (stepped h) = at-kind kinds.string (refl, refl, refl) _ _ e
-
-    liked : {x : Lexeme} {P : Places} {c i : List Lexeme} → x .kind ≡ kinds.likeWord → Stepped x P c i → Spot false false false false true false c
-    liked e (stepped h) = at-kind kinds.likeWord (refl, refl, refl) _ _ e
 
     held : {x : Lexeme} {c i : List Lexeme} → x .kind ≡ kinds.inWord → Stepped x (λ c i. ((K c × NoAction c) × Without isComparator i) × Without (is kinds.likeWord) i) c i → Quiet c × (actionIn c ≡ false)
     held {x = x} e (stepped h) = (at-kind kinds.inWord (refl, refl, refl) x _ e, no-action-in x _ (h .0 .0 .1))
@@ -260,10 +259,6 @@ tells-simple deeper d =
     root : {x : Lexeme} {c i : List Lexeme} → isRoot x ≡ true → Stepped x (λ c i. AtCondition c × Without isLiteral i) c i → LeftRoot (rootOf x) c
     root t (stepped h) = leads t (h .0)
 
--- behind a token of the kind k a condition begins
-begins-at : (k : ℕ) → ((x : Lexeme) (c : List Lexeme) → x .kind ≡ k → AtCondition (x ∷ c)) → {P : Places} {x : Lexeme} {c i : List Lexeme} → x .kind ≡ k → Stepped x P c i → AtCondition c
-begins-at k f e (stepped h) = f _ _ e
-
 module _ {p : Reader Tree} (t : Tells (At AtCondition) p (Ends Quiet)) where
   -- at any place that a condition begins at
   here-begins : {P : Places} → ((c i : List Lexeme) → P c i → AtCondition c) → Tells P p (Ends Quiet)
@@ -271,13 +266,13 @@ module _ {p : Reader Tree} (t : Tells (At AtCondition) p (Ends Quiet)) where
 
   tells-conjunction : Tells (At AtCondition) (read-conjunction p) (Ends Quiet)
   unfolding read-conjunction read-joined
-  tells-conjunction = tells-chain (λ a. is kinds.and) _ (λ a x e. tells-mapped (both a) p (here-begins (λ c i h. begins-at kinds.and (at-kind kinds.and (refl, refl, refl)) (eqb-true _ _ e) h))) _ t
+  tells-conjunction = tells-chain (λ a. is kinds.and) _ (λ a x e. tells-mapped (both a) p (here-begins (λ c i h. behind-kind kinds.and (refl, refl, refl) (eqb-true _ _ e) h))) _ t
 
   tells-disjunction : Tells (At AtCondition) (read-disjunction p) (Ends Quiet)
   unfolding read-disjunction read-joined
   tells-disjunction =
       tells-chain (λ a. is kinds.or) _
-      (λ a x e. tells-mapped (either a) _ (tells-weaker tells-conjunction (λ c i h. begins-at kinds.or (at-kind kinds.or (refl, refl, refl)) (eqb-true _ _ e) h) (λ u c i h. h))) _ tells-conjunction
+      (λ a x e. tells-mapped (either a) _ (tells-weaker tells-conjunction (λ c i h. behind-kind kinds.or (refl, refl, refl) (eqb-true _ _ e) h) (λ u c i h. h))) _ tells-conjunction
 
   tells-conditional : {P : Places} → ((c i : List Lexeme) → P c i → AtCondition c) → Tells P (read-conditional p) (Ends Quiet)
   unfolding read-conditional
@@ -289,11 +284,11 @@ module _ {p : Reader Tree} (t : Tells (At AtCondition) p (Ends Quiet)) where
   tells-deeper : Tells (At AtCondition) (read-deeper p) (Ends Quiet)
   unfolding read-deeper read-negated read-bracketed Without
   tells-deeper =
-      tells-on _ _ _ (λ x e. tells-mapped _ p (here-begins (λ c i h. begins-at kinds.bang (at-kind kinds.bang (refl, refl, refl)) (eqb-true _ _ e) h)))
+      tells-on _ _ _ (λ x e. tells-mapped _ p (here-begins (λ c i h. behind-kind kinds.bang (refl, refl, refl) (eqb-true _ _ e) h)))
       (tells-on _ _ _
       (λ x e. tells-mapped _ _ (tells-before kinds.rightRound _ {Mid = Ends Quiet} (tells-weaker tells-disjunction (λ c i h. bracket (eqb-true _ _ e) h) (λ u c i h. h)) (λ u. quietly)
       (λ u x c r e h. at-kind kinds.rightRound (refl, refl, refl) x c e)))
-      (tells-on _ _ _ (λ x e. tells-conditional (λ c i h. begins-at kinds.ifWord (at-kind kinds.ifWord (refl, refl, refl)) (eqb-true _ _ e) h))
+      (tells-on _ _ _ (λ x e. tells-conditional (λ c i h. behind-kind kinds.ifWord (refl, refl, refl) (eqb-true _ _ e) h))
       (tells-refuseBy ten (λ c r x h. begins-ten (h .0 .0 .0) x (rw (h .0 .0 .1, h .0 .1, h .1))))))
     where
       bracket : {x : Lexeme} {c i : List Lexeme} → x .kind ≡ kinds.leftRound → Stepped x (λ c i. AtCondition c × Without (is kinds.bang) i) c i → AtCondition c
@@ -335,15 +330,12 @@ tells-principal = tells-on _ _ _ (λ x e. tells-weaker (tells-type principalType
 tells-action : Tells (At (Behind kinds.actionWord)) read-action (Ends BehindPart)
 unfolding read-action actionIn
 tells-action =
-    tells-on _ _ _ (λ w e. tells-need kinds.leftSquare _ (record { at = λ c i h x. quiet-ten (quiet (eqb-true _ _ e) h) x }) (λ s k.
+    tells-on _ _ _ (λ w e. tells-need kinds.leftSquare _ (record { at = λ c i h x. quiet-ten (behind-kind kinds.inWord (refl, refl, refl) (eqb-true _ _ e) h) x }) (λ s k.
     tells-mapped _ _ (tells-weaker (tells-list (is kinds.string) strings) (λ c i h. list (eqb-true _ _ e) k h) (λ ls c i h. h))))
     (tells-took _ (λ c i h. after-part kinds.actionWord refl (at-kind kinds.actionWord (refl, refl, refl)) (h .0)))
   where
     strings : (x : Lexeme) → is kinds.string x ≡ true → isLiteral x ≡ true
     strings x e = rw e
-
-    quiet : {w : Lexeme} {c i : List Lexeme} → w .kind ≡ kinds.inWord → Stepped w (At (Behind kinds.actionWord)) c i → Quiet c
-    quiet e (stepped h) = at-kind kinds.inWord (refl, refl, refl) _ _ e
 
     list : {w s : Lexeme} {c i : List Lexeme} → w .kind ≡ kinds.inWord → s .kind ≡ kinds.leftSquare → Stepped s (Stepped w (At (Behind kinds.actionWord))) c i → InList (is kinds.string) 0 c
     list {w = w} e k (stepped (stepped (after {x = x} {c = c} q))) = opened {c = w ∷ x ∷ c} k (λ y. rw (e, q))
@@ -353,26 +345,17 @@ unfolding read-resource
 tells-resource =
     tells-on _ _ _ (λ x e. tells-weaker (tells-type resourceTypes) (λ c i h. stepped-after (eqb-true _ _ e) h) (λ p c i h. h .0))
     (tells-on _ _ _
-    (λ x e. tells-on _ _ _ (λ s t. tells-took _ (λ c i h. string (eqb-true _ _ t) h)) (tells-ten (record { at = λ c i h x. quiet-ten (equal (eqb-true _ _ e) (h .0)) x })))
+    (λ x e. tells-on _ _ _ (λ s t. tells-took _ (λ c i h. behind-kind kinds.string (refl, refl, refl) (eqb-true _ _ t) h)) (tells-ten (record { at = λ c i h x. quiet-ten (behind-kind kinds.equal (refl, refl, refl) (eqb-true _ _ e) (h .0)) x })))
     (tells-took _ (λ c i h. h .0 .0)))
-  where
-    string : {P : Places} {x : Lexeme} {c i : List Lexeme} → x .kind ≡ kinds.string → Stepped x P c i → Quiet c
-    string e (stepped h) = at-kind kinds.string (refl, refl, refl) _ _ e
-
-    equal : {P : Places} {x : Lexeme} {c i : List Lexeme} → x .kind ≡ kinds.equal → Stepped x P c i → Quiet c
-    equal e (stepped h) = at-kind kinds.equal (refl, refl, refl) _ _ e
 
 tells-when : Tells (At Quiet) read-when (Ends Quiet)
 unfolding read-when read-conditions
 tells-when =
-    tells-on _ _ _ (λ x e. tells-need kinds.leftBrace _ (record { at = λ c i h x. quiet-ten (quiet (eqb-true _ _ e) h) x }) (λ y k.
+    tells-on _ _ _ (λ x e. tells-need kinds.leftBrace _ (record { at = λ c i h x. quiet-ten (behind-kind kinds.whenWord (refl, refl, refl) (eqb-true _ _ e) h) x }) (λ y k.
     tells-mapped _ _ (tells-before kinds.rightBrace _ {Mid = Ends Quiet}
-    (tells-weaker (tells-disjunction (tells-condition 31)) (λ c i h. begins-at kinds.leftBrace (at-kind kinds.leftBrace (refl, refl, refl)) k h) (λ u c i h. h)) (λ u. quietly)
+    (tells-weaker (tells-disjunction (tells-condition 31)) (λ c i h. behind-kind kinds.leftBrace (refl, refl, refl) k h) (λ u c i h. h)) (λ u. quietly)
     (λ u x c r e h. at-kind kinds.rightBrace (refl, refl, refl) x c e))))
     (tells-took _ (λ c i h. h .0))
-  where
-    quiet : {P : Places} {x : Lexeme} {c i : List Lexeme} → x .kind ≡ kinds.whenWord → Stepped x P c i → Quiet c
-    quiet e (stepped h) = at-kind kinds.whenWord (refl, refl, refl) _ _ e
 
 -- behind an effect
 data Effect : List Lexeme → Type 0 where
@@ -391,7 +374,7 @@ tells-policy permits =
     tells-need kinds.actionWord _ quietly (λ x e.
     tells-bind _ (comma tells-action (λ c i h. stepped-after e h)) (λ a.
     tells-need kinds.resourceWord _ quietly (λ x e.
-    tells-bind _ (tells-before kinds.rightRound _ {Mid = Ends Quiet} {Post = Ends Quiet} (tells-weaker tells-resource (λ c i h. resource e h) (λ s c i h. h)) (λ s. quietly) (λ s x c r e h. at-kind kinds.rightRound (refl, refl, refl) x c e)) (λ s.
+    tells-bind _ (tells-before kinds.rightRound _ {Mid = Ends Quiet} {Post = Ends Quiet} (tells-weaker tells-resource (λ c i h. behind-kind kinds.resourceWord (refl, refl, refl) e h) (λ s c i h. h)) (λ s. quietly) (λ s x c r e h. at-kind kinds.rightRound (refl, refl, refl) x c e)) (λ s.
     tells-bind _ (tells-before kinds.semicolon _ {Mid = Ends Quiet} {Post = Ends Policed} tells-when (λ c. quietly) (λ c x d r e h. at-kind kinds.semicolon (refl, refl, refl) x d e)) (λ c.
     tells-took _ (λ c i h. h)))))))))
   where
@@ -403,9 +386,6 @@ tells-policy permits =
 
     principal : {P : Places} {x : Lexeme} {c i : List Lexeme} → x .kind ≡ kinds.principalWord → Stepped x P c i → BehindPart c
     principal e h = after-part kinds.principalWord refl (at-kind kinds.principalWord (refl, refl, refl)) (stepped-after e h)
-
-    resource : {P : Places} {x : Lexeme} {c i : List Lexeme} → x .kind ≡ kinds.resourceWord → Stepped x P c i → Quiet c
-    resource e (stepped h) = at-kind kinds.resourceWord (refl, refl, refl) _ _ e
 
     comma : {A : Type 0} {P Q : Places} {p : Reader A} → Tells P p (Ends BehindPart) → ((c i : List Lexeme) → Q c i → P c i) → Tells Q (before kinds.comma p) (Ends Quiet)
     comma {p = p} t f = tells-before kinds.comma p {Mid = Ends BehindPart} (tells-weaker t f (λ a c i h. h)) (λ a. record { at = λ c i h x. quiet-ten (h .0) x }) (λ a x c r e h. quiet-comma x c e (h .1))

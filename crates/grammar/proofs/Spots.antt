@@ -1,13 +1,14 @@
 -- Places in a rule text, by the last tokens before them, and the numbers that the table has there. Assumes nothing.
 use mathlib.Core.Path.{_≡_, refl, sym, _∙_}
-use mathlib.Core.Bool.{Bool, true, false, cond, _&&_, _||_, or-false}
+use mathlib.Core.Bool.{Bool, true, false, cond, not, _&&_, _||_, or-false}
 use mathlib.Core.List.{List, [], _∷_}
 use Prim.Native.Nat.{ℕ, zero, suc, _≤_}
 use native.Mathlib.Omega.{arith}
 use lib.Dec.{eqb, ltb}
-use borrow.Author.Tests.{eqb-true, eq-eqb, ne-eqb, ltb-false}
+use borrow.Author.Tests.{eqb-true, eq-eqb, ne-eqb, ltb-false, not-true}
+use Rattle.tokens.specs.Bytes.{oneOf}
 use Rattle.tokens.specs.Kinds as kinds
-use Rattle.tokens.proofs.TokenLaws.{never}
+use Rattle.tokens.proofs.TokenLaws.{never, every, one-passes}
 use Rattle.reading.specs.Lexemes.{Lexeme, is}
 use Rattle.reading.specs.Reader.{numbered, ten}
 use Rattle.grammar.specs.Policies.{Root, Root.Principal, Root.Resource, Root.Env, Root.Action}
@@ -105,7 +106,7 @@ no-list y [] e x = refl
 no-list y (l ∷ c) e x = rw e
 
 -- a token behind which a condition begins, but for `(`
-abbrev opens : ℕ → Bool
+abbrev pub opens : ℕ → Bool
 opens k = eqb k kinds.leftBrace || eqb k kinds.bang || eqb k kinds.ifWord || eqb k kinds.thenWord || eqb k kinds.elseWord || eqb k kinds.and || eqb k kinds.or
 
 -- behind a token of the kind k, which is no name, no comma and no `(`
@@ -122,42 +123,47 @@ at-kind k h y c e = record {
   list = no-list y c (rw e (h .1));
 }
 
--- no kind behind which something is to be told passes the test
-abbrev Silent : (ℕ → Bool) → Type 0
-Silent test =
-    (test kinds.dot ≡ false) × (test kinds.hasWord ≡ false) × (test kinds.name ≡ false) × (test kinds.isWord ≡ false) × (test kinds.leftRound ≡ false) × (test kinds.leftBrace ≡ false)
-    × (test kinds.bang ≡ false) × (test kinds.ifWord ≡ false) × (test kinds.thenWord ≡ false) × (test kinds.elseWord ≡ false) × (test kinds.and ≡ false) × (test kinds.or ≡ false)
-    × (test kinds.likeWord ≡ false) × (test kinds.semicolon ≡ false) × (test kinds.comma ≡ false)
+-- the kinds behind which something is to be told
+abbrev telling : List ℕ
+telling =
+    kinds.dot ∷ kinds.hasWord ∷ kinds.name ∷ kinds.isWord ∷ kinds.leftRound ∷ kinds.leftBrace ∷ kinds.bang ∷ kinds.ifWord ∷ kinds.thenWord ∷ kinds.elseWord ∷ kinds.and ∷ kinds.or
+    ∷ kinds.likeWord ∷ kinds.semicolon ∷ kinds.comma ∷ []
 
-quiet-by : (test : ℕ → Bool) → Silent test → (y : Lexeme) (c : List Lexeme) → test (y .kind) ≡ true → Quiet (y ∷ c)
+-- behind a token that passes a test which they all fail
+quiet-by : (test : ℕ → Bool) → every (λ k. not (test k)) telling ≡ true → (y : Lexeme) (c : List Lexeme) → test (y .kind) ≡ true → Quiet (y ∷ c)
 unfolding behind atCondition
 quiet-by test f y c t = record {
-  name = rw (no kinds.dot (f .0), no kinds.hasWord (f .1));
-  left = no-left y c (no kinds.name (f .2));
-  type = no kinds.isWord (f .3);
-  begins = rw (no kinds.leftRound (f .4), no kinds.leftBrace (f .5), no kinds.bang (f .6), no kinds.ifWord (f .7), no kinds.thenWord (f .8), no kinds.elseWord (f .9), no kinds.and (f .10), no kinds.or (f .11));
-  pattern = no kinds.likeWord (f .12);
-  policy = no kinds.semicolon (f .13);
-  list = no-list y c (no kinds.comma (f .14));
+  name = rw (no kinds.dot refl, no kinds.hasWord refl);
+  left = no-left y c (no kinds.name refl);
+  type = no kinds.isWord refl;
+  begins = rw (no kinds.leftRound refl, no kinds.leftBrace refl, no kinds.bang refl, no kinds.ifWord refl, no kinds.thenWord refl, no kinds.elseWord refl, no kinds.and refl, no kinds.or refl);
+  pattern = no kinds.likeWord refl;
+  policy = no kinds.semicolon refl;
+  list = no-list y c (no kinds.comma refl);
 }
   where
-    no : (k : ℕ) → test k ≡ false → eqb (y .kind) k ≡ false
-    no k e = other-kind test (y .kind) k t e
+    no : (k : ℕ) → oneOf telling k ≡ true → eqb (y .kind) k ≡ false
+    no k m = other-kind test (y .kind) k t (not-true _ (one-passes (λ k. not (test k)) telling k f m))
 
 pub quiet-root : (y : Lexeme) (c : List Lexeme) → isRoot y ≡ true → Quiet (y ∷ c)
-quiet-root y c t = quiet-by (λ k. isRoot (made k)) (refl, refl, refl, refl, refl, refl, refl, refl, refl, refl, refl, refl, refl, refl, refl) y c t
+unfolding every
+quiet-root y c t = quiet-by (λ k. isRoot (made k)) refl y c t
 
 pub quiet-literal : (y : Lexeme) (c : List Lexeme) → isLiteral y ≡ true → Quiet (y ∷ c)
-quiet-literal y c t = quiet-by (λ k. isLiteral (made k)) (refl, refl, refl, refl, refl, refl, refl, refl, refl, refl, refl, refl, refl, refl, refl) y c t
+unfolding every
+quiet-literal y c t = quiet-by (λ k. isLiteral (made k)) refl y c t
 
 pub quiet-comparator : (y : Lexeme) (c : List Lexeme) → isComparator y ≡ true → Quiet (y ∷ c)
-quiet-comparator y c t = quiet-by (λ k. isComparator (made k)) (refl, refl, refl, refl, refl, refl, refl, refl, refl, refl, refl, refl, refl, refl, refl) y c t
+unfolding every
+quiet-comparator y c t = quiet-by (λ k. isComparator (made k)) refl y c t
 
 pub quiet-contains : (y : Lexeme) (c : List Lexeme) → isContains y ≡ true → Quiet (y ∷ c)
-quiet-contains y c t = quiet-by (λ k. isContains (made k)) (refl, refl, refl, refl, refl, refl, refl, refl, refl, refl, refl, refl, refl, refl, refl) y c t
+unfolding every
+quiet-contains y c t = quiet-by (λ k. isContains (made k)) refl y c t
 
 pub quiet-effect : (y : Lexeme) (c : List Lexeme) → isEffect y ≡ true → Quiet (y ∷ c)
-quiet-effect y c t = quiet-by (λ k. isEffect (made k)) (refl, refl, refl, refl, refl, refl, refl, refl, refl, refl, refl, refl, refl, refl, refl) y c t
+unfolding every
+quiet-effect y c t = quiet-by (λ k. isEffect (made k)) refl y c t
 
 -- what a bracket stands behind that is a target's or a call's
 abbrev pub other : List Lexeme → Bool

@@ -38,7 +38,7 @@ swap-same (step {x = x} w) = ap (λ (l : List Lexeme). x ∷ l) (swap-same w)
 
 weaker : {L M : Limits} → ((r : List Lexeme) → Eases L M r r) → {i : List Lexeme} {ps qs : List Policy} → Policies L ps i qs → Policies M ps i qs
 weaker e grammar.Policies.end = grammar.Policies.end
-weaker e (policy {i = i} {m = m} t c h k) = let q = framed-policy _ .at (e m) h here in policy t (e i .number here _ c) (rw (← swap-same (q .1)) at (q .2)) (weaker e k)
+weaker e (policy {i = i} {m = m} t c h k) = let q = framed-policy _ .at (e m) h here in policy t (e i .effect here _ c) (rw (← swap-same (q .1)) at (q .2)) (weaker e k)
 
 module _ (levels : ℕ) (Lifted Freed : ℕ → List Lexeme → Type 0) (f : (n : ℕ) (r : List Lexeme) → Lifted n r → Freed n r) where
   freed : (n : ℕ) {r m l : List Lexeme} → Swap r r m l → Lifted n m → Freed n l
@@ -49,7 +49,7 @@ module _ (levels : ℕ) (Lifted Freed : ℕ → List Lexeme → Type 0) (f : (n 
     name = λ w root used x h. elim h [ inl t ↦ inl t | inr g ↦ inr (freed _ w g) ];
     pattern = λ w x h. elim h [ inl t ↦ inl t | inr g ↦ inr (freed _ w g) ];
     count = λ w k h. elim h [ inl t ↦ inl t | inr g ↦ inr (freed _ w g) ];
-    number = λ w k h. elim h [ inl t ↦ inl t | inr g ↦ inr (freed _ w g) ];
+    effect = λ w k h. elim h [ inl t ↦ inl t | inr g ↦ inr (freed _ w g) ];
     levels = refl;
   })
 
@@ -103,7 +103,7 @@ no-text-refused i [] ps w h = w .no-text ps refl (rw (w .split, append-nil) at h
 no-text-refused i (x ∷ s) ps w h = w .dead x s refl (beginning (w .before ++ x ∷ []) s (rw (w .split, cut) at sofar))
   where
     sofar : Sofar i
-    sofar = record { on = []; policies = ps; belongs = rw append-nil (weaker (λ r. record { name = λ v root used y t. inl t; pattern = λ v y t. inl t; count = λ v k t. inl t; number = λ v k t. inl t; levels = refl }) h) }
+    sofar = record { on = []; policies = ps; belongs = rw append-nil (weaker (λ r. record { name = λ v root used y t. inl t; pattern = λ v y t. inl t; count = λ v k t. inl t; effect = λ v k t. inl t; levels = refl }) h) }
 
 pub one-place : OnePlace
 unfolding OnePlace

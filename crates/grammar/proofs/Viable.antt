@@ -43,7 +43,7 @@ data Start : List Lexeme → List Lexeme → List Policy → Type 0 where
 
 -- one policy more after ps, behind its effect x
 pub data NextPolicy (ps : List Policy) (x : Lexeme) (L : Limits) : List Lexeme → List Lexeme → List Policy → Type 0 where
-  one : {i r : List Lexeme} {p : Policy} → L .Number (length ps) i → PolicyRest L (is kinds.permitWord x) i r p → NextPolicy ps x L i r (ps ++ p ∷ [])
+  one : {i r : List Lexeme} {p : Policy} → L .Effect (length ps) i → PolicyRest L (is kinds.permitWord x) i r p → NextPolicy ps x L i r (ps ++ p ∷ [])
 
 -- some of a text's policies, and what follows them
 abbrev Upto : Family (List Policy)
@@ -63,7 +63,7 @@ framed-next : (ps : List Policy) (x : Lexeme) → Framed (NextPolicy ps x)
 framed-next ps x = record { at = go }
   where
     go : {L M : Limits} {r s i m n : List Lexeme} {qs : List Policy} → Eases L M r s → NextPolicy ps x L i m qs → Swap r s m n → Moved (NextPolicy ps x M) r s i n qs
-    go e (one l h) w = let q = framed-policy _ .at e h w in (_, q .1, one (e .number (q .1) _ l) (q .2))
+    go e (one l h) w = let q = framed-policy _ .at e h w in (_, q .1, one (e .effect (q .1) _ l) (q .2))
 
 -- Where i is refused by n at r: some text begins as i does before r and goes on with the refused token where a limit refused it, and that limit is asked only of what stands before.
 pub record Opened (k : ℕ) (i : List Lexeme) (n : ℕ) (r : List Lexeme) : Type 0 where

@@ -20,7 +20,7 @@ pub record Limits : Type 1 where
   pub Name : Root → ℕ → Lexeme → List Lexeme → Type 0
   pub Pattern : Lexeme → List Lexeme → Type 0
   pub Count : ℕ → List Lexeme → Type 0
-  pub Number : ℕ → List Lexeme → Type 0
+  pub Effect : ℕ → List Lexeme → Type 0
   pub levels : ℕ
 
 -- document 01's, but for the levels
@@ -29,7 +29,7 @@ sizesTo levels = record {
   Name = λ root used x r. admitted root used x ≡ true;
   Pattern = λ x r. isPattern (inside x) ≡ true;
   Count = λ k r. k < mostLiterals;
-  Number = λ k r. k < mostPolicies;
+  Effect = λ k r. k < mostPolicies;
   levels = levels;
 }
 
@@ -44,13 +44,13 @@ pathNumber Resource = 16
 pathNumber Env = 16
 pathNumber Action = 11
 
--- the same where Lifted n r says that the limit with the number n is not asked of a token before r
+-- document 01's limits, where Lifted n r says that the one with the number n is not asked of a token before r
 abbrev pub lifting : ℕ → (ℕ → List Lexeme → Type 0) → Limits
 lifting levels Lifted = record {
   Name = λ root used x r. (admitted root used x ≡ true) ⊎ Lifted (pathNumber root) r;
   Pattern = λ x r. (isPattern (inside x) ≡ true) ⊎ Lifted 13 r;
   Count = λ k r. (k < mostLiterals) ⊎ Lifted 14 r;
-  Number = λ k r. (k < mostPolicies) ⊎ Lifted 15 r;
+  Effect = λ k r. (k < mostPolicies) ⊎ Lifted 15 r;
   levels = levels;
 }
 
@@ -206,7 +206,7 @@ pub data PolicyRest (L : Limits) (permits : Bool) : List Lexeme → List Lexeme 
 pub data Policies (L : Limits) : List Policy → List Lexeme → List Policy → Type 0 where
   end : {ps : List Policy} → Policies L ps [] ps
   policy : {x : Lexeme} {i m : List Lexeme} {p : Policy} {ps qs : List Policy}
-    → isEffect x ≡ true → L .Number (length ps) i → PolicyRest L (is kinds.permitWord x) i m p → Policies L (ps ++ p ∷ []) m qs → Policies L ps (x ∷ i) qs
+    → isEffect x ≡ true → L .Effect (length ps) i → PolicyRest L (is kinds.permitWord x) i m p → Policies L (ps ++ p ∷ []) m qs → Policies L ps (x ∷ i) qs
 
 -- the tokens of a rule text that says these policies
 abbrev pub RuleText : Limits → List Lexeme → List Policy → Type 0
