@@ -11,7 +11,7 @@ pub data Answer (A : Type 0) : Type 0 where
   took : A → List Lexeme → Answer A
   refuse : ℕ → List Lexeme → Answer A
 
--- a reader of an A goes by the tokens that stand before it
+-- what finds an A at the front of a list of tokens
 abbrev pub Reader : Type 0 → Type 0
 Reader A = List Lexeme → Answer A
 
@@ -28,7 +28,7 @@ refuseBy number (x ∷ r) = refuse (numbered number x) (x ∷ r)
 abbrev pub ten : Lexeme → ℕ
 ten x = 10
 
--- what f reads after an answer; a refusal stays
+-- after an answer, what f reads from the tokens that are left; a refusal stays
 unfoldable pub bind : {A B : Type 0} → Answer A → (A → Reader B) → Answer B
 bind (took a r) f = f a r
 bind (refuse n r) f = refuse n r
@@ -59,6 +59,6 @@ upTo (suc n) sep next a = on (sep a) (λ x m. bind (next a x m) (upTo n sep next
 unfoldable pub onwards : {A : Type 0} → (A → Lexeme → Bool) → (A → Lexeme → Reader A) → A → Reader A
 onwards sep next a i = upTo (length i) sep next a i
 
--- what `first` reads, and then the same
+-- what `first` reads, and then any number of separators with what `next` reads after each
 unfoldable pub chain : {A : Type 0} → (A → Lexeme → Bool) → Reader A → (A → Lexeme → Reader A) → Reader A
 chain sep first next i = bind (first i) (onwards sep next)
