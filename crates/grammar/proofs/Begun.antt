@@ -38,7 +38,7 @@ pub record Eases (L M : Limits) (r s : List Lexeme) : Type 0 where
   pub name : {m n : List Lexeme} → Swap r s m n → (root : Root) (used : ℕ) (x : Lexeme) → L .Name root used x m → M .Name root used x n
   pub pattern : {m n : List Lexeme} → Swap r s m n → (x : Lexeme) → L .Pattern x m → M .Pattern x n
   pub count : {m n : List Lexeme} → Swap r s m n → (k : ℕ) → L .Count k m → M .Count k n
-  pub number : {m n : List Lexeme} → Swap r s m n → (k : ℕ) → L .Number k m → M .Number k n
+  pub effect : {m n : List Lexeme} → Swap r s m n → (k : ℕ) → L .Effect k m → M .Effect k n
   pub levels : L .levels ≡ M .levels
 
 -- ---- which limits are asked of what
@@ -61,7 +61,7 @@ abbrev pub Kept : ℕ → ℕ → List Lexeme → List Lexeme → Type 0
 Kept k n r s = 11 ≤ n → (n ≡ 12 → 1 ≤ k) → Alike r s
 
 pub eased : (k n : ℕ) (on : List Lexeme) {r s : List Lexeme} → Eases (taken k) (beyond k n on) r s
-eased k n on = record { name = λ w root used x h. inl h; pattern = λ w x h. inl h; count = λ w k h. inl h; number = λ w k h. inl h; levels = refl }
+eased k n on = record { name = λ w root used x h. inl h; pattern = λ w x h. inl h; count = λ w k h. inl h; effect = λ w k h. inl h; levels = refl }
 
 -- with s in the place of r, i is a list that R reads up to n
 abbrev pub Moved : {A : Type 0} → Reads A → (r s i n : List Lexeme) → A → Type 0

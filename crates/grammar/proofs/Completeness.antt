@@ -12,17 +12,16 @@ use borrow.Author.Tests.{eqb-true, eq-eqb, ne-eqb, leb-true}
 use Rattle.tokens.specs.Kinds as kinds
 use Rattle.tokens.proofs.TokenLaws.{never, and-left, and-right, or-cases}
 use Rattle.reading.specs.Lexemes.{Lexeme, is, choose}
-use Rattle.reading.specs.Reads.{Reads, Chain, Chain.alone, Chain.more, Onto, Onto.onto, Before, Before.ended, After.begun}
+use Rattle.reading.specs.Reads.{Reads, Chain, Chain.alone, Chain.more, Onto, Onto.onto, Before.ended, After.begun}
 use Rattle.reading.specs.Reader.{Answer, took, Reader, refuseBy, numbered, bind, on, need, mapped, upTo, onwards}
 use Rattle.reading.proofs.Readers.{Shrinks, shrinks-onto, Without, on-without, on-token, on-other}
 use Rattle.reading.proofs.Complete.{Nearly, exact, excused, nearly-bind, nearly-on, Complete, complete-mapped, complete-before, complete-chain}
 use Rattle.grammar.specs.Policies.{Span, Root, Literal, truth, Operand, attribute, literal, Tree, within, contains, both, either, Part, typed, Actions, Policy}
-use Rattle.grammar.specs.Rules.{inside, isEffect, isRoot, rootOf, isTruth, isLiteral, literalOf, isComparator, isContains, whichOf, principalTypes, resourceTypes, typeOf, isType, admitted, mostLiterals, mostPolicies, isPattern}
-use Rattle.grammar.specs.Grammar.{Limits, Path, spanned, FirstName, first, NextName, next, Names, rooted, AnOperand, given, Element, element, Simple, comparison, likeness, listed, held, call, having, Conjunction, Disjunction, Form, simple, negation, bracketed, conditional, Nothing, Condition, Typed, ResourceRest, ActionRest, When, PolicyRest, Policies, policy, RuleText}
+use Rattle.grammar.specs.Rules.{inside, isEffect, isRoot, rootOf, isTruth, isLiteral, literalOf, isComparator, isContains, whichOf, deepens, principalTypes, resourceTypes, typeOf, isType, admitted, mostLiterals, mostPolicies, isPattern}
+use Rattle.grammar.specs.Grammar.{Limits, Path, spanned, FirstName, first, NextName, next, APath, rooted, AnOperand, given, Element, element, Literals, Simple, comparison, likeness, listed, held, call, having, Conjunction, Disjunction, Form, simple, negation, bracketed, conditional, Nothing, Condition, Typed, ResourceRest, ActionRest, When, PolicyRest, Policies, policy, RuleText}
 use Rattle.grammar.specs.Grammar as grammar
 use Rattle.grammar.specs.Parser.{Way, calling, noName, bare, noLevel, noPattern, tooMany, noPolicy, fits, read-first-name, goesOn, read-next-name, read-way, noExit, spannedBy, read-path, read-attribute, read-operand, isElement, read-element, read-list, read-bare, read-in, isLike, read-pattern, read-operator, read-call, read-rest, read-rooted, read-simple, read-joined, read-conjunction, read-disjunction, read-negated, read-bracketed, read-conditional, read-deeper, read-condition, read-conditions, read-type, read-principal, read-action, read-resource, read-when, read-policy, begins, read-next-policy, atEnd, read-text}
 use Rattle.grammar.specs.Parser as parser
-use Rattle.grammar.specs.Numbers.{deepens}
 use Rattle.grammar.proofs.Begun.{made}
 use Rattle.grammar.proofs.Framing.{shrinks-element, shrinks-condition, shrinks-conjunction, shrinks-policy}
 
@@ -31,7 +30,7 @@ pub record Excuses (L : Limits) (Z : ℕ → List Lexeme → Type 0) : Type 0 wh
   pub no-name : (root : Root) (used : ℕ) (x : Lexeme) (r : List Lexeme) → x .kind ≡ kinds.name → L .Name root used x r → admitted root used x ≡ false → Z (numbered (noName root) x) (x ∷ r)
   pub no-pattern : (x : Lexeme) (r : List Lexeme) → x .kind ≡ kinds.string → L .Pattern x r → isPattern (inside x) ≡ false → Z (numbered noPattern x) (x ∷ r)
   pub too-many : (sort : Lexeme → Bool) (k : ℕ) (x : Lexeme) (r : List Lexeme) → isLiteral x ≡ true → sort x ≡ true → L .Count k r → ltb k mostLiterals ≡ false → Z (numbered (tooMany sort) x) (x ∷ r)
-  pub no-policy : (k : ℕ) (x : Lexeme) (r : List Lexeme) → isEffect x ≡ true → L .Number k r → ltb k mostPolicies ≡ false → Z (numbered noPolicy x) (x ∷ r)
+  pub no-policy : (k : ℕ) (x : Lexeme) (r : List Lexeme) → isEffect x ≡ true → L .Effect k r → ltb k mostPolicies ≡ false → Z (numbered noPolicy x) (x ∷ r)
   pub no-level : 31 < L .levels → (x : Lexeme) (r : List Lexeme) → deepens x ≡ true → Z (numbered noLevel x) (x ∷ r)
 
 abbrev Any : List Lexeme → Type 0
@@ -105,7 +104,7 @@ data NextWay (L : Limits) (exit : Lexeme → Bool) (root : Root) : Way → List 
 abbrev Ways : Limits → (Lexeme → Bool) → Root → Reads Way
 Ways L exit root = Chain goesOn (Onto (λ p. parser.Way.plain p) (FirstName L root)) (λ w d. NextWay L exit root w)
 
-ways-of : {L : Limits} {exit : Lexeme → Bool} {root : Root} {i r : List Lexeme} {p : Path} → Names L root i r p → Ways L exit root i r (parser.Way.plain p)
+ways-of : {L : Limits} {exit : Lexeme → Bool} {root : Root} {i r : List Lexeme} {p : Path} → APath L root i r p → Ways L exit root i r (parser.Way.plain p)
 unfolding goesOn
 ways-of (alone h) = alone (onto h)
 ways-of (more j e h) = more (ways-of j) e (onward h)
@@ -143,11 +142,11 @@ module _ {L : Limits} {Z : ℕ → List Lexeme → Type 0} (ok : Excuses L Z) wh
     unfolding read-way
     complete-ways j w = complete-chain goesOn _ _ (complete-first root) complete-next (λ w d. shrinks-next-way L exit root w) (λ w x m e. tt) j tt w
 
-    complete-plain : {i r : List Lexeme} {p : Path} → Names L root i r p → NoDot r → Nearly Z (parser.Way.plain p) r (read-way exit root i)
+    complete-plain : {i r : List Lexeme} {p : Path} → APath L root i r p → NoDot r → Nearly Z (parser.Way.plain p) r (read-way exit root i)
     unfolding goesOn
     complete-plain j w = complete-ways (ways-of j) w
 
-    complete-calling : {i r : List Lexeme} {d x : Lexeme} {p : Path} → Names L root i (d ∷ x ∷ r) p → d .kind ≡ kinds.dot → exit x ≡ true → Nearly Z (calling p (whichOf x)) r (read-way exit root i)
+    complete-calling : {i r : List Lexeme} {d x : Lexeme} {p : Path} → APath L root i (d ∷ x ∷ r) p → d .kind ≡ kinds.dot → exit x ≡ true → Nearly Z (calling p (whichOf x)) r (read-way exit root i)
     unfolding goesOn Without
     complete-calling {r = r} j e t = complete-ways (more (ways-of j) (eq-eqb _ _ e) (exits t)) (go r)
       where
@@ -155,11 +154,11 @@ module _ {L : Limits} {Z : ℕ → List Lexeme → Type 0} (ok : Excuses L Z) wh
         go [] = tt
         go (x ∷ r) = refl
 
-  complete-path : (root : Root) {i r : List Lexeme} {p : Path} → Names L root i r p → NoDot r → Nearly Z (spanned p) r (read-path root i)
+  complete-path : (root : Root) {i r : List Lexeme} {p : Path} → APath L root i r p → NoDot r → Nearly Z (spanned p) r (read-path root i)
   unfolding read-path spannedBy
   complete-path root j w = nearly-bind _ (complete-plain noExit (record { at = λ x e. refl }) root j w) exact
 
-  complete-attribute : {A : Type 0} (root : Root) (f : Root → Span → A) (d : Lexeme) {i r : List Lexeme} {p : Path} → d .kind ≡ kinds.dot → Names L root i r p → NoDot r
+  complete-attribute : {A : Type 0} (root : Root) (f : Root → Span → A) (d : Lexeme) {i r : List Lexeme} {p : Path} → d .kind ≡ kinds.dot → APath L root i r p → NoDot r
       → Nearly Z (f root (spanned p)) r (read-attribute root f (d ∷ i))
   unfolding read-attribute need
   complete-attribute root f d {i = i} e j w = rw (on-token (is kinds.dot) _ _ d i (eq-eqb _ _ e)) (nearly-bind _ (complete-path root j w) exact)
@@ -179,7 +178,7 @@ module _ {L : Limits} {Z : ℕ → List Lexeme → Type 0} (ok : Excuses L Z) wh
         go (element {x = x} {r = r} t c) u = nearly-on _ _ _ x r exact (λ f. ok .too-many sort (length ls) x r (sorts x t) t c (rw t at f))
 
     complete-list : {i r : List Lexeme} {ls : List Literal}
-        → Before kinds.rightSquare (Chain (λ ls. is kinds.comma) (Element L sort []) (λ ls comma. Element L sort ls)) i r ls → Nearly Z ls r (read-list sort i)
+        → Literals L sort i r ls → Nearly Z ls r (read-list sort i)
     unfolding read-list Without
     complete-list h =
         complete-before {S = Without (is kinds.comma)} (record { at = λ j w. complete-chain _ _ _ (complete-element []) (λ ls x. complete-element ls) (λ ls x. shrinks-element L sort ls) (λ ls x m e. tt) j tt w })
@@ -262,7 +261,7 @@ module _ {L : Limits} {Z : ℕ → List Lexeme → Type 0} (ok : Excuses L Z) wh
 
   -- what goes deeper than the reader does gets an excused refusal
   too-deep : {R : Reads Tree} → 31 < L .levels → {i r : List Lexeme} {t : Tree} → Form L R i r t → Free r → Nearly Z t r (read-simple (refuseBy noLevel) i)
-  unfolding read-simple refuseBy deepens
+  unfolding read-simple refuseBy
   too-deep l (simple h) f = complete-simple _ h f
   too-deep l (negation {x = x} {i = i} e h) f = rw (on-other isLiteral _ _ x i (rw e), on-other isRoot _ _ x i (rw e)) (excused (ok .no-level l x i (rw e)))
   too-deep l (bracketed {x = x} {i = i} e h) f = rw (on-other isLiteral _ _ x i (rw e), on-other isRoot _ _ x i (rw e)) (excused (ok .no-level l x i (rw e)))

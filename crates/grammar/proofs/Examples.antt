@@ -116,6 +116,21 @@ pub record Computed : Type 0 where
       × (ofBytes (bytes "permit(principal,action in[" ++ times 16 (bytes "\"a\",") ++ bytes "\"a\"],resource);") ≡ refused 14 (place 1 92))
       × (ofBytes (bytes "permit(principal,action in[" ++ times 16 (bytes "\"a\",") ++ bytes "1],resource);") ≡ refused 10 (place 1 92))
 
+  -- word 64 bytes, string 127, number 15 digits, path 64 bytes with its dots, pattern 100 bytes and 5 wildcards: at the size, and one above
+  pub at-the-sizes :
+      (when (bytes "env." ++ times 64 (bytes "w") ++ bytes "==1") ≡ policies 1)
+      × (when (bytes "env." ++ times 65 (bytes "w") ++ bytes "==1") ≡ refused 6 (place 1 43))
+      × (when (bytes "1==\"" ++ times 127 (bytes "s") ++ bytes "\"") ≡ policies 1)
+      × (when (bytes "1==\"" ++ times 128 (bytes "s") ++ bytes "\"") ≡ refused 6 (place 1 42))
+      × (when (bytes "1==-12345678901234.5") ≡ policies 1)
+      × (when (bytes "1==-123456789012345.6") ≡ refused 6 (place 1 42))
+      × (when (bytes "env." ++ times 62 (bytes "w") ++ bytes " . a==1") ≡ policies 1)
+      × (when (bytes "env." ++ times 62 (bytes "w") ++ bytes " . ab==1") ≡ refused 16 (place 1 108))
+      × (when (bytes "1 like\"" ++ times 100 (bytes "a") ++ bytes "\"") ≡ policies 1)
+      × (when (bytes "1 like\"" ++ times 101 (bytes "a") ++ bytes "\"") ≡ refused 13 (place 1 45))
+      × (when (bytes "1 like\"*?*?*\"") ≡ policies 1)
+      × (when (bytes "1 like\"*?*?*?\"") ≡ refused 13 (place 1 45))
+
   -- a text has at most 64 policies
   pub sixty-four :
       (seen [] (read-text (times 64 plainest)) ≡ policies 64) × (read-text (times 65 plainest) ≡ refuse 15 plainest)
@@ -130,5 +145,6 @@ computed = record {
   rulings = (refl, refl, refl, refl, refl, refl, refl, refl, refl, refl, refl, refl);
   levels = (refl, refl, refl, refl, refl, refl);
   lists = (refl, refl, refl, refl, refl);
+  at-the-sizes = (refl, refl, refl, refl, refl, refl, refl, refl, refl, refl, refl, refl);
   sixty-four = (refl, refl);
 }

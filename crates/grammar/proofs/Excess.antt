@@ -5,17 +5,14 @@ use mathlib.Core.List.{List, [], _∷_, _++_, append-cancel-right}
 use Prim.Native.Nat.{ℕ, _≤_, _<_}
 use native.Mathlib.Omega.{arith}
 use lib.ListN.{length}
-use borrow.Author.Tests.{ltb-false}
-use Rattle.tokens.proofs.TokenLaws.{never}
 use Rattle.reading.specs.Lexemes.{Lexeme}
 use Rattle.reading.specs.Reader.{refuse}
 use Rattle.reading.proofs.Local.{same}
-use Rattle.grammar.specs.Rules.{mostLiterals, mostPolicies}
-use Rattle.grammar.specs.Grammar.{pathNumber, lifting}
+use Rattle.grammar.specs.Grammar.{lifting}
 use Rattle.grammar.specs.Parser.{read-text}
 use Rattle.grammar.specs.Lowest.{Under}
-use Rattle.grammar.proofs.Limits.{name-number, path-limit, string-number, literal-number, effect-number, level-number}
 use Rattle.grammar.proofs.Completeness.{Excuses}
+use Rattle.grammar.proofs.Exactly.{lifted-excuses}
 use Rattle.grammar.proofs.Refused.{near-text, refused-again}
 use Rattle.grammar.proofs.Theorems.{cut}
 
@@ -26,19 +23,10 @@ data Excused (Asked : ℕ → Type 0) (on : List Lexeme) : ℕ → List Lexeme �
   lifted : {n : ℕ} {s : List Lexeme} → 11 ≤ n → ¬ Asked n → Excused Asked on n s
   further : {n : ℕ} {s : List Lexeme} → length s ≤ length on → Excused Asked on n s
 
-module _ (Asked : ℕ → Type 0) (on : List Lexeme) where
-  excused : (n m : ℕ) (x : Lexeme) (r : List Lexeme) → n ≡ m → 11 ≤ m → (¬ Asked m) ⊎ (length r < length on) → Excused Asked on n (x ∷ r)
-  excused n m x r e l (inl f) = rw e (lifted l f)
-  excused n m x r e l (inr k) = further k
-
-  excuses : (levels : ℕ) → (Asked 12 → levels ≤ 31) → Excuses (lifting levels (λ n r. (¬ Asked n) ⊎ (length r < length on))) (Excused Asked on)
-  excuses levels shallow = record {
-    no-name = λ root used x r e h u. elim h [ inl t ↦ absurd (never (rw u at t)) | inr g ↦ excused _ (pathNumber root) x r (name-number root x e) (path-limit root) g ];
-    no-pattern = λ x r e h u. elim h [ inl t ↦ absurd (never (rw u at t)) | inr g ↦ excused _ 13 x r (string-number x e) (omega arith) g ];
-    too-many = λ sort k x r q t h u. elim h [ inl c ↦ absurd (let l = ltb-false k mostLiterals u in omega arith) | inr g ↦ excused _ 14 x r (literal-number sort x q t) (omega arith) g ];
-    no-policy = λ k x r t h u. elim h [ inl c ↦ absurd (let l = ltb-false k mostPolicies u in omega arith) | inr g ↦ excused _ 15 x r (effect-number x t) (omega arith) g ];
-    no-level = λ l x r t. excused _ 12 x r (level-number x t) (omega arith) (inl (λ a. let m = shallow a in omega arith));
-  }
+excuses : (Asked : ℕ → Type 0) (on : List Lexeme) (levels : ℕ) → (Asked 12 → levels ≤ 31) → Excuses (lifting levels (λ n r. (¬ Asked n) ⊎ (length r < length on))) (Excused Asked on)
+excuses Asked on levels shallow =
+    lifted-excuses levels (λ n r. (¬ Asked n) ⊎ (length r < length on)) (Excused Asked on)
+    (λ n x r l h. elim h [ inl f ↦ lifted l f | inr k ↦ further k ]) (λ l x r. lifted (omega arith) (λ a. let m = shallow a in omega arith))
 
 -- ---- the law
 

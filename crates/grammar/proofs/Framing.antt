@@ -8,18 +8,18 @@ use native.Mathlib.Omega.{arith}
 use lib.ListN.{length}
 use Rattle.tokens.specs.Kinds as kinds
 use Rattle.reading.specs.Lexemes.{Lexeme, is}
-use Rattle.reading.specs.Reads.{Reads, Chain, Before, Before.ended, After, After.begun}
+use Rattle.reading.specs.Reads.{Reads, Before, Before.ended, After, After.begun}
 use Rattle.reading.proofs.Readers.{Shrinks, shrinks-onto, shrinks-before, shrinks-chain}
 use Rattle.grammar.specs.Policies.{Root, Literal, Operand, Tree, both, either, Part, Actions, Policy}
 use Rattle.grammar.specs.Rules.{isLiteral, principalTypes, resourceTypes}
-use Rattle.grammar.specs.Grammar.{Limits, Path, FirstName, first, NextName, next, Names, Attribute, rooted, AnOperand, given, Element, element, Listing, Simple, comparison, likeness, listed, held, call, having, Conjunction, Disjunction, Form, simple, negation, bracketed, conditional, Nothing, Condition, Typed, ResourceRest, ActionRest, When, PolicyRest}
+use Rattle.grammar.specs.Grammar.{Limits, Path, FirstName, first, NextName, next, APath, Attribute, rooted, AnOperand, given, Element, element, Literals, Listing, Simple, comparison, likeness, listed, held, call, having, Conjunction, Disjunction, Form, simple, negation, bracketed, conditional, Nothing, Condition, Typed, ResourceRest, ActionRest, When, PolicyRest}
 use Rattle.grammar.specs.Grammar as grammar
 use Rattle.grammar.proofs.Begun.{Family, Swap, step, Moved, Eases, Framed, framed-onto, framed-before, framed-after, framed-chain}
 
 -- ---- each thing has a token
 
 module _ (L : Limits) where
-  pub shrinks-names : (root : Root) → Shrinks (Names L root)
+  pub shrinks-names : (root : Root) → Shrinks (APath L root)
   shrinks-names root = shrinks-chain (record { at = one }) (λ p d. record { at = another })
     where
       one : {i r : List Lexeme} {p : Path} → FirstName L root i r p → length r < length i
@@ -109,7 +109,7 @@ module _ (L : Limits) where
 
 -- ---- another rest, and less asked
 
-pub framed-names : (root : Root) → Framed (λ L. Names L root)
+pub framed-names : (root : Root) → Framed (λ L. APath L root)
 framed-names root = framed-chain (record { at = one }) (λ p d. record { at = another })
   where
     one : {L M : Limits} {r s i m n : List Lexeme} {p : Path} → Eases L M r s → FirstName L root i m p → Swap r s m n → Moved (FirstName M root) r s i n p
@@ -137,7 +137,7 @@ framed-element sort ls = record { at = go }
     go : {L M : Limits} {r s i m n : List Lexeme} {ks : List Literal} → Eases L M r s → Element L sort ls i m ks → Swap r s m n → Moved (Element M sort ls) r s i n ks
     go e (element t c) w = (_, step w, element t (e .count w _ c))
 
-pub framed-list : (sort : Lexeme → Bool) → Framed (λ L. Before kinds.rightSquare (Chain (λ ls. is kinds.comma) (Element L sort []) (λ ls comma. Element L sort ls)))
+pub framed-list : (sort : Lexeme → Bool) → Framed (λ L. Literals L sort)
 framed-list sort = framed-before (framed-chain (framed-element sort []) (λ ls x. framed-element sort ls)) kinds.rightSquare
 
 framed-listing : (sort : Lexeme → Bool) → Framed (λ L. Listing L sort)

@@ -13,10 +13,9 @@ use Rattle.reading.specs.Reader.{numbered, refuseBy}
 use Rattle.reading.proofs.Local.{same}
 use Rattle.reading.proofs.Readers.{Goes, goes-refuseBy, number-below}
 use Rattle.grammar.specs.Policies.{Root, Root.Principal, Root.Resource, Root.Env, Root.Action}
-use Rattle.grammar.specs.Rules.{isEffect, isReserved, isLiteral}
+use Rattle.grammar.specs.Rules.{isEffect, isReserved, isLiteral, endsBare, deepens}
 use Rattle.grammar.specs.Grammar.{pathNumber}
 use Rattle.grammar.specs.Parser.{noName, bare, noType, noLevel, noPattern, tooMany, noPolicy}
-use Rattle.grammar.specs.Numbers.{endsBare, deepens}
 use Rattle.grammar.proofs.Begun.{made, Beyond, Kept, few}
 
 -- ---- the number of each limit
@@ -44,14 +43,10 @@ is-token test f k t = go (ltb k 7) refl
     go false e = e
 
 pub name-number : (root : Root) (x : Lexeme) → x .kind ≡ kinds.name → numbered (noName root) x ≡ pathNumber root
-unfolding numbered noName pathNumber
-name-number Principal x e = rw e
-name-number Resource x e = rw e
-name-number Env x e = rw e
-name-number Action x e = rw e
+unfolding numbered noName
+name-number root x e = rw e
 
 pub path-limit : (root : Root) → 11 ≤ pathNumber root
-unfolding pathNumber
 path-limit Principal = omega arith
 path-limit Resource = omega arith
 path-limit Env = omega arith
@@ -70,7 +65,7 @@ unfolding numbered noPolicy
 effect-number x t = rw (is-token (λ k. isEffect (made k)) (refl, refl, refl, refl, refl, refl, refl) (x .kind) t, t)
 
 pub level-number : (x : Lexeme) → deepens x ≡ true → numbered noLevel x ≡ 12
-unfolding numbered noLevel deepens
+unfolding numbered noLevel
 level-number x t = rw (is-token (λ k. deepens (made k)) (refl, refl, refl, refl, refl, refl, refl) (x .kind) t, t)
 
 -- ---- other numbers
@@ -80,7 +75,7 @@ one-below true m n l k = l
 one-below false m n l k = k
 
 pub bare-below : (x : Lexeme) → bare x < 11
-unfolding bare endsBare
+unfolding bare
 bare-below x = one-below (endsBare x) 8 10 (omega arith) (omega arith)
 
 pub type-below : (x : Lexeme) → noType x < 11
@@ -89,10 +84,7 @@ type-below x = one-below (is kinds.name x) 9 10 (omega arith) (omega arith)
 
 pub name-below : (root : Root) (x : Lexeme) → is kinds.name x ≡ false → noName root x < 11
 unfolding noName
-name-below Principal x e = rw e (one-below (isReserved x) 7 10 (omega arith) (omega arith))
-name-below Resource x e = rw e (one-below (isReserved x) 7 10 (omega arith) (omega arith))
-name-below Env x e = rw e (one-below (isReserved x) 7 10 (omega arith) (omega arith))
-name-below Action x e = rw e (one-below (isReserved x) 7 10 (omega arith) (omega arith))
+name-below root x e = rw e (one-below (isReserved x) 7 10 (omega arith) (omega arith))
 
 pub pattern-below : (x : Lexeme) → is kinds.string x ≡ false → noPattern x < 11
 unfolding noPattern
@@ -107,7 +99,7 @@ unfolding noPolicy
 effect-below x e = rw e (omega arith)
 
 pub level-below : (x : Lexeme) → deepens x ≡ false → noLevel x < 11
-unfolding noLevel deepens
+unfolding noLevel
 level-below x e = rw e (omega arith)
 
 -- ---- what goes on where a limit refuses

@@ -1,10 +1,10 @@
 -- Each refusal of the reader of rule texts has the number that the table says. Assumes nothing.
 use mathlib.Core.Path.{_≡_, refl, ap, _∙_}
-use mathlib.Core.Bool.{Bool, true, false, _&&_, _||_}
+use mathlib.Core.Bool.{Bool, true, false, _&&_, _||_, and-true, and-false, or-true}
 use mathlib.Core.List.{List, [], _∷_, _++_, reverse, reverseAux}
 use Prim.Native.Nat.{ℕ, zero, suc, _≤_}
 use native.Mathlib.Omega.{arith}
-use lib.Dec.{ltb}
+use lib.Dec.{eqb, ltb}
 use lib.ListN.{length, length-append}
 use borrow.Author.Tests.{eqb-true, ltb-true}
 use Rattle.tokens.specs.Kinds as kinds
@@ -16,12 +16,12 @@ use Rattle.grammar.specs.Policies.{Span, Root, Literal, text, number, tr
 use Rattle.grammar.specs.Rules.{isEffect, isRoot, rootOf, isLiteral, literalOf, isComparator, isContains, principalTypes, resourceTypes, mostLiterals}
 use Rattle.grammar.specs.Grammar.{Path}
 use Rattle.grammar.specs.Parser.{Way, plain, calling, noName, bare, noType, noLevel, noPattern, tooMany, noPolicy, fits, read-first-name, goesOn, read-next-name, read-way, noExit, read-path, read-attribute, read-operand, isElement, read-element, read-list, read-bare, read-in, isLike, read-pattern, read-operator, read-call, read-rest, read-rooted, read-simple, read-joined, read-conjunction, read-disjunction, read-negated, read-bracketed, read-conditional, read-deeper, read-condition, read-conditions, read-type, read-principal, read-action, read-resource, read-when, read-policy, begins, read-next-policy, atEnd, read-text}
-use Rattle.grammar.specs.Numbers.{behind, atCondition, afterLeft, actionIn, oneMore, deepens, numberOf, numberAt, NumberedRightly}
+use Rattle.grammar.specs.Numbers.{behind, atCondition, afterLeft, actionIn, oneMore, numberOf, numberAt, NumberedRightly}
 use Rattle.grammar.proofs.Begun.{made}
 use Rattle.grammar.proofs.Completeness.{other-kind}
 use Rattle.grammar.proofs.Steps.{policies-step}
 use Rattle.grammar.proofs.Telling.{Past, here, step, Places, Told, good, stops, Tells, tells-weaker, tells-took, tells-refuseBy, tells-bind, Stepped, stepped, tells-on, Plain, tells-ten, tells-need, tells-before, tells-mapped, tells-onwards, tells-chain}
-use Rattle.grammar.proofs.Spots.{Place, Quiet, Begins, Left, quiet-ten, begins-deepest, begins-ten, left-bare, type-number, pattern-number, policy-number, at-kind, quiet-root, quiet-literal, quiet-comparator, quiet-contains, quiet-effect, quiet-round, quiet-comma, at-left, begins-round, OnPath, dotted, had, longer, path-number, Named, named, named-place, InList, opened, further, element-number}
+use Rattle.grammar.proofs.Spots.{Spot, Quiet, AtCondition, Left, quiet-ten, begins-deepest, begins-ten, left-bare, type-number, pattern-number, policy-number, opens, at-kind, quiet-root, quiet-literal, quiet-comparator, quiet-contains, quiet-effect, quiet-round, quiet-comma, at-left, begins-round, OnPath, dotted, had, longer, path-number, Named, named, named-place, InList, opened, further, element-number}
 
 -- places by what stands before them
 abbrev At : (List Lexeme → Type 0) → Places
@@ -32,6 +32,11 @@ Ends K a c i = K c
 
 quietly : Plain (At Quiet)
 quietly = record { at = λ c i h x. quiet-ten h x }
+
+-- behind a token of the kind k, which is no name, no comma and no `(`
+behind-kind : (k : ℕ) → (eqb k kinds.name ≡ false) × (eqb k kinds.comma ≡ false) × (eqb k kinds.leftRound ≡ false) → {P : Places} {x : Lexeme} {c i : List Lexeme} → x .kind ≡ k → Stepped x P c i
+    → Spot (eqb k kinds.dot || eqb k kinds.hasWord) false (eqb k kinds.isWord) (opens k) (eqb k kinds.likeWord) (eqb k kinds.semicolon) c
+behind-kind k h e (stepped q) = at-kind k h _ _ e
 
 -- ---- paths
 
@@ -109,8 +114,8 @@ tells-operand =
     root t (stepped h) = right t (h .0)
 
 -- behind one part of a target, or a list
-abbrev Part : List Lexeme → Type 0
-Part c = Quiet c × (behind isLiteral c ≡ false)
+abbrev BehindPart : List Lexeme → Type 0
+BehindPart c = Quiet c × (behind isLiteral c ≡ false)
 
 -- behind a literal of a list that so has the literals ls
 data Listed (sort : Lexeme → Bool) (ls : List Literal) : List Lexeme → Type 0 where
@@ -126,7 +131,7 @@ module _ (sort : Lexeme → Bool) (sorts : (x : Lexeme) → sort x ≡ true → 
           let a = length-append ls (literalOf x ∷ []) in let b = ltb-true (length ls) mostLiterals (and-right (sort x) _ t) in
           listed (h .0) (omega arith) (omega arith) (sorts x (and-left _ _ t))
 
-  tells-list : Tells (At (InList sort 0)) (read-list sort) (Ends Part)
+  tells-list : Tells (At (InList sort 0)) (read-list sort) (Ends BehindPart)
   unfolding read-list behind
   tells-list = tells-before kinds.rightSquare _
       (tells-chain (λ ls. is kinds.comma) _ (λ ls y e. tells-weaker (tells-element ls) (λ c i h. go (eqb-true _ _ e) h) (λ ks c i h. h)) _
@@ -163,28 +168,18 @@ no-action-in : (w : Lexeme) (c : List Lexeme) → NoAction c → actionIn (w ∷
 unfolding behind actionIn
 no-action-in w [] e = refl
 no-action-in w (a ∷ c) e = rw e (and-false (is kinds.inWord w))
-  where
-    and-false : (b : Bool) → (b && false) ≡ false
-    and-false true = refl
-    and-false false = refl
 
 tells-operator : (a : Operand) (K : List Lexeme → Type 0) → Tells (At K) (read-bare a) (Ends Quiet) → Tells (λ c i. K c × NoAction c) (read-operator a) (Ends Quiet)
 unfolding read-operator read-pattern isLike
 tells-operator a K b =
     tells-on _ _ _ (λ x t. tells-mapped _ _ (tells-weaker tells-operand (λ c i h. compared t h) (λ v c i h. h)))
     (tells-on _ _ _
-    (λ x t. tells-on _ _ _ (λ y u. tells-took _ (λ c i h. matched (eqb-true _ _ (and-left _ _ u)) h)) (tells-refuseBy noPattern (λ c r y h. pattern-number (liked (eqb-true _ _ t) (h .0)) y)))
+    (λ x t. tells-on _ _ _ (λ y u. tells-took _ (λ c i h. behind-kind kinds.string (refl, refl, refl) (eqb-true _ _ (and-left _ _ u)) h)) (tells-refuseBy noPattern (λ c r y h. pattern-number (behind-kind kinds.likeWord (refl, refl, refl) (eqb-true _ _ t) (h .0)) y)))
     (tells-on _ _ _ (λ x t. tells-weaker (tells-in a) (λ c i h. held (eqb-true _ _ t) h) (λ v c i h. h))
     (tells-weaker b (λ c i h. h .0 .0 .0 .0) (λ v c i h. h))))
   where
     compared : {x : Lexeme} {P : Places} {c i : List Lexeme} → isComparator x ≡ true → Stepped x P c i → Quiet c
     compared t (stepped h) = quiet-comparator _ _ t
-
-    matched : {x : Lexeme} {P : Places} {c i : List Lexeme} → x .kind ≡ kinds.string → Stepped x P c i → Quiet c
-    matched e (stepped h) = at-kind kinds.string (refl, refl, refl) _ _ e
-
-    liked : {x : Lexeme} {P : Places} {c i : List Lexeme} → x .kind ≡ kinds.likeWord → Stepped x P c i → Place false false false false true false c
-    liked e (stepped h) = at-kind kinds.likeWord (refl, refl, refl) _ _ e
 
     held : {x : Lexeme} {c i : List Lexeme} → x .kind ≡ kinds.inWord → Stepped x (λ c i. ((K c × NoAction c) × Without isComparator i) × Without (is kinds.likeWord) i) c i → Quiet c × (actionIn c ≡ false)
     held {x = x} e (stepped h) = (at-kind kinds.inWord (refl, refl, refl) x _ e, no-action-in x _ (h .0 .0 .1))
@@ -203,10 +198,6 @@ tells-call w root p =
   where
     quiet : {c : List Lexeme} → Called c → Quiet c
     quiet (word t) = quiet-contains _ _ t
-
-    or-true : (b : Bool) → (b || true) ≡ true
-    or-true true = refl
-    or-true false = refl
 
     round : {o : Lexeme} {c i : List Lexeme} → o .kind ≡ kinds.leftRound → Stepped o (At Called) c i → Quiet c
     round {o = o} e (stepped (word {x = x} t)) = quiet-round o _ e (rw t (or-true (isEffect x)))
@@ -227,7 +218,7 @@ tells-rest root (calling p w) = tells-weaker (tells-call w root _) (λ c i h. go
 
 -- behind a root where a condition begins
 data LeftRoot : Root → List Lexeme → Type 0 where
-  leads : {x : Lexeme} {c : List Lexeme} → isRoot x ≡ true → Begins c → LeftRoot (rootOf x) (x ∷ c)
+  leads : {x : Lexeme} {c : List Lexeme} → isRoot x ≡ true → AtCondition c → LeftRoot (rootOf x) (x ∷ c)
 
 tells-rooted : (root : Root) → Tells (At (LeftRoot root)) (read-rooted root) (Ends Quiet)
 unfolding read-rooted
@@ -256,58 +247,54 @@ tells-bare (truth b) = tells-took _ (λ c i h. h)
 tells-bare (text s) = tells-ten quietly
 tells-bare (number s) = tells-ten quietly
 
-tells-simple : (deeper : Reader Tree) → Tells (λ c i. (Begins c × Without isLiteral i) × Without isRoot i) deeper (Ends Quiet) → Tells (At Begins) (read-simple deeper) (Ends Quiet)
+tells-simple : (deeper : Reader Tree) → Tells (λ c i. (AtCondition c × Without isLiteral i) × Without isRoot i) deeper (Ends Quiet) → Tells (At AtCondition) (read-simple deeper) (Ends Quiet)
 unfolding read-simple behind
 tells-simple deeper d =
     tells-on _ _ _ (λ x t. tells-weaker (tells-operator _ Quiet (tells-bare (literalOf x))) (λ c i h. go t h) (λ u c i h. h))
     (tells-on _ _ _ (λ x t. tells-weaker (tells-rooted (rootOf x)) (λ c i h. root t h) (λ u c i h. h)) d)
   where
-    go : {x : Lexeme} {c i : List Lexeme} → isLiteral x ≡ true → Stepped x (At Begins) c i → Quiet c × NoAction c
+    go : {x : Lexeme} {c i : List Lexeme} → isLiteral x ≡ true → Stepped x (At AtCondition) c i → Quiet c × NoAction c
     go {x = x} t (stepped h) = (quiet-literal x _ t, other-kind (λ k. isLiteral (made k)) (x .kind) kinds.actionWord t refl)
 
-    root : {x : Lexeme} {c i : List Lexeme} → isRoot x ≡ true → Stepped x (λ c i. Begins c × Without isLiteral i) c i → LeftRoot (rootOf x) c
+    root : {x : Lexeme} {c i : List Lexeme} → isRoot x ≡ true → Stepped x (λ c i. AtCondition c × Without isLiteral i) c i → LeftRoot (rootOf x) c
     root t (stepped h) = leads t (h .0)
 
--- behind a token of the kind k a condition begins
-begins-at : (k : ℕ) → ((x : Lexeme) (c : List Lexeme) → x .kind ≡ k → Begins (x ∷ c)) → {P : Places} {x : Lexeme} {c i : List Lexeme} → x .kind ≡ k → Stepped x P c i → Begins c
-begins-at k f e (stepped h) = f _ _ e
-
-module _ {p : Reader Tree} (t : Tells (At Begins) p (Ends Quiet)) where
+module _ {p : Reader Tree} (t : Tells (At AtCondition) p (Ends Quiet)) where
   -- at any place that a condition begins at
-  here-begins : {P : Places} → ((c i : List Lexeme) → P c i → Begins c) → Tells P p (Ends Quiet)
+  here-begins : {P : Places} → ((c i : List Lexeme) → P c i → AtCondition c) → Tells P p (Ends Quiet)
   here-begins f = tells-weaker t f (λ u c i h. h)
 
-  tells-conjunction : Tells (At Begins) (read-conjunction p) (Ends Quiet)
+  tells-conjunction : Tells (At AtCondition) (read-conjunction p) (Ends Quiet)
   unfolding read-conjunction read-joined
-  tells-conjunction = tells-chain (λ a. is kinds.and) _ (λ a x e. tells-mapped (both a) p (here-begins (λ c i h. begins-at kinds.and (at-kind kinds.and (refl, refl, refl)) (eqb-true _ _ e) h))) _ t
+  tells-conjunction = tells-chain (λ a. is kinds.and) _ (λ a x e. tells-mapped (both a) p (here-begins (λ c i h. behind-kind kinds.and (refl, refl, refl) (eqb-true _ _ e) h))) _ t
 
-  tells-disjunction : Tells (At Begins) (read-disjunction p) (Ends Quiet)
+  tells-disjunction : Tells (At AtCondition) (read-disjunction p) (Ends Quiet)
   unfolding read-disjunction read-joined
   tells-disjunction =
       tells-chain (λ a. is kinds.or) _
-      (λ a x e. tells-mapped (either a) _ (tells-weaker tells-conjunction (λ c i h. begins-at kinds.or (at-kind kinds.or (refl, refl, refl)) (eqb-true _ _ e) h) (λ u c i h. h))) _ tells-conjunction
+      (λ a x e. tells-mapped (either a) _ (tells-weaker tells-conjunction (λ c i h. behind-kind kinds.or (refl, refl, refl) (eqb-true _ _ e) h) (λ u c i h. h))) _ tells-conjunction
 
-  tells-conditional : {P : Places} → ((c i : List Lexeme) → P c i → Begins c) → Tells P (read-conditional p) (Ends Quiet)
+  tells-conditional : {P : Places} → ((c i : List Lexeme) → P c i → AtCondition c) → Tells P (read-conditional p) (Ends Quiet)
   unfolding read-conditional
   tells-conditional f =
-      tells-bind _ (tells-before kinds.thenWord p {Mid = Ends Quiet} {Post = Ends Begins} (here-begins f) (λ a. quietly) (λ a x c r e h. at-kind kinds.thenWord (refl, refl, refl) x c e)) (λ c.
-      tells-bind _ (tells-before kinds.elseWord p {Mid = Ends Quiet} {Post = Ends Begins} t (λ a. quietly) (λ a x c r e h. at-kind kinds.elseWord (refl, refl, refl) x c e)) (λ a.
+      tells-bind _ (tells-before kinds.thenWord p {Mid = Ends Quiet} {Post = Ends AtCondition} (here-begins f) (λ a. quietly) (λ a x c r e h. at-kind kinds.thenWord (refl, refl, refl) x c e)) (λ c.
+      tells-bind _ (tells-before kinds.elseWord p {Mid = Ends Quiet} {Post = Ends AtCondition} t (λ a. quietly) (λ a x c r e h. at-kind kinds.elseWord (refl, refl, refl) x c e)) (λ a.
       tells-mapped _ p t))
 
-  tells-deeper : Tells (At Begins) (read-deeper p) (Ends Quiet)
-  unfolding read-deeper read-negated read-bracketed Without deepens
+  tells-deeper : Tells (At AtCondition) (read-deeper p) (Ends Quiet)
+  unfolding read-deeper read-negated read-bracketed Without
   tells-deeper =
-      tells-on _ _ _ (λ x e. tells-mapped _ p (here-begins (λ c i h. begins-at kinds.bang (at-kind kinds.bang (refl, refl, refl)) (eqb-true _ _ e) h)))
+      tells-on _ _ _ (λ x e. tells-mapped _ p (here-begins (λ c i h. behind-kind kinds.bang (refl, refl, refl) (eqb-true _ _ e) h)))
       (tells-on _ _ _
       (λ x e. tells-mapped _ _ (tells-before kinds.rightRound _ {Mid = Ends Quiet} (tells-weaker tells-disjunction (λ c i h. bracket (eqb-true _ _ e) h) (λ u c i h. h)) (λ u. quietly)
       (λ u x c r e h. at-kind kinds.rightRound (refl, refl, refl) x c e)))
-      (tells-on _ _ _ (λ x e. tells-conditional (λ c i h. begins-at kinds.ifWord (at-kind kinds.ifWord (refl, refl, refl)) (eqb-true _ _ e) h))
+      (tells-on _ _ _ (λ x e. tells-conditional (λ c i h. behind-kind kinds.ifWord (refl, refl, refl) (eqb-true _ _ e) h))
       (tells-refuseBy ten (λ c r x h. begins-ten (h .0 .0 .0) x (rw (h .0 .0 .1, h .0 .1, h .1))))))
     where
-      bracket : {x : Lexeme} {c i : List Lexeme} → x .kind ≡ kinds.leftRound → Stepped x (λ c i. Begins c × Without (is kinds.bang) i) c i → Begins c
+      bracket : {x : Lexeme} {c i : List Lexeme} → x .kind ≡ kinds.leftRound → Stepped x (λ c i. AtCondition c × Without (is kinds.bang) i) c i → AtCondition c
       bracket e (stepped h) = begins-round _ e (h .0)
 
-tells-condition : (d : ℕ) → Tells (At Begins) (read-condition d) (Ends Quiet)
+tells-condition : (d : ℕ) → Tells (At AtCondition) (read-condition d) (Ends Quiet)
 unfolding read-condition
 tells-condition zero = tells-simple _ (tells-refuseBy noLevel (λ c r x h. begins-deepest (h .0 .0) x))
 tells-condition (suc d) = tells-simple _ (tells-weaker (tells-deeper (tells-condition d)) (λ c i h. h .0 .0) (λ u c i h. h))
@@ -315,45 +302,42 @@ tells-condition (suc d) = tells-simple _ (tells-weaker (tells-deeper (tells-cond
 -- ---- policies
 
 -- behind a token of the kind k
-data After (k : ℕ) : List Lexeme → Type 0 where
-  after : {x : Lexeme} {c : List Lexeme} → x .kind ≡ k → After k (x ∷ c)
+data Behind (k : ℕ) : List Lexeme → Type 0 where
+  after : {x : Lexeme} {c : List Lexeme} → x .kind ≡ k → Behind k (x ∷ c)
 
-stepped-after : {k : ℕ} {P : Places} {x : Lexeme} {c i : List Lexeme} → x .kind ≡ k → Stepped x P c i → After k c
+stepped-after : {k : ℕ} {P : Places} {x : Lexeme} {c i : List Lexeme} → x .kind ≡ k → Stepped x P c i → Behind k c
 stepped-after e (stepped h) = after e
 
 -- behind a token of this kind there is no literal, and nothing to tell
-after-part : (k : ℕ) → isLiteral (made k) ≡ false → ((x : Lexeme) (c : List Lexeme) → x .kind ≡ k → Quiet (x ∷ c)) → {c : List Lexeme} → After k c → Part c
+after-part : (k : ℕ) → isLiteral (made k) ≡ false → ((x : Lexeme) (c : List Lexeme) → x .kind ≡ k → Quiet (x ∷ c)) → {c : List Lexeme} → Behind k c → BehindPart c
 unfolding behind
 after-part k f q (after {x = x} e) = (q x _ e, rw e f)
 
-tells-type : (types : List (List ℕ)) → Tells (At (After kinds.isWord)) (read-type types) (Ends Part)
+tells-type : (types : List (List ℕ)) → Tells (At (Behind kinds.isWord)) (read-type types) (Ends BehindPart)
 unfolding read-type behind afterLeft
 tells-type types = tells-on _ _ _ (λ x t. tells-took _ (λ c i h. go (eqb-true _ _ (and-left _ _ t)) h)) (tells-refuseBy noType (λ c r x h. type-number (place (h .0)) x))
   where
-    place : {c : List Lexeme} → After kinds.isWord c → Place false false true false false false c
+    place : {c : List Lexeme} → Behind kinds.isWord c → Spot false false true false false false c
     place (after e) = at-kind kinds.isWord (refl, refl, refl) _ _ e
 
-    go : {x : Lexeme} {c i : List Lexeme} → x .kind ≡ kinds.name → Stepped x (At (After kinds.isWord)) c i → Part c
+    go : {x : Lexeme} {c i : List Lexeme} → x .kind ≡ kinds.name → Stepped x (At (Behind kinds.isWord)) c i → BehindPart c
     go {x = x} e (stepped (after {x = y} {c = c} k)) = (at-left false x (y ∷ c) e (rw (e, k)), rw e)
 
-tells-principal : Tells (At Part) read-principal (Ends Part)
+tells-principal : Tells (At BehindPart) read-principal (Ends BehindPart)
 unfolding read-principal
 tells-principal = tells-on _ _ _ (λ x e. tells-weaker (tells-type principalTypes) (λ c i h. stepped-after (eqb-true _ _ e) h) (λ p c i h. h)) (tells-took _ (λ c i h. h .0))
 
-tells-action : Tells (At (After kinds.actionWord)) read-action (Ends Part)
+tells-action : Tells (At (Behind kinds.actionWord)) read-action (Ends BehindPart)
 unfolding read-action actionIn
 tells-action =
-    tells-on _ _ _ (λ w e. tells-need kinds.leftSquare _ (record { at = λ c i h x. quiet-ten (quiet (eqb-true _ _ e) h) x }) (λ s k.
+    tells-on _ _ _ (λ w e. tells-need kinds.leftSquare _ (record { at = λ c i h x. quiet-ten (behind-kind kinds.inWord (refl, refl, refl) (eqb-true _ _ e) h) x }) (λ s k.
     tells-mapped _ _ (tells-weaker (tells-list (is kinds.string) strings) (λ c i h. list (eqb-true _ _ e) k h) (λ ls c i h. h))))
     (tells-took _ (λ c i h. after-part kinds.actionWord refl (at-kind kinds.actionWord (refl, refl, refl)) (h .0)))
   where
     strings : (x : Lexeme) → is kinds.string x ≡ true → isLiteral x ≡ true
     strings x e = rw e
 
-    quiet : {w : Lexeme} {c i : List Lexeme} → w .kind ≡ kinds.inWord → Stepped w (At (After kinds.actionWord)) c i → Quiet c
-    quiet e (stepped h) = at-kind kinds.inWord (refl, refl, refl) _ _ e
-
-    list : {w s : Lexeme} {c i : List Lexeme} → w .kind ≡ kinds.inWord → s .kind ≡ kinds.leftSquare → Stepped s (Stepped w (At (After kinds.actionWord))) c i → InList (is kinds.string) 0 c
+    list : {w s : Lexeme} {c i : List Lexeme} → w .kind ≡ kinds.inWord → s .kind ≡ kinds.leftSquare → Stepped s (Stepped w (At (Behind kinds.actionWord))) c i → InList (is kinds.string) 0 c
     list {w = w} e k (stepped (stepped (after {x = x} {c = c} q))) = opened {c = w ∷ x ∷ c} k (λ y. rw (e, q))
 
 tells-resource : Tells (At Quiet) read-resource (Ends Quiet)
@@ -361,26 +345,17 @@ unfolding read-resource
 tells-resource =
     tells-on _ _ _ (λ x e. tells-weaker (tells-type resourceTypes) (λ c i h. stepped-after (eqb-true _ _ e) h) (λ p c i h. h .0))
     (tells-on _ _ _
-    (λ x e. tells-on _ _ _ (λ s t. tells-took _ (λ c i h. string (eqb-true _ _ t) h)) (tells-ten (record { at = λ c i h x. quiet-ten (equal (eqb-true _ _ e) (h .0)) x })))
+    (λ x e. tells-on _ _ _ (λ s t. tells-took _ (λ c i h. behind-kind kinds.string (refl, refl, refl) (eqb-true _ _ t) h)) (tells-ten (record { at = λ c i h x. quiet-ten (behind-kind kinds.equal (refl, refl, refl) (eqb-true _ _ e) (h .0)) x })))
     (tells-took _ (λ c i h. h .0 .0)))
-  where
-    string : {P : Places} {x : Lexeme} {c i : List Lexeme} → x .kind ≡ kinds.string → Stepped x P c i → Quiet c
-    string e (stepped h) = at-kind kinds.string (refl, refl, refl) _ _ e
-
-    equal : {P : Places} {x : Lexeme} {c i : List Lexeme} → x .kind ≡ kinds.equal → Stepped x P c i → Quiet c
-    equal e (stepped h) = at-kind kinds.equal (refl, refl, refl) _ _ e
 
 tells-when : Tells (At Quiet) read-when (Ends Quiet)
 unfolding read-when read-conditions
 tells-when =
-    tells-on _ _ _ (λ x e. tells-need kinds.leftBrace _ (record { at = λ c i h x. quiet-ten (quiet (eqb-true _ _ e) h) x }) (λ y k.
+    tells-on _ _ _ (λ x e. tells-need kinds.leftBrace _ (record { at = λ c i h x. quiet-ten (behind-kind kinds.whenWord (refl, refl, refl) (eqb-true _ _ e) h) x }) (λ y k.
     tells-mapped _ _ (tells-before kinds.rightBrace _ {Mid = Ends Quiet}
-    (tells-weaker (tells-disjunction (tells-condition 31)) (λ c i h. begins-at kinds.leftBrace (at-kind kinds.leftBrace (refl, refl, refl)) k h) (λ u c i h. h)) (λ u. quietly)
+    (tells-weaker (tells-disjunction (tells-condition 31)) (λ c i h. behind-kind kinds.leftBrace (refl, refl, refl) k h) (λ u c i h. h)) (λ u. quietly)
     (λ u x c r e h. at-kind kinds.rightBrace (refl, refl, refl) x c e))))
     (tells-took _ (λ c i h. h .0))
-  where
-    quiet : {P : Places} {x : Lexeme} {c i : List Lexeme} → x .kind ≡ kinds.whenWord → Stepped x P c i → Quiet c
-    quiet e (stepped h) = at-kind kinds.whenWord (refl, refl, refl) _ _ e
 
 -- behind an effect
 data Effect : List Lexeme → Type 0 where
@@ -388,7 +363,7 @@ data Effect : List Lexeme → Type 0 where
 
 -- behind a policy
 abbrev Policed : List Lexeme → Type 0
-Policed = Place false false false false false true
+Policed = Spot false false false false false true
 
 tells-policy : (permits : Bool) → Tells (At Effect) (read-policy permits) (Ends Policed)
 unfolding read-policy behind
@@ -399,7 +374,7 @@ tells-policy permits =
     tells-need kinds.actionWord _ quietly (λ x e.
     tells-bind _ (comma tells-action (λ c i h. stepped-after e h)) (λ a.
     tells-need kinds.resourceWord _ quietly (λ x e.
-    tells-bind _ (tells-before kinds.rightRound _ {Mid = Ends Quiet} {Post = Ends Quiet} (tells-weaker tells-resource (λ c i h. resource e h) (λ s c i h. h)) (λ s. quietly) (λ s x c r e h. at-kind kinds.rightRound (refl, refl, refl) x c e)) (λ s.
+    tells-bind _ (tells-before kinds.rightRound _ {Mid = Ends Quiet} {Post = Ends Quiet} (tells-weaker tells-resource (λ c i h. behind-kind kinds.resourceWord (refl, refl, refl) e h) (λ s c i h. h)) (λ s. quietly) (λ s x c r e h. at-kind kinds.rightRound (refl, refl, refl) x c e)) (λ s.
     tells-bind _ (tells-before kinds.semicolon _ {Mid = Ends Quiet} {Post = Ends Policed} tells-when (λ c. quietly) (λ c x d r e h. at-kind kinds.semicolon (refl, refl, refl) x d e)) (λ c.
     tells-took _ (λ c i h. h)))))))))
   where
@@ -409,14 +384,11 @@ tells-policy permits =
     round : {x : Lexeme} {c i : List Lexeme} → x .kind ≡ kinds.leftRound → Stepped x (At Effect) c i → Quiet c
     round e (stepped (effect t)) = quiet-round _ _ e (rw t)
 
-    principal : {P : Places} {x : Lexeme} {c i : List Lexeme} → x .kind ≡ kinds.principalWord → Stepped x P c i → Part c
+    principal : {P : Places} {x : Lexeme} {c i : List Lexeme} → x .kind ≡ kinds.principalWord → Stepped x P c i → BehindPart c
     principal e h = after-part kinds.principalWord refl (at-kind kinds.principalWord (refl, refl, refl)) (stepped-after e h)
 
-    resource : {P : Places} {x : Lexeme} {c i : List Lexeme} → x .kind ≡ kinds.resourceWord → Stepped x P c i → Quiet c
-    resource e (stepped h) = at-kind kinds.resourceWord (refl, refl, refl) _ _ e
-
-    comma : {A : Type 0} {P Q : Places} {p : Reader A} → Tells P p (Ends Part) → ((c i : List Lexeme) → Q c i → P c i) → Tells Q (before kinds.comma p) (Ends Quiet)
-    comma {p = p} t f = tells-before kinds.comma p {Mid = Ends Part} (tells-weaker t f (λ a c i h. h)) (λ a. record { at = λ c i h x. quiet-ten (h .0) x }) (λ a x c r e h. quiet-comma x c e (h .1))
+    comma : {A : Type 0} {P Q : Places} {p : Reader A} → Tells P p (Ends BehindPart) → ((c i : List Lexeme) → Q c i → P c i) → Tells Q (before kinds.comma p) (Ends Quiet)
+    comma {p = p} t f = tells-before kinds.comma p {Mid = Ends BehindPart} (tells-weaker t f (λ a c i h. h)) (λ a. record { at = λ c i h x. quiet-ten (h .0) x }) (λ a x c r e h. quiet-comma x c e (h .1))
 
 -- ---- texts
 
@@ -442,11 +414,7 @@ tells-policies = record { at = λ c i h. rw (policies-step [] i) (first .at c i 
 
 no-policy-first : (x : Lexeme) → begins [] x ≡ false → numbered noPolicy x ≡ numberOf [] x
 unfolding numbered noPolicy numberOf begins behind afterLeft atCondition oneMore
-no-policy-first x f = rw (effectless (isEffect x) f)
-  where
-    effectless : (b : Bool) → (b && true) ≡ false → b ≡ false
-    effectless true e = e
-    effectless false e = refl
+no-policy-first x f = rw (rw (and-true (isEffect x)) at f)
 
 tells-end : (ps : List Policy) → Tells (Between ps) (atEnd ps) (λ qs c i. Unit {0})
 unfolding atEnd refuseBy numberAt Without

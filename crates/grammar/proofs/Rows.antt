@@ -14,10 +14,10 @@ use Rattle.reading.specs.Reader.{Answer, took, refuse}
 use Rattle.reading.proofs.Readers.{goes-took, goes-refused}
 use Rattle.reading.proofs.Local.{Alike, same}
 use Rattle.grammar.specs.Policies.{Policy}
-use Rattle.grammar.specs.Rules.{isReserved, isEffect, mostLiterals}
+use Rattle.grammar.specs.Rules.{isEffect, isReserved, endsBare, deepens, mostLiterals}
 use Rattle.grammar.specs.Grammar.{lifting, RuleText}
 use Rattle.grammar.specs.Parser.{read-text}
-use Rattle.grammar.specs.Numbers.{atName, afterLeft, atType, atCondition, atPattern, afterPolicy, afterAction, oneMore, endsBare, deepens, numberOf, numberAt, NumberedRightly}
+use Rattle.grammar.specs.Numbers.{atName, afterLeft, atType, atCondition, atPattern, afterPolicy, afterAction, oneMore, numberOf, numberAt, NumberedRightly}
 use Rattle.grammar.specs.Promise.{RefusedRightly, OnePlace}
 use Rattle.grammar.specs.Lowest.{Under, Admitted, Applies, no-token, reserved, bare, no-type, not-admitted, limit, AppliesAt, token, end, NumberedLowest, OneNumber, RefusedBy, RefusedExactly}
 use Rattle.grammar.proofs.Begun.{Beyond}

@@ -1,24 +1,25 @@
 -- Places in a rule text, by the last tokens before them, and the numbers that the table has there. Assumes nothing.
 use mathlib.Core.Path.{_≡_, refl, sym, _∙_}
-use mathlib.Core.Bool.{Bool, true, false, cond, _&&_, _||_}
+use mathlib.Core.Bool.{Bool, true, false, cond, not, _&&_, _||_, or-false}
 use mathlib.Core.List.{List, [], _∷_}
 use Prim.Native.Nat.{ℕ, zero, suc, _≤_}
 use native.Mathlib.Omega.{arith}
 use lib.Dec.{eqb, ltb}
-use borrow.Author.Tests.{eqb-true, eq-eqb, ne-eqb, ltb-false}
+use borrow.Author.Tests.{eqb-true, eq-eqb, ne-eqb, ltb-false, not-true}
+use Rattle.tokens.specs.Bytes.{oneOf}
 use Rattle.tokens.specs.Kinds as kinds
-use Rattle.tokens.proofs.TokenLaws.{never}
+use Rattle.tokens.proofs.TokenLaws.{never, every, one-passes}
 use Rattle.reading.specs.Lexemes.{Lexeme, is}
 use Rattle.reading.specs.Reader.{numbered, ten}
 use Rattle.grammar.specs.Policies.{Root, Root.Principal, Root.Resource, Root.Env, Root.Action}
-use Rattle.grammar.specs.Rules.{isEffect, isReserved, isRoot, rootOf, isLiteral, isComparator, isContains, mostLiterals}
+use Rattle.grammar.specs.Rules.{isEffect, isReserved, isRoot, rootOf, isLiteral, isComparator, isContains, endsBare, deepens, mostLiterals}
 use Rattle.grammar.specs.Parser.{noName, bare, noType, noLevel, noPattern, tooMany, noPolicy}
-use Rattle.grammar.specs.Numbers.{behind, atName, atType, atPattern, afterPolicy, atCondition, leftRoot, afterLeft, afterAction, actionIn, oneMore, endsBare, deepens, numberOf}
+use Rattle.grammar.specs.Numbers.{behind, atName, atType, atPattern, afterPolicy, atCondition, leftRoot, afterLeft, afterAction, actionIn, oneMore, numberOf}
 use Rattle.grammar.proofs.Begun.{made}
 use Rattle.grammar.proofs.Completeness.{other-kind}
 
 -- what the tests say of a place that is none of a literal in a list
-pub record Place (n l t b p s : Bool) (c : List Lexeme) : Type 0 where
+pub record Spot (n l t b p s : Bool) (c : List Lexeme) : Type 0 where
   pub name : atName c ≡ n
   pub left : afterLeft c ≡ l
   pub type : atType c ≡ t
@@ -29,17 +30,17 @@ pub record Place (n l t b p s : Bool) (c : List Lexeme) : Type 0 where
 
 -- where no test holds, where a condition must begin, behind an attribute as left operand
 abbrev pub Quiet : List Lexeme → Type 0
-Quiet = Place false false false false false false
+Quiet = Spot false false false false false false
 
-abbrev pub Begins : List Lexeme → Type 0
-Begins = Place false false false true false false
+abbrev pub AtCondition : List Lexeme → Type 0
+AtCondition = Spot false false false true false false
 
 abbrev pub Left : List Lexeme → Type 0
-Left = Place false true false false false false
+Left = Spot false true false false false false
 
 -- ---- numbers
 
-number-is : {n l t b p s : Bool} {c : List Lexeme} → Place n l t b p s c → (x : Lexeme) → numberOf c x
+number-is : {n l t b p s : Bool} {c : List Lexeme} → Spot n l t b p s c → (x : Lexeme) → numberOf c x
     ≡ cond (ltb (x .kind) 7) (x .kind) (cond (n && isReserved x) 7 (cond (l && endsBare x) 8 (cond (t && is kinds.name x) 9 (cond (n && is kinds.name x && afterAction c) 11
     (cond (b && deepens x) 12 (cond (p && is kinds.string x) 13 (cond (s && isEffect x) 15 (cond (n && is kinds.name x) 16 10))))))))
 unfolding numberOf
@@ -49,27 +50,27 @@ pub quiet-ten : {c : List Lexeme} → Quiet c → (x : Lexeme) → numbered ten 
 unfolding numbered
 quiet-ten h x = sym (number-is h x)
 
-pub begins-deepest : {c : List Lexeme} → Begins c → (x : Lexeme) → numbered noLevel x ≡ numberOf c x
-unfolding numbered noLevel deepens
+pub begins-deepest : {c : List Lexeme} → AtCondition c → (x : Lexeme) → numbered noLevel x ≡ numberOf c x
+unfolding numbered noLevel
 begins-deepest h x = sym (number-is h x)
 
-pub begins-ten : {c : List Lexeme} → Begins c → (x : Lexeme) → deepens x ≡ false → numbered ten x ≡ numberOf c x
+pub begins-ten : {c : List Lexeme} → AtCondition c → (x : Lexeme) → deepens x ≡ false → numbered ten x ≡ numberOf c x
 unfolding numbered
 begins-ten h x e = rw (number-is h x, e)
 
 pub left-bare : {c : List Lexeme} → Left c → (x : Lexeme) → numbered bare x ≡ numberOf c x
-unfolding numbered bare endsBare
+unfolding numbered bare
 left-bare h x = sym (number-is h x)
 
-pub type-number : {c : List Lexeme} → Place false false true false false false c → (x : Lexeme) → numbered noType x ≡ numberOf c x
+pub type-number : {c : List Lexeme} → Spot false false true false false false c → (x : Lexeme) → numbered noType x ≡ numberOf c x
 unfolding numbered noType
 type-number h x = sym (number-is h x)
 
-pub pattern-number : {c : List Lexeme} → Place false false false false true false c → (x : Lexeme) → numbered noPattern x ≡ numberOf c x
+pub pattern-number : {c : List Lexeme} → Spot false false false false true false c → (x : Lexeme) → numbered noPattern x ≡ numberOf c x
 unfolding numbered noPattern
 pattern-number h x = sym (number-is h x)
 
-pub policy-number : {c : List Lexeme} → Place false false false false false true c → (x : Lexeme) → numbered noPolicy x ≡ numberOf c x
+pub policy-number : {c : List Lexeme} → Spot false false false false false true c → (x : Lexeme) → numbered noPolicy x ≡ numberOf c x
 unfolding numbered noPolicy
 policy-number h x = sym (number-is h x)
 
@@ -79,20 +80,17 @@ isAction Resource = false
 isAction Env = false
 isAction Action = true
 
-pub name-number : {c : List Lexeme} → Place true false false false false false c → (root : Root) → afterAction c ≡ isAction root → (x : Lexeme) → numbered (noName root) x ≡ numberOf c x
+on-path-number : {c : List Lexeme} → Spot true false false false false false c → (root : Root) → afterAction c ≡ isAction root → (x : Lexeme) → numbered (noName root) x ≡ numberOf c x
 unfolding numbered noName
-name-number {c = c} h root e x = go root (is kinds.name x) refl ∙ sym (rw e at (number-is h x))
+on-path-number {c = c} h root e x = go (is kinds.name x) root refl ∙ sym (rw e at (number-is h x))
   where
-    go : (root : Root) (o : Bool) → is kinds.name x ≡ o → numbered (noName root) x
+    go : (o : Bool) (root : Root) → is kinds.name x ≡ o → numbered (noName root) x
         ≡ cond (ltb (x .kind) 7) (x .kind) (cond (isReserved x) 7 (cond (is kinds.name x && isAction root) 11 (cond (is kinds.name x) 16 10)))
-    go Principal true q = rw (eqb-true (x .kind) kinds.name q)
-    go Resource true q = rw (eqb-true (x .kind) kinds.name q)
-    go Env true q = rw (eqb-true (x .kind) kinds.name q)
-    go Action true q = rw (eqb-true (x .kind) kinds.name q)
-    go Principal false q = rw q
-    go Resource false q = rw q
-    go Env false q = rw q
-    go Action false q = rw q
+    go true Principal q = rw (eqb-true (x .kind) kinds.name q)
+    go true Resource q = rw (eqb-true (x .kind) kinds.name q)
+    go true Env q = rw (eqb-true (x .kind) kinds.name q)
+    go true Action q = rw (eqb-true (x .kind) kinds.name q)
+    go false root q = rw q
 
 -- ---- the place behind a token
 
@@ -108,12 +106,12 @@ no-list y [] e x = refl
 no-list y (l ∷ c) e x = rw e
 
 -- a token behind which a condition begins, but for `(`
-abbrev opens : ℕ → Bool
+abbrev pub opens : ℕ → Bool
 opens k = eqb k kinds.leftBrace || eqb k kinds.bang || eqb k kinds.ifWord || eqb k kinds.thenWord || eqb k kinds.elseWord || eqb k kinds.and || eqb k kinds.or
 
 -- behind a token of the kind k, which is no name, no comma and no `(`
 pub at-kind : (k : ℕ) → (eqb k kinds.name ≡ false) × (eqb k kinds.comma ≡ false) × (eqb k kinds.leftRound ≡ false) → (y : Lexeme) (c : List Lexeme) → y .kind ≡ k
-    → Place (eqb k kinds.dot || eqb k kinds.hasWord) false (eqb k kinds.isWord) (opens k) (eqb k kinds.likeWord) (eqb k kinds.semicolon) (y ∷ c)
+    → Spot (eqb k kinds.dot || eqb k kinds.hasWord) false (eqb k kinds.isWord) (opens k) (eqb k kinds.likeWord) (eqb k kinds.semicolon) (y ∷ c)
 unfolding behind atCondition
 at-kind k h y c e = record {
   name = rw e;
@@ -125,42 +123,47 @@ at-kind k h y c e = record {
   list = no-list y c (rw e (h .1));
 }
 
--- no kind behind which something is to be told passes the test
-abbrev Silent : (ℕ → Bool) → Type 0
-Silent test =
-    (test kinds.dot ≡ false) × (test kinds.hasWord ≡ false) × (test kinds.name ≡ false) × (test kinds.isWord ≡ false) × (test kinds.leftRound ≡ false) × (test kinds.leftBrace ≡ false)
-    × (test kinds.bang ≡ false) × (test kinds.ifWord ≡ false) × (test kinds.thenWord ≡ false) × (test kinds.elseWord ≡ false) × (test kinds.and ≡ false) × (test kinds.or ≡ false)
-    × (test kinds.likeWord ≡ false) × (test kinds.semicolon ≡ false) × (test kinds.comma ≡ false)
+-- the kinds behind which something is to be told
+abbrev telling : List ℕ
+telling =
+    kinds.dot ∷ kinds.hasWord ∷ kinds.name ∷ kinds.isWord ∷ kinds.leftRound ∷ kinds.leftBrace ∷ kinds.bang ∷ kinds.ifWord ∷ kinds.thenWord ∷ kinds.elseWord ∷ kinds.and ∷ kinds.or
+    ∷ kinds.likeWord ∷ kinds.semicolon ∷ kinds.comma ∷ []
 
-quiet-by : (test : ℕ → Bool) → Silent test → (y : Lexeme) (c : List Lexeme) → test (y .kind) ≡ true → Quiet (y ∷ c)
+-- behind a token that passes a test which they all fail
+quiet-by : (test : ℕ → Bool) → every (λ k. not (test k)) telling ≡ true → (y : Lexeme) (c : List Lexeme) → test (y .kind) ≡ true → Quiet (y ∷ c)
 unfolding behind atCondition
 quiet-by test f y c t = record {
-  name = rw (no kinds.dot (f .0), no kinds.hasWord (f .1));
-  left = no-left y c (no kinds.name (f .2));
-  type = no kinds.isWord (f .3);
-  begins = rw (no kinds.leftRound (f .4), no kinds.leftBrace (f .5), no kinds.bang (f .6), no kinds.ifWord (f .7), no kinds.thenWord (f .8), no kinds.elseWord (f .9), no kinds.and (f .10), no kinds.or (f .11));
-  pattern = no kinds.likeWord (f .12);
-  policy = no kinds.semicolon (f .13);
-  list = no-list y c (no kinds.comma (f .14));
+  name = rw (no kinds.dot refl, no kinds.hasWord refl);
+  left = no-left y c (no kinds.name refl);
+  type = no kinds.isWord refl;
+  begins = rw (no kinds.leftRound refl, no kinds.leftBrace refl, no kinds.bang refl, no kinds.ifWord refl, no kinds.thenWord refl, no kinds.elseWord refl, no kinds.and refl, no kinds.or refl);
+  pattern = no kinds.likeWord refl;
+  policy = no kinds.semicolon refl;
+  list = no-list y c (no kinds.comma refl);
 }
   where
-    no : (k : ℕ) → test k ≡ false → eqb (y .kind) k ≡ false
-    no k e = other-kind test (y .kind) k t e
+    no : (k : ℕ) → oneOf telling k ≡ true → eqb (y .kind) k ≡ false
+    no k m = other-kind test (y .kind) k t (not-true _ (one-passes (λ k. not (test k)) telling k f m))
 
 pub quiet-root : (y : Lexeme) (c : List Lexeme) → isRoot y ≡ true → Quiet (y ∷ c)
-quiet-root y c t = quiet-by (λ k. isRoot (made k)) (refl, refl, refl, refl, refl, refl, refl, refl, refl, refl, refl, refl, refl, refl, refl) y c t
+unfolding every
+quiet-root y c t = quiet-by (λ k. isRoot (made k)) refl y c t
 
 pub quiet-literal : (y : Lexeme) (c : List Lexeme) → isLiteral y ≡ true → Quiet (y ∷ c)
-quiet-literal y c t = quiet-by (λ k. isLiteral (made k)) (refl, refl, refl, refl, refl, refl, refl, refl, refl, refl, refl, refl, refl, refl, refl) y c t
+unfolding every
+quiet-literal y c t = quiet-by (λ k. isLiteral (made k)) refl y c t
 
 pub quiet-comparator : (y : Lexeme) (c : List Lexeme) → isComparator y ≡ true → Quiet (y ∷ c)
-quiet-comparator y c t = quiet-by (λ k. isComparator (made k)) (refl, refl, refl, refl, refl, refl, refl, refl, refl, refl, refl, refl, refl, refl, refl) y c t
+unfolding every
+quiet-comparator y c t = quiet-by (λ k. isComparator (made k)) refl y c t
 
 pub quiet-contains : (y : Lexeme) (c : List Lexeme) → isContains y ≡ true → Quiet (y ∷ c)
-quiet-contains y c t = quiet-by (λ k. isContains (made k)) (refl, refl, refl, refl, refl, refl, refl, refl, refl, refl, refl, refl, refl, refl, refl) y c t
+unfolding every
+quiet-contains y c t = quiet-by (λ k. isContains (made k)) refl y c t
 
 pub quiet-effect : (y : Lexeme) (c : List Lexeme) → isEffect y ≡ true → Quiet (y ∷ c)
-quiet-effect y c t = quiet-by (λ k. isEffect (made k)) (refl, refl, refl, refl, refl, refl, refl, refl, refl, refl, refl, refl, refl, refl, refl) y c t
+unfolding every
+quiet-effect y c t = quiet-by (λ k. isEffect (made k)) refl y c t
 
 -- what a bracket stands behind that is a target's or a call's
 abbrev pub other : List Lexeme → Bool
@@ -179,12 +182,12 @@ quiet-comma y c e f = record { name = rw e; left = no-left y c (rw e); type = rw
     go (l ∷ c) f x = rw (e, f)
 
 -- behind a name: it goes by what the name is of
-pub at-left : (l : Bool) (y : Lexeme) (c : List Lexeme) → y .kind ≡ kinds.name → afterLeft (y ∷ c) ≡ l → Place false l false false false false (y ∷ c)
+pub at-left : (l : Bool) (y : Lexeme) (c : List Lexeme) → y .kind ≡ kinds.name → afterLeft (y ∷ c) ≡ l → Spot false l false false false false (y ∷ c)
 unfolding behind atCondition
 at-left l y c e f = record { name = rw e; left = f; type = rw e; begins = rw e; pattern = rw e; policy = rw e; list = no-list y c (rw e) }
 
 -- a bracket where a condition begins
-pub begins-round : (y : Lexeme) {c : List Lexeme} → y .kind ≡ kinds.leftRound → Begins c → Begins (y ∷ c)
+pub begins-round : (y : Lexeme) {c : List Lexeme} → y .kind ≡ kinds.leftRound → AtCondition c → AtCondition (y ∷ c)
 unfolding behind atCondition
 begins-round y {c = c} e h = record { name = rw e; left = no-left y c (rw e); type = rw e; begins = rw (e, no-other c (h .begins)); pattern = rw e; policy = rw e; list = no-list y c (rw e) }
   where
@@ -206,7 +209,7 @@ pub data OnPath (left : Bool) : Root → List Lexeme → Type 0 where
   had : {x h : Lexeme} {c : List Lexeme} → isRoot x ≡ true → h .kind ≡ kinds.hasWord → left ≡ false → OnPath left (rootOf x) (h ∷ x ∷ c)
   longer : {root : Root} {n d : Lexeme} {c : List Lexeme} → OnPath left root c → n .kind ≡ kinds.name → d .kind ≡ kinds.dot → OnPath left root (d ∷ n ∷ c)
 
-path-place : {left : Bool} {root : Root} {c : List Lexeme} → OnPath left root c → Place true false false false false false c
+path-place : {left : Bool} {root : Root} {c : List Lexeme} → OnPath left root c → Spot true false false false false false c
 path-place (dotted {d = d} t e k) = at-kind kinds.dot (refl, refl, refl) d _ e
 path-place (had {h = h} t e k) = at-kind kinds.hasWord (refl, refl, refl) h _ e
 path-place (longer {d = d} h k e) = at-kind kinds.dot (refl, refl, refl) d _ e
@@ -231,15 +234,14 @@ path-action (had {x = x} t e k) = rw (e, t) (sym (root-kind x t))
 path-action (longer h k e) = rw (e, k) (path-action h)
 
 pub path-number : {left : Bool} {root : Root} {c : List Lexeme} → OnPath left root c → (x : Lexeme) → numbered (noName root) x ≡ numberOf c x
-path-number {root = root} h x = name-number (path-place h) root (path-action h) x
+path-number {root = root} h x = on-path-number (path-place h) root (path-action h) x
 
 after-name : {left : Bool} {root : Root} {c : List Lexeme} → OnPath left root c → (n : Lexeme) → n .kind ≡ kinds.name → afterLeft (n ∷ c) ≡ left
 unfolding afterLeft leftRoot
 after-name (dotted {x = x} {c = c} t e k) n f = rw (f, e, t, k) (go _ (no-left x c (other-kind (λ k. isRoot (made k)) (x .kind) kinds.name t refl)))
   where
     go : (l : Bool) {b : Bool} → b ≡ false → (l || b) ≡ l
-    go true e = refl
-    go false e = e
+    go l e = rw e (or-false l)
 after-name (had t e k) n f = rw (f, e, k)
 after-name (longer {n = m} {d = d} {c = c} h k e) n f = rw (eq-eqb (n .kind) kinds.name f, eq-eqb (d .kind) kinds.dot e, no-root m k) (after-name h m k)
   where
@@ -250,7 +252,7 @@ after-name (longer {n = m} {d = d} {c = c} h k e) n f = rw (eq-eqb (n .kind) kin
 pub data Named (left : Bool) (root : Root) : List Lexeme → Type 0 where
   named : {n : Lexeme} {c : List Lexeme} → OnPath left root c → n .kind ≡ kinds.name → Named left root (n ∷ c)
 
-pub named-place : {left : Bool} {root : Root} {c : List Lexeme} → Named left root c → Place false left false false false false c
+pub named-place : {left : Bool} {root : Root} {c : List Lexeme} → Named left root c → Spot false left false false false false c
 named-place (named {n = n} h e) = at-left _ n _ e (after-name h n e)
 
 -- ---- lists

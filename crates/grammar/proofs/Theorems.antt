@@ -1,6 +1,6 @@
 -- What is refused is refused at the right place, and that is one place. Assumes nothing.
 use mathlib.Core.Path.{_≡_, refl, ap, sym, _∙_}
-use mathlib.Core.List.{List, [], _∷_, _++_, append-assoc}
+use mathlib.Core.List.{List, [], _∷_, _++_, append-assoc, append-nil}
 use mathlib.Core.Logic.{inl, inr}
 use Prim.Native.Nat.{ℕ, _≤_, _<_}
 use native.Mathlib.Omega.{arith}
@@ -38,7 +38,7 @@ swap-same (step {x = x} w) = ap (λ (l : List Lexeme). x ∷ l) (swap-same w)
 
 weaker : {L M : Limits} → ((r : List Lexeme) → Eases L M r r) → {i : List Lexeme} {ps qs : List Policy} → Policies L ps i qs → Policies M ps i qs
 weaker e grammar.Policies.end = grammar.Policies.end
-weaker e (policy {i = i} {m = m} t c h k) = let q = framed-policy _ .at (e m) h here in policy t (e i .number here _ c) (rw (← swap-same (q .1)) at (q .2)) (weaker e k)
+weaker e (policy {i = i} {m = m} t c h k) = let q = framed-policy _ .at (e m) h here in policy t (e i .effect here _ c) (rw (← swap-same (q .1)) at (q .2)) (weaker e k)
 
 module _ (levels : ℕ) (Lifted Freed : ℕ → List Lexeme → Type 0) (f : (n : ℕ) (r : List Lexeme) → Lifted n r → Freed n r) where
   freed : (n : ℕ) {r m l : List Lexeme} → Swap r r m l → Lifted n m → Freed n l
@@ -49,19 +49,15 @@ module _ (levels : ℕ) (Lifted Freed : ℕ → List Lexeme → Type 0) (f : (n 
     name = λ w root used x h. elim h [ inl t ↦ inl t | inr g ↦ inr (freed _ w g) ];
     pattern = λ w x h. elim h [ inl t ↦ inl t | inr g ↦ inr (freed _ w g) ];
     count = λ w k h. elim h [ inl t ↦ inl t | inr g ↦ inr (freed _ w g) ];
-    number = λ w k h. elim h [ inl t ↦ inl t | inr g ↦ inr (freed _ w g) ];
+    effect = λ w k h. elim h [ inl t ↦ inl t | inr g ↦ inr (freed _ w g) ];
     levels = refl;
   })
 
 -- ---- refused rightly
 
+-- the first token of a rest, put to what stands before
 pub cut : (b : List Lexeme) (x : Lexeme) (s : List Lexeme) → b ++ x ∷ s ≡ (b ++ x ∷ []) ++ s
-cut [] x s = refl
-cut (y ∷ b) x s = ap (λ (l : List Lexeme). y ∷ l) (cut b x s)
-
-end : (b : List Lexeme) → b ++ [] ≡ b
-end [] = refl
-end (y ∷ b) = ap (λ (l : List Lexeme). y ∷ l) (end b)
+cut b x s = sym (append-assoc b (x ∷ []) s)
 
 pub refused-rightly : RefusedRightly
 unfolding RefusedRightly
@@ -73,7 +69,7 @@ refused-rightly i r n e =
       alive = record { on = o .on; policies = o .policies; belongs = less-asked 31 (Beyond n (o .on)) (λ m s. length s < length (o .on)) (λ m s h. h .behind) (rw (swap-is (near .before) (o .swapped) split) at (o .belongs)) };
       dead = λ x s q f.
           let l = refused-again (before-on (f .on)) i r n e (x ∷ f .on) (f .policies) (rw q same) (rw cut (f .belongs)) in omega arith;
-      no-text = λ ps q c. refused-again strictly i r n e [] ps (rw q ends) (rw end c);
+      no-text = λ ps q c. refused-again strictly i r n e [] ps (rw q ends) (rw append-nil c);
     }
 
 -- ---- one place
@@ -103,11 +99,11 @@ beginning b c h = record { on = c ++ h .on; policies = h .policies; belongs = le
 
 -- A rule text breaks no rule, so what is refused is none.
 pub no-text-refused : (i r : List Lexeme) (ps : List Policy) → Refused i r → ¬ RuleText sizes i ps
-no-text-refused i [] ps w h = w .no-text ps refl (rw (w .split, end) at h)
+no-text-refused i [] ps w h = w .no-text ps refl (rw (w .split, append-nil) at h)
 no-text-refused i (x ∷ s) ps w h = w .dead x s refl (beginning (w .before ++ x ∷ []) s (rw (w .split, cut) at sofar))
   where
     sofar : Sofar i
-    sofar = record { on = []; policies = ps; belongs = rw end (weaker (λ r. record { name = λ v root used y t. inl t; pattern = λ v y t. inl t; count = λ v k t. inl t; number = λ v k t. inl t; levels = refl }) h) }
+    sofar = record { on = []; policies = ps; belongs = rw append-nil (weaker (λ r. record { name = λ v root used y t. inl t; pattern = λ v y t. inl t; count = λ v k t. inl t; effect = λ v k t. inl t; levels = refl }) h) }
 
 pub one-place : OnePlace
 unfolding OnePlace

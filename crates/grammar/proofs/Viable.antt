@@ -18,12 +18,11 @@ use Rattle.reading.specs.Reads.{Reads, Chain, Chain.alone, Chain.more, Onto, On
 use Rattle.reading.specs.Reader.{Answer, Reader, refuseBy, mapped, chain}
 use Rattle.reading.proofs.Readers.{Goes, good, goes-weaker, goes-below, goes-ten, goes-bind, goes-on, goes-need, goes-need-bind, goes-onwards}
 use Rattle.grammar.specs.Policies.{Span, Root, Literal, Operand, attribute, literal, Tree, compare, among, within, contains, has, choice, both, either, Part, Actions, oneOf, Policy}
-use Rattle.grammar.specs.Rules.{inside, isEffect, isRoot, rootOf, isLiteral, literalOf, isComparator, comparatorOf, isContains, whichOf, principalTypes, resourceTypes, typeAmong, isType, admitted, mostLiterals, mostPolicies, isPattern}
-use Rattle.grammar.specs.Grammar.{Limits, pathNumber, Path, firstPath, spanned, first, NextName, next, Names, Attribute, rooted, AnOperand, given, Element, element, Listing, Simple, comparison, likeness, listed, held, call, having, Conjunction, Disjunction, Form, simple, negation, bracketed, conditional, Condition, Typed, ResourceRest, ActionRest, When, PolicyRest, Policies, policy, RuleText}
+use Rattle.grammar.specs.Rules.{inside, isEffect, isRoot, rootOf, isLiteral, literalOf, isComparator, comparatorOf, isContains, whichOf, deepens, principalTypes, resourceTypes, typeAmong, isType, admitted, mostLiterals, mostPolicies, isPattern}
+use Rattle.grammar.specs.Grammar.{Limits, pathNumber, Path, firstPath, spanned, first, NextName, next, APath, Attribute, rooted, AnOperand, given, Element, element, Literals, Listing, Simple, comparison, likeness, listed, held, call, having, Conjunction, Disjunction, Form, simple, negation, bracketed, conditional, Condition, Typed, ResourceRest, ActionRest, When, PolicyRest, Policies, policy, RuleText}
 use Rattle.grammar.specs.Grammar as grammar
 use Rattle.grammar.specs.Parser.{Way, calling, noName, bare, noType, noLevel, noPattern, tooMany, noPolicy, fits, read-first-name, goesOn, read-next-name, read-way, noExit, spannedBy, read-path, read-attribute, read-operand, isElement, read-element, read-list, read-bare, read-in, isLike, read-pattern, read-operator, read-call, read-rest, read-rooted, read-simple, read-joined, read-conjunction, read-disjunction, read-negated, read-bracketed, read-conditional, read-deeper, read-condition, read-conditions, read-type, read-principal, read-action, read-resource, read-when, read-policy, begins, read-next-policy, atEnd, read-text}
 use Rattle.grammar.specs.Parser as parser
-use Rattle.grammar.specs.Numbers.{deepens}
 use Rattle.grammar.proofs.Begun.{Family, made, Swap, here, Moved, Eases, taken, Beyond, beyond, Kept, eased, few, beyond-few, Framed, framed-onto, framed-before, framed-chain, Then, followed, Possible, possible-onto, possible-before, possible-after, possible-then, possible-chain, Begun, begun-weaker, begun-first, begun-start, begun-more, begun-next, begun-inside, begun-left, begun-right, Viable, viable-mapped, viable-before, viable-after, viable-onwards, viable-chain}
 use Rattle.grammar.proofs.Limits.{name-number, string-number, literal-number, effect-number, level-number, bare-below, type-below, name-below, pattern-below, literal-below, effect-below, level-below, Chosen, chosen-beyond, goes-limit}
 use Rattle.grammar.proofs.Framing.{same-depth, framed-names, framed-attribute, framed-operand, framed-element, framed-list, framed-conjunction, framed-disjunction, framed-condition, framed-typed, framed-resource, framed-action, framed-when, framed-principals, framed-actions, framed-resources, framed-policy}
@@ -32,8 +31,8 @@ use Rattle.grammar.proofs.Framing.{same-depth, framed-names, framed-att
 
 -- a path, or a path, a dot and a word that ends it
 pub data AWay (L : Limits) (exit : Lexeme → Bool) (root : Root) : List Lexeme → List Lexeme → Way → Type 0 where
-  path : {i r : List Lexeme} {p : Path} → Names L root i r p → AWay L exit root i r (parser.Way.plain p)
-  left : {i r : List Lexeme} {d x : Lexeme} {p : Path} → Names L root i (d ∷ x ∷ r) p → d .kind ≡ kinds.dot → exit x ≡ true → AWay L exit root i r (calling p (whichOf x))
+  path : {i r : List Lexeme} {p : Path} → APath L root i r p → AWay L exit root i r (parser.Way.plain p)
+  left : {i r : List Lexeme} {d x : Lexeme} {p : Path} → APath L root i (d ∷ x ∷ r) p → d .kind ≡ kinds.dot → exit x ≡ true → AWay L exit root i r (calling p (whichOf x))
 
 -- what f makes of the attribute that x begins
 data Via {A : Type 0} (x : Lexeme) (f : Root → Span → A) (L : Limits) : List Lexeme → List Lexeme → A → Type 0 where
@@ -44,7 +43,7 @@ data Start : List Lexeme → List Lexeme → List Policy → Type 0 where
 
 -- one policy more after ps, behind its effect x
 pub data NextPolicy (ps : List Policy) (x : Lexeme) (L : Limits) : List Lexeme → List Lexeme → List Policy → Type 0 where
-  one : {i r : List Lexeme} {p : Policy} → L .Number (length ps) i → PolicyRest L (is kinds.permitWord x) i r p → NextPolicy ps x L i r (ps ++ p ∷ [])
+  one : {i r : List Lexeme} {p : Policy} → L .Effect (length ps) i → PolicyRest L (is kinds.permitWord x) i r p → NextPolicy ps x L i r (ps ++ p ∷ [])
 
 -- some of a text's policies, and what follows them
 abbrev Upto : Family (List Policy)
@@ -64,7 +63,7 @@ framed-next : (ps : List Policy) (x : Lexeme) → Framed (NextPolicy ps x)
 framed-next ps x = record { at = go }
   where
     go : {L M : Limits} {r s i m n : List Lexeme} {qs : List Policy} → Eases L M r s → NextPolicy ps x L i m qs → Swap r s m n → Moved (NextPolicy ps x M) r s i n qs
-    go e (one l h) w = let q = framed-policy _ .at e h w in (_, q .1, one (e .number (q .1) _ l) (q .2))
+    go e (one l h) w = let q = framed-policy _ .at e h w in (_, q .1, one (e .effect (q .1) _ l) (q .2))
 
 -- Where i is refused by n at r: some text begins as i does before r and goes on with the refused token where a limit refused it, and that limit is asked only of what stands before.
 pub record Opened (k : ℕ) (i : List Lexeme) (n : ℕ) (r : List Lexeme) : Type 0 where
@@ -81,7 +80,7 @@ module _ (extra : ℕ) where
 
   module _ (root : Root) where
     -- a name of which its limit is not asked
-    one-name : (n : ℕ) (s w : List Lexeme) → Beyond n s (pathNumber root) w → Names (beyond extra n s) root (made kinds.name ∷ w) w (firstPath (made kinds.name))
+    one-name : (n : ℕ) (s w : List Lexeme) → Beyond n s (pathNumber root) w → APath (beyond extra n s) root (made kinds.name ∷ w) w (firstPath (made kinds.name))
     one-name n s w l = alone (first {r = w} refl (inr l))
 
     -- a name that the limit of paths refuses, or any other
@@ -94,14 +93,14 @@ module _ (extra : ℕ) where
     goes-name : {A : Type 0} {P : A → List Lexeme → Type 0} {Q : ℕ → List Lexeme → Type 0} (i : List Lexeme) → ((n : ℕ) → AName n i → Q n i) → Goes P Q (refuseBy (noName root) i)
     goes-name i f = goes-limit (noName root) (is kinds.name) (pathNumber root) (made kinds.name) refl (λ x t. name-number root x (eqb-true _ _ t)) (name-below root) i f
 
-    viable-first : (exit : Lexeme → Bool) (i : List Lexeme) → Goes (λ w r. AWay (taken extra) exit root i r w) (Begun extra (λ L. Names L root) i) (read-first-name root i)
+    viable-first : (exit : Lexeme → Bool) (i : List Lexeme) → Goes (λ w r. AWay (taken extra) exit root i r w) (Begun extra (λ L. APath L root) i) (read-first-name root i)
     unfolding read-first-name fits
     viable-first exit i =
         goes-on _ _ _ _ _ i (λ x r e t. rw e (good (path (alone (first (eqb-true _ _ (and-left _ _ t)) (and-right (is kinds.name x) (admitted root 0 x) t))))))
         (goes-name i (λ n c. begun-first [] (λ w. (c .token ∷ w, _, c .kept w, alone (first (eqb-true _ _ (c .passes)) (inr (chosen-beyond c w)))))))
 
     viable-next : (exit : Lexeme → Bool) (i m : List Lexeme) (w : Way) (d : Lexeme) → AWay (taken extra) exit root i (d ∷ m) w → goesOn w d ≡ true
-        → Goes (λ v r. AWay (taken extra) exit root i r v) (Begun extra (λ L. Names L root) i) (read-next-name exit root w m)
+        → Goes (λ v r. AWay (taken extra) exit root i r v) (Begun extra (λ L. APath L root) i) (read-next-name exit root w m)
     unfolding read-next-name fits goesOn
     viable-next exit i m (parser.Way.plain p) d (path j) e =
         goes-on _ _ _ _ _ m (λ x r e′ t. good (left (rw e′ at j) (eqb-true _ _ e) t))
@@ -110,16 +109,16 @@ module _ (extra : ℕ) where
         (goes-name m (λ num c. begun-inside (d ∷ []) (framed-names root) j (next-name p m num c) (λ s j n w q h k. (_, more h e k)))))
     viable-next exit i m (calling p w) d j e = absurd (never e)
 
-    viable-way : (exit : Lexeme → Bool) (i : List Lexeme) → Goes (λ w r. AWay (taken extra) exit root i r w) (Begun extra (λ L. Names L root) i) (read-way exit root i)
+    viable-way : (exit : Lexeme → Bool) (i : List Lexeme) → Goes (λ w r. AWay (taken extra) exit root i r w) (Begun extra (λ L. APath L root) i) (read-way exit root i)
     unfolding read-way chain
     viable-way exit i =
         goes-bind _ (viable-first exit i) (λ num r b. b) (λ w r h. goes-onwards _ _ goesOn _ (λ w x m h e. viable-next exit i m w x h e) w r h)
 
-    viable-path : Viable extra (read-path root) (λ L. Onto spanned (Names L root))
+    viable-path : Viable extra (read-path root) (λ L. Onto spanned (APath L root))
     unfolding read-path spannedBy
     viable-path = record { at = λ i. goes-bind _ (viable-way noExit i) (λ num r b. begun-more [] (λ w. w) b (λ s j w p h. (_, onto h))) (λ w r h. good (go h)) }
       where
-        go : {i r : List Lexeme} {w : Way} → AWay (taken extra) noExit root i r w → Onto spanned (Names (taken extra) root) i r (spannedBy w)
+        go : {i r : List Lexeme} {w : Way} → AWay (taken extra) noExit root i r w → Onto spanned (APath (taken extra) root) i r (spannedBy w)
         go (path j) = onto j
         go (left j e f) = absurd (never f)
 
@@ -133,7 +132,7 @@ module _ (extra : ℕ) where
         rw e (goes-bind _ (viable-path (rootOf x) .at m) (λ num r b. begun-more (d ∷ []) (λ w. w) b (λ s j w p h. (_, go k h))) (λ p r h. good (go k h))));
   }
     where
-      go : {L : Limits} {d : Lexeme} {m r : List Lexeme} {p : Span} → d .kind ≡ kinds.dot → Onto spanned (Names L (rootOf x)) m r p → Via x f L (d ∷ m) r (f (rootOf x) p)
+      go : {L : Limits} {d : Lexeme} {m r : List Lexeme} {p : Span} → d .kind ≡ kinds.dot → Onto spanned (APath L (rootOf x)) m r p → Via x f L (d ∷ m) r (f (rootOf x) p)
       go k (onto j) = via (rooted t k j)
 
   some-operand : Possible extra AnOperand
@@ -161,7 +160,7 @@ module _ (extra : ℕ) where
           (goes-limit (tooMany sort) sort 14 y fit (λ x t. literal-number sort x (sorts x t) t) (literal-below sort) i (λ n c. begun-first [] (λ w. (c .token ∷ w, _, c .kept w, element (c .passes) (inr (chosen-beyond c w))))));
     }
 
-    viable-list : Viable extra (read-list sort) (λ L. Before kinds.rightSquare (Chain (λ ls. is kinds.comma) (Element L sort []) (λ ls comma. Element L sort ls)))
+    viable-list : Viable extra (read-list sort) (λ L. Literals L sort)
     unfolding read-list
     viable-list =
         viable-before (viable-chain _ _ _ (framed-element sort []) (λ ls x. framed-element sort ls) (viable-element []) (λ ls x. viable-element ls))
@@ -170,7 +169,7 @@ module _ (extra : ℕ) where
     some-element : Possible extra (λ L. Element L sort [])
     some-element = record { text = λ w. y ∷ w; tree = _; reads = λ n s w. element fit (inl (omega arith)) }
 
-    some-list : Possible extra (λ L. Before kinds.rightSquare (Chain (λ ls. is kinds.comma) (Element L sort []) (λ ls comma. Element L sort ls)))
+    some-list : Possible extra (λ L. Literals L sort)
     some-list = possible-before (possible-chain some-element) kinds.rightSquare
 
   -- ---- conditions that hold no other
@@ -252,7 +251,7 @@ module _ (extra : ℕ) where
       inner = possible-before a-list kinds.rightRound
 
       go : {L : Limits} {i : List Lexeme} {o l : Lexeme} {s w : List Lexeme} {v : Tree} → Attribute L i (d ∷ x ∷ o ∷ l ∷ s) (attribute root p) → o .kind ≡ kinds.leftRound → l .kind ≡ kinds.leftSquare
-          → Before kinds.rightRound (Onto (contains (whichOf x) root p) (Before kinds.rightSquare (Chain (λ ls. is kinds.comma) (Element L isLiteral []) (λ ls comma. Element L isLiteral ls)))) s w v
+          → Before kinds.rightRound (Onto (contains (whichOf x) root p) (Literals L isLiteral)) s w v
           → Simple L i w v
       go a k k′ (ended (onto j) k″) = call a e t k (ended (begun k′ j) k″)
 
@@ -272,7 +271,7 @@ module _ (extra : ℕ) where
       go d m k (parser.Way.plain p) r (path j) = viable-operator _ _ r (given (rooted t k j)) (goes-below bare bare-below r (begun-operand (given (rooted t k j))))
       go d m k (calling p w) r (left j e f) = viable-call _ r _ _ _ _ (rooted t k j) e f
 
-      has-path : {L : Limits} {h : Lexeme} {m r : List Lexeme} {p : Span} → h .kind ≡ kinds.hasWord → Onto spanned (Names L (rootOf x)) m r p → Simple L (x ∷ h ∷ m) r (has (rootOf x) p)
+      has-path : {L : Limits} {h : Lexeme} {m r : List Lexeme} {p : Span} → h .kind ≡ kinds.hasWord → Onto spanned (APath L (rootOf x)) m r p → Simple L (x ∷ h ∷ m) r (has (rootOf x) p)
       has-path k (onto j) = having t k j
 
   -- ---- conditions
@@ -348,7 +347,6 @@ module _ (extra : ℕ) where
     reads : (s : List Lexeme) → Form (beyond extra n s) (Condition (beyond extra n s) e) (x ∷ text) w tree
 
   deeper-by : (e n : ℕ) (w : List Lexeme) (x : Lexeme) → deepens x ≡ true → Deeper e n w x
-  unfolding deepens
   deeper-by e n w x t = go (is kinds.bang x) (is kinds.leftRound x) refl refl
     where
       inner : Possible extra (λ L. Condition L e)
@@ -370,7 +368,6 @@ module _ (extra : ℕ) where
 
   -- where the reader has no level left inside, and the grammar e
   viable-last : (e : ℕ) → e ≡ extra → Viable extra (read-simple (refuseBy noLevel)) (λ L. Condition L e)
-  unfolding deepens
   viable-last zero q = viable-simple _ (record {
     at = λ i. goes-limit {k = extra} noLevel deepens 12 (made kinds.bang) refl level-number level-below i (λ n c. begun-first [] (λ w.
         (made kinds.trueWord ∷ w, _, λ h z. absurd (c .only (λ d. let y = z (sym d) in omega arith) h), simple (grammar.Simple.bare refl))));
@@ -426,11 +423,11 @@ module _ (extra : ℕ) where
         (good grammar.ActionRest.bare);
   }
     where
-      list : Viable extra (read-list (is kinds.string)) (λ L. Before kinds.rightSquare (Chain (λ ls. is kinds.comma) (Element L (is kinds.string) []) (λ ls comma. Element L (is kinds.string) ls)))
+      list : Viable extra (read-list (is kinds.string)) (λ L. Literals L (is kinds.string))
       list = viable-list (is kinds.string) (λ x e. rw e) (made kinds.string) refl
 
       go : {L : Limits} {x : Lexeme} {i r : List Lexeme} {a : Actions} → x .kind ≡ kinds.inWord
-          → After kinds.leftSquare (Onto oneOf (Before kinds.rightSquare (Chain (λ ls. is kinds.comma) (Element L (is kinds.string) []) (λ ls comma. Element L (is kinds.string) ls)))) i r a → ActionRest L (x ∷ i) r a
+          → After kinds.leftSquare (Onto oneOf (Literals L (is kinds.string))) i r a → ActionRest L (x ∷ i) r a
       go k (begun k′ (onto h)) = grammar.ActionRest.list k (begun k′ h)
 
   viable-when : Viable extra read-when When

@@ -20,7 +20,7 @@ pub record Limits : Type 1 where
   pub Name : Root → ℕ → Lexeme → List Lexeme → Type 0
   pub Pattern : Lexeme → List Lexeme → Type 0
   pub Count : ℕ → List Lexeme → Type 0
-  pub Number : ℕ → List Lexeme → Type 0
+  pub Effect : ℕ → List Lexeme → Type 0
   pub levels : ℕ
 
 -- document 01's, but for the levels
@@ -29,7 +29,7 @@ sizesTo levels = record {
   Name = λ root used x r. admitted root used x ≡ true;
   Pattern = λ x r. isPattern (inside x) ≡ true;
   Count = λ k r. k < mostLiterals;
-  Number = λ k r. k < mostPolicies;
+  Effect = λ k r. k < mostPolicies;
   levels = levels;
 }
 
@@ -38,19 +38,19 @@ abbrev pub sizes : Limits
 sizes = sizesTo 31
 
 -- the number of the limit of a path after the root
-unfoldable pub pathNumber : Root → ℕ
+abbrev pub pathNumber : Root → ℕ
 pathNumber Principal = 16
 pathNumber Resource = 16
 pathNumber Env = 16
 pathNumber Action = 11
 
--- the same where Lifted n r says that the limit with the number n is not asked of a token before r
+-- document 01's limits, where Lifted n r says that the one with the number n is not asked of a token before r
 abbrev pub lifting : ℕ → (ℕ → List Lexeme → Type 0) → Limits
 lifting levels Lifted = record {
   Name = λ root used x r. (admitted root used x ≡ true) ⊎ Lifted (pathNumber root) r;
   Pattern = λ x r. (isPattern (inside x) ≡ true) ⊎ Lifted 13 r;
   Count = λ k r. (k < mostLiterals) ⊎ Lifted 14 r;
-  Number = λ k r. (k < mostPolicies) ⊎ Lifted 15 r;
+  Effect = λ k r. (k < mostPolicies) ⊎ Lifted 15 r;
   levels = levels;
 }
 
@@ -66,31 +66,38 @@ pub record Path : Type 0 where
   pub end : ℕ
   pub used : ℕ
 
+-- a path of one name
 abbrev pub firstPath : Lexeme → Path
 firstPath x = record { start = x .start; end = x .end; used = size x }
 
+-- a path with a dot and one name more
 abbrev pub longerPath : Path → Lexeme → Path
 longerPath p x = record { start = p .start; end = x .end; used = p .used + 1 + size x }
 
+-- where a path lies
 abbrev pub spanned : Path → Span
 spanned p = span (p .start) (p .end)
 
+-- the first name of a path after the root
 pub data FirstName (L : Limits) (root : Root) : List Lexeme → List Lexeme → Path → Type 0 where
   first : {x : Lexeme} {r : List Lexeme} → x .kind ≡ kinds.name → L .Name root 0 x r → FirstName L root (x ∷ r) r (firstPath x)
 
+-- one name more on the path p
 pub data NextName (L : Limits) (root : Root) (p : Path) : List Lexeme → List Lexeme → Path → Type 0 where
   next : {x : Lexeme} {r : List Lexeme} → x .kind ≡ kinds.name → L .Name root (p .used + 1) x r → NextName L root p (x ∷ r) r (longerPath p x)
 
-abbrev pub Names : Limits → Root → Reads Path
-Names L root = Chain (λ p. is kinds.dot) (FirstName L root) (λ p d. NextName L root p)
+-- a path after the root
+abbrev pub APath : Limits → Root → Reads Path
+APath L root = Chain (λ p. is kinds.dot) (FirstName L root) (λ p d. NextName L root p)
 
 -- ---- operands
 
 -- an attribute: a root, a dot and a path
 pub data Attribute (L : Limits) : List Lexeme → List Lexeme → Operand → Type 0 where
-  rooted : {x d : Lexeme} {i r : List Lexeme} {p : Path} → isRoot x ≡ true → d .kind ≡ kinds.dot → Names L (rootOf x) i r p
+  rooted : {x d : Lexeme} {i r : List Lexeme} {p : Path} → isRoot x ≡ true → d .kind ≡ kinds.dot → APath L (rootOf x) i r p
     → Attribute L (x ∷ d ∷ i) r (attribute (rootOf x) (spanned p))
 
+-- an operand: an attribute or a literal
 pub data AnOperand (L : Limits) : List Lexeme → List Lexeme → Operand → Type 0 where
   given : {i r : List Lexeme} {a : Operand} → Attribute L i r a → AnOperand L i r a
   plain : {x : Lexeme} {r : List Lexeme} → isLiteral x ≡ true → AnOperand L (x ∷ r) r (literal (literalOf x))
@@ -101,12 +108,17 @@ pub data AnOperand (L : Limits) : List Lexeme → List Lexeme → Operand → Ty
 pub data Element (L : Limits) (sort : Lexeme → Bool) (ls : List Literal) : List Lexeme → List Lexeme → List Literal → Type 0 where
   element : {x : Lexeme} {r : List Lexeme} → sort x ≡ true → L .Count (length ls) r → Element L sort ls (x ∷ r) r (ls ++ literalOf x ∷ [])
 
+-- a list's literals of a sort, and its `]`
+abbrev pub Literals : Limits → (Lexeme → Bool) → Reads (List Literal)
+Literals L sort = Before kinds.rightSquare (Chain (λ ls. is kinds.comma) (Element L sort []) (λ ls comma. Element L sort ls))
+
+-- a list of literals of a sort
 abbrev pub Listing : Limits → (Lexeme → Bool) → Reads (List Literal)
-Listing L sort =
-    After kinds.leftSquare (Before kinds.rightSquare (Chain (λ ls. is kinds.comma) (Element L sort []) (λ ls comma. Element L sort ls)))
+Listing L sort = After kinds.leftSquare (Literals L sort)
 
 -- ---- conditions that hold no other
 
+-- bare true or false; two operands with a comparator; an operand `like` a string, `in` a list, `in` an attribute; a call; a root, `has` and a path
 pub data Simple (L : Limits) : List Lexeme → List Lexeme → Tree → Type 0 where
   bare : {x : Lexeme} {r : List Lexeme} → isTruth x ≡ true → Simple L (x ∷ r) r (constant (is kinds.trueWord x))
   comparison : {x : Lexeme} {i m r : List Lexeme} {a b : Operand}
@@ -121,7 +133,7 @@ pub data Simple (L : Limits) : List Lexeme → List Lexeme → Tree → Type 0 w
     → Attribute L i (d ∷ w ∷ o ∷ m) (attribute root p) → d .kind ≡ kinds.dot → isContains w ≡ true → o .kind ≡ kinds.leftRound
     → Before kinds.rightRound (Listing L isLiteral) m r ls → Simple L i r (contains (whichOf w) root p ls)
   having : {x h : Lexeme} {i r : List Lexeme} {p : Path}
-    → isRoot x ≡ true → h .kind ≡ kinds.hasWord → Names L (rootOf x) i r p → Simple L (x ∷ h ∷ i) r (has (rootOf x) (spanned p))
+    → isRoot x ≡ true → h .kind ≡ kinds.hasWord → APath L (rootOf x) i r p → Simple L (x ∷ h ∷ i) r (has (rootOf x) (spanned p))
 
 -- ---- conditions
 
@@ -129,13 +141,15 @@ pub data Simple (L : Limits) : List Lexeme → List Lexeme → Tree → Type 0 w
 abbrev pub Joined : ℕ → (Tree → Tree → Tree) → Reads Tree → Reads Tree
 Joined sep join C = Chain (λ a. is sep) C (λ a x. Onto (join a) C)
 
+-- conditions joined by `&&`
 abbrev pub Conjunction : Reads Tree → Reads Tree
 Conjunction C = Joined kinds.and both C
 
+-- conjunctions joined by `||`
 abbrev pub Disjunction : Reads Tree → Reads Tree
 Disjunction C = Joined kinds.or either (Conjunction C)
 
--- a condition, where Inner reads the conditions one level deeper
+-- a condition: one that holds no other, `!`, brackets or `if`, where Inner reads the conditions one level deeper
 pub data Form (L : Limits) (Inner : Reads Tree) : List Lexeme → List Lexeme → Tree → Type 0 where
   simple : {i r : List Lexeme} {t : Tree} → Simple L i r t → Form L Inner i r t
   negation : {x : Lexeme} {i r : List Lexeme} {t : Tree} → x .kind ≡ kinds.bang → Inner i r t → Form L Inner (x ∷ i) r (not t)
@@ -144,6 +158,7 @@ pub data Form (L : Limits) (Inner : Reads Tree) : List Lexeme → List Lexeme �
   conditional : {x : Lexeme} {i m n r : List Lexeme} {c a b : Tree}
     → x .kind ≡ kinds.ifWord → Before kinds.thenWord Inner i m c → Before kinds.elseWord Inner m n a → Inner n r b → Form L Inner (x ∷ i) r (choice c a b)
 
+-- where no level is left, there is no condition
 pub data Nothing : List Lexeme → List Lexeme → Tree → Type 0 where
 
 -- a condition with at most d levels inside it
@@ -162,10 +177,12 @@ pub data Typed (types : List (List ℕ)) : List Lexeme → List Lexeme → Part 
   bare : {r : List Lexeme} → Typed types r r any
   one : {x n : Lexeme} {r : List Lexeme} → x .kind ≡ kinds.isWord → isType types n ≡ true → Typed types (x ∷ n ∷ r) r (typed (typeOf types n))
 
+-- the resource part: bare, `is` one of its types, or `==` a string
 pub data ResourceRest : List Lexeme → List Lexeme → Part → Type 0 where
   sort : {i r : List Lexeme} {p : Part} → Typed resourceTypes i r p → ResourceRest i r p
   string : {x s : Lexeme} {r : List Lexeme} → x .kind ≡ kinds.equal → s .kind ≡ kinds.string → ResourceRest (x ∷ s ∷ r) r (pinned (spanOf s))
 
+-- the action part: bare, or `in` a list of strings
 pub data ActionRest (L : Limits) : List Lexeme → List Lexeme → Actions → Type 0 where
   bare : {r : List Lexeme} → ActionRest L r r every
   list : {x : Lexeme} {i r : List Lexeme} {ls : List Literal} → x .kind ≡ kinds.inWord → Listing L (is kinds.string) i r ls → ActionRest L (x ∷ i) r (oneOf ls)
@@ -185,11 +202,11 @@ pub data PolicyRest (L : Limits) (permits : Bool) : List Lexeme → List Lexeme 
     → Before kinds.semicolon (When L) l r c
     → PolicyRest L permits i r (record { permits = permits; principal = p; action = a; resource = s; condition = c })
 
--- a text: zero or more policies
+-- a text, of which the policies ps were read: zero or more policies follow, and it says qs in all
 pub data Policies (L : Limits) : List Policy → List Lexeme → List Policy → Type 0 where
   end : {ps : List Policy} → Policies L ps [] ps
   policy : {x : Lexeme} {i m : List Lexeme} {p : Policy} {ps qs : List Policy}
-    → isEffect x ≡ true → L .Number (length ps) i → PolicyRest L (is kinds.permitWord x) i m p → Policies L (ps ++ p ∷ []) m qs → Policies L ps (x ∷ i) qs
+    → isEffect x ≡ true → L .Effect (length ps) i → PolicyRest L (is kinds.permitWord x) i m p → Policies L (ps ++ p ∷ []) m qs → Policies L ps (x ∷ i) qs
 
 -- the tokens of a rule text that says these policies
 abbrev pub RuleText : Limits → List Lexeme → List Policy → Type 0

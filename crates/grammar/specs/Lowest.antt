@@ -9,11 +9,11 @@ use Rattle.tokens.specs.Kinds as kinds
 use Rattle.reading.specs.Lexemes.{Lexeme}
 use Rattle.reading.specs.Reader.{refuse}
 use Rattle.grammar.specs.Policies.{Policy}
-use Rattle.grammar.specs.Rules.{isReserved}
+use Rattle.grammar.specs.Rules.{isReserved, endsBare}
 use Rattle.grammar.specs.Grammar.{lifting, RuleText}
 use Rattle.grammar.specs.Parser.{read-text}
 use Rattle.grammar.specs.Promise.{Refused}
-use Rattle.grammar.specs.Numbers.{atName, afterLeft, atType, endsBare}
+use Rattle.grammar.specs.Numbers.{atName, afterLeft, atType}
 
 -- ---- what is admitted, and which limits it keeps
 
@@ -57,24 +57,24 @@ pub data AppliesAt (b : List Lexeme) : List Lexeme → ℕ → Type 0 where
   end : AppliesAt b [] 10
 
 -- the lowest number that applies there
-pub record Lowest (b r : List Lexeme) (n : ℕ) : Type 0 where
+pub record LowestNumber (b r : List Lexeme) (n : ℕ) : Type 0 where
   pub applies : AppliesAt b r n
   pub least : (m : ℕ) → AppliesAt b r m → n ≤ m
 
 -- A refusal has the lowest number that applies to the token that is refused.
 unfoldable pub NumberedLowest : Type 0
-NumberedLowest = (b r : List Lexeme) (n : ℕ) → read-text (b ++ r) ≡ refuse n r → Lowest b r n
+NumberedLowest = (b r : List Lexeme) (n : ℕ) → read-text (b ++ r) ≡ refuse n r → LowestNumber b r n
 
 -- So it leaves one number.
 unfoldable pub OneNumber : Type 0
-OneNumber = (b r : List Lexeme) (n m : ℕ) → Lowest b r n → Lowest b r m → n ≡ m
+OneNumber = (b r : List Lexeme) (n m : ℕ) → LowestNumber b r n → LowestNumber b r m → n ≡ m
 
 -- ---- refusal, exactly
 
 -- refused from r on by the number n: at the right place, by the lowest number there
 pub record RefusedBy (i r : List Lexeme) (n : ℕ) : Type 0 where
   pub rightly : Refused i r
-  pub lowest : Lowest (rightly .before) r n
+  pub lowest : LowestNumber (rightly .before) r n
 
 -- A list of tokens is so refused exactly when document 01 says.
 unfoldable pub RefusedExactly : Type 0

@@ -8,7 +8,7 @@ use lib.Dec.{ltb}
 use Rattle.tokens.specs.Kinds as kinds
 use Rattle.reading.specs.Lexemes.{Lexeme, is}
 use Rattle.reading.specs.Reader.{refuse}
-use Rattle.grammar.specs.Rules.{isEffect, isReserved, isRoot, isLiteral, isContains, mostLiterals}
+use Rattle.grammar.specs.Rules.{isEffect, isReserved, isRoot, isLiteral, isContains, endsBare, deepens, mostLiterals}
 use Rattle.grammar.specs.Parser.{read-text}
 
 -- ---- places
@@ -71,18 +71,9 @@ oneMore (suc k) [] x = false
 oneMore (suc k) (y ∷ []) x = false
 oneMore (suc k) (y ∷ l ∷ c) x = is kinds.comma y && isLiteral l && oneMore k c x
 
--- ---- tokens
-
--- what ends a condition
-unfoldable pub endsBare : Lexeme → Bool
-endsBare x = is kinds.and x || is kinds.or x || is kinds.rightRound x || is kinds.rightBrace x || is kinds.thenWord x || is kinds.elseWord x
-
--- what puts a condition one level deeper
-unfoldable pub deepens : Lexeme → Bool
-deepens x = is kinds.bang x || is kinds.leftRound x || is kinds.ifWord x
-
 -- ---- the table, the lowest number first
 
+-- the number of the token x behind the tokens c
 unfoldable pub numberOf : List Lexeme → Lexeme → ℕ
 numberOf c x =
     cond (ltb (x .kind) 7) (x .kind)

@@ -1,5 +1,5 @@
 -- The reader of rule texts: it finds the policies that a text's tokens say, or the token to refuse and its number. Definitions only.
-use mathlib.Core.Bool.{Bool, false, cond, _&&_, _||_}
+use mathlib.Core.Bool.{Bool, false, cond, _&&_}
 use mathlib.Core.List.{List, [], _∷_, _++_}
 use mathlib.Core.Option.{Option, none, some}
 use Prim.Native.Nat.{ℕ, zero, suc, _+_}
@@ -8,22 +8,19 @@ use lib.ListN.{length}
 use Rattle.tokens.specs.Kinds as kinds
 use Rattle.reading.specs.Lexemes.{Lexeme, is}
 use Rattle.reading.specs.Reader.{took, Reader, refuseBy, ten, bind, on, need, before, mapped, onwards, chain}
-use Rattle.grammar.specs.Policies.{Span, Root, Root.Principal, Root.Resource, Root.Env, Root.Action, Literal, text, number, truth, Operand, attribute, literal, Which, Tree, constant, compare, like, among, within, contains, has, not, brackets, both, either, choice, Part, any, typed, pinned, Actions, every, oneOf, Policy}
-use Rattle.grammar.specs.Rules.{inside, spanOf, isEffect, isReserved, isRoot, rootOf, isLiteral, literalOf, isComparator, comparatorOf, isContains, whichOf, principalTypes, resourceTypes, typeOf, isType, admitted, mostLiterals, mostPolicies, isPattern}
-use Rattle.grammar.specs.Grammar.{Path, firstPath, longerPath, spanned}
+use Rattle.grammar.specs.Policies.{Span, Root, Literal, text, number, truth, Operand, attribute, literal, Which, Tree, constant, compare, like, among, within, contains, has, not, brackets, both, either, choice, Part, any, typed, pinned, Actions, every, oneOf, Policy}
+use Rattle.grammar.specs.Rules.{inside, spanOf, isEffect, isReserved, isRoot, rootOf, isLiteral, literalOf, isComparator, comparatorOf, isContains, whichOf, endsBare, deepens, principalTypes, resourceTypes, typeOf, isType, admitted, mostLiterals, mostPolicies, isPattern}
+use Rattle.grammar.specs.Grammar.{pathNumber, Path, firstPath, longerPath, spanned}
 
 -- ---- which number a token gets that is not admitted
 
 -- where a name of a path must stand: 7 a reserved word, 11 a name after action, 16 any other name
 unfoldable pub noName : Root → Lexeme → ℕ
-noName Principal x = cond (is kinds.name x) 16 (cond (isReserved x) 7 10)
-noName Resource x = cond (is kinds.name x) 16 (cond (isReserved x) 7 10)
-noName Env x = cond (is kinds.name x) 16 (cond (isReserved x) 7 10)
-noName Action x = cond (is kinds.name x) 11 (cond (isReserved x) 7 10)
+noName root x = cond (is kinds.name x) (pathNumber root) (cond (isReserved x) 7 10)
 
 -- after an attribute as left operand: 8 where it was bare
 unfoldable pub bare : Lexeme → ℕ
-bare x = cond (is kinds.and x || is kinds.or x || is kinds.rightRound x || is kinds.rightBrace x || is kinds.thenWord x || is kinds.elseWord x) 8 10
+bare x = cond (endsBare x) 8 10
 
 -- where a type must stand: 9 a name that is none
 unfoldable pub noType : Lexeme → ℕ
@@ -31,7 +28,7 @@ noType x = cond (is kinds.name x) 9 10
 
 -- where a condition must stand with no level left: 12 what would go one deeper
 unfoldable pub noLevel : Lexeme → ℕ
-noLevel x = cond (is kinds.bang x || is kinds.leftRound x || is kinds.ifWord x) 12 10
+noLevel x = cond (deepens x) 12 10
 
 -- where a pattern must stand: 13 a string that is none
 unfoldable pub noPattern : Lexeme → ℕ
@@ -47,14 +44,16 @@ noPolicy x = cond (isEffect x) 15 10
 
 -- ---- paths
 
--- a path and, where it is a left operand and a call follows, the token containsAll or containsAny
+-- a path and, where it is a left operand and a call follows, which of containsAll and containsAny
 pub data Way : Type 0 where
   plain : Path → Way
   calling : Path → Which → Way
 
+-- a name that may go on a path after the root, of which so many bytes are used
 unfoldable pub fits : Root → ℕ → Lexeme → Bool
 fits root used x = is kinds.name x && admitted root used x
 
+-- a path's first name
 unfoldable pub read-first-name : Root → Reader Way
 read-first-name root = on (fits root 0) (λ x. took (plain (firstPath x))) (refuseBy (noName root))
 
@@ -69,6 +68,7 @@ read-next-name exit root (plain p) =
     on exit (λ x. took (calling p (whichOf x))) (on (fits root (p .used + 1)) (λ x. took (plain (longerPath p x))) (refuseBy (noName root)))
 read-next-name exit root (calling p w) = refuseBy ten
 
+-- a path after the root, and the word that ends it, if one does
 unfoldable pub read-way : (Lexeme → Bool) → Root → Reader Way
 read-way exit root = chain goesOn (read-first-name root) (λ w x. read-next-name exit root w)
 
@@ -76,10 +76,12 @@ read-way exit root = chain goesOn (read-first-name root) (λ w x. read-next-name
 abbrev pub noExit : Lexeme → Bool
 noExit x = false
 
+-- where its path lies
 unfoldable pub spannedBy : Way → Span
 spannedBy (plain p) = spanned p
 spannedBy (calling p w) = spanned p
 
+-- a path that is no left operand's
 unfoldable pub read-path : Root → Reader Span
 read-path root i = bind (read-way noExit root i) (λ w. took (spannedBy w))
 
@@ -89,12 +91,15 @@ read-path root i = bind (read-way noExit root i) (λ w. took (spannedBy w))
 unfoldable pub read-attribute : {A : Type 0} → Root → (Root → Span → A) → Reader A
 read-attribute root f = need kinds.dot (λ i. bind (read-path root i) (λ p. took (f root p)))
 
+-- an operand that is no left operand
 unfoldable pub read-operand : Reader Operand
 read-operand = on isLiteral (λ x. took (literal (literalOf x))) (on isRoot (λ x. read-attribute (rootOf x) attribute) (refuseBy ten))
 
+-- a literal of the sort, where ls has room for one more
 unfoldable pub isElement : (Lexeme → Bool) → List Literal → Lexeme → Bool
 isElement sort ls x = sort x && ltb (length ls) mostLiterals
 
+-- one literal more after ls
 unfoldable pub read-element : (Lexeme → Bool) → List Literal → Reader (List Literal)
 read-element sort ls = on (isElement sort ls) (λ x. took (ls ++ literalOf x ∷ [])) (refuseBy (tooMany sort))
 
@@ -117,6 +122,7 @@ read-in a =
     on (is kinds.leftSquare) (λ _. mapped (among a) (read-list isLiteral))
     (on isRoot (λ x. read-attribute (rootOf x) (within a)) (refuseBy ten))
 
+-- a string that is a pattern
 unfoldable pub isLike : Lexeme → Bool
 isLike x = is kinds.string x && isPattern (inside x)
 
@@ -135,6 +141,7 @@ read-operator a =
 unfoldable pub read-call : Which → Root → Span → Reader Tree
 read-call w root p = need kinds.leftRound (need kinds.leftSquare (before kinds.rightRound (mapped (contains w root p) (read-list isLiteral))))
 
+-- after the path of a left operand, or after the word that ends it
 unfoldable pub read-rest : Root → Way → Reader Tree
 read-rest root (plain p) = read-operator (attribute root (spanned p))
 read-rest root (calling p w) = read-call w root (spanned p)
@@ -150,9 +157,11 @@ read-simple deeper = on isLiteral (λ x. read-operator (literal (literalOf x))) 
 
 -- ---- conditions
 
+-- one or more of what p reads, joined from the left
 unfoldable pub read-joined : ℕ → (Tree → Tree → Tree) → Reader Tree → Reader Tree
 read-joined sep join p = chain (λ a. is sep) p (λ a x. mapped (join a) p)
 
+-- joined by `&&`, and these by `||`
 unfoldable pub read-conjunction : Reader Tree → Reader Tree
 read-conjunction p = read-joined kinds.and both p
 
@@ -170,22 +179,25 @@ unfoldable pub read-conditional : Reader Tree → Reader Tree
 read-conditional inner i =
     bind (before kinds.thenWord inner i) (λ c m. bind (before kinds.elseWord inner m) (λ a. mapped (choice c a) inner))
 
+-- a condition that holds others, which `inner` reads
 unfoldable pub read-deeper : Reader Tree → Reader Tree
 read-deeper inner =
     on (is kinds.bang) (λ _. read-negated inner)
     (on (is kinds.leftRound) (λ _. read-bracketed inner)
     (on (is kinds.ifWord) (λ _. read-conditional inner) (refuseBy ten)))
 
--- with at most d levels inside it
+-- a condition with at most d levels inside it
 unfoldable pub read-condition : ℕ → Reader Tree
 read-condition zero = read-simple (refuseBy noLevel)
 read-condition (suc d) = read-simple (read-deeper (read-condition d))
 
+-- after the `{` of `when`
 unfoldable pub read-conditions : Reader Tree
 read-conditions = read-disjunction (read-condition 31)
 
 -- ---- policies
 
+-- after `is`
 unfoldable pub read-type : List (List ℕ) → Reader Part
 read-type types = on (isType types) (λ x. took (typed (typeOf types x))) (refuseBy noType)
 
@@ -219,6 +231,7 @@ read-policy permits =
 unfoldable pub begins : List Policy → Lexeme → Bool
 begins ps x = isEffect x && ltb (length ps) mostPolicies
 
+-- one policy more after ps, after its effect x
 unfoldable pub read-next-policy : List Policy → Lexeme → Reader (List Policy)
 read-next-policy ps x = mapped (λ p. ps ++ p ∷ []) (read-policy (is kinds.permitWord x))
 
@@ -227,5 +240,6 @@ unfoldable pub atEnd : List Policy → Reader (List Policy)
 atEnd ps [] = took ps []
 atEnd ps (x ∷ r) = refuseBy noPolicy (x ∷ r)
 
+-- a whole text
 unfoldable pub read-text : Reader (List Policy)
 read-text i = bind (onwards begins read-next-policy [] i) atEnd

@@ -31,6 +31,7 @@ pub record Refused (i r : List Lexeme) : Type 0 where
   pub dead : (x : Lexeme) (s : List Lexeme) → r ≡ x ∷ s → ¬ Sofar (before ++ x ∷ [])
   pub no-text : (ps : List Policy) → r ≡ [] → ¬ RuleText sizes before ps
 
+-- A refusal's place is such a place.
 unfoldable pub RefusedRightly : Type 0
 RefusedRightly = (i r : List Lexeme) (n : ℕ) → read-text i ≡ refuse n r → Refused i r
 

@@ -1,9 +1,9 @@
 -- The bytes of a path without blanks are its names, joined by dots. Assumes nothing.
 use mathlib.Core.Path.{_≡_, refl, sym, ap, _∙_}
-use mathlib.Core.Bool.{Bool, true, false, cond, _||_}
+use mathlib.Core.Bool.{Bool, true, false, cond}
 use mathlib.Core.List.{List, [], _∷_, _++_}
-use mathlib.Core.Logic.{⊎-elim}
 use Prim.Native.Nat.{ℕ, _+_, _-_, _≤_, _<_}
+use Prim.Native.Char.{code}
 use native.Mathlib.Omega.{arith}
 use lib.Dec.{eqb}
 use lib.ListN.{length, length-append}
@@ -16,12 +16,12 @@ use Rattle.tokens.specs.Kinds as kinds
 use Rattle.tokens.specs.Runs.{is}
 use Rattle.tokens.specs.Forms.{All, empty, next}
 use Rattle.tokens.specs.declared.classes.Sort.the-variants.{Blanks, Letters, WordBytes}
-use Rattle.tokens.proofs.TokenLaws.{and-left, and-right, or-cases}
+use Rattle.tokens.proofs.TokenLaws.{and-left, and-right}
 use Rattle.reading.specs.Lexemes.{Lexeme, size}
 use Rattle.reading.specs.Reads.{Chain.alone, Chain.more}
 use Rattle.grammar.specs.Policies.{span, Root, Root.Principal, Root.Resource, Root.Env, Root.Action}
 use Rattle.grammar.specs.Rules.{spanOf, admitted}
-use Rattle.grammar.specs.Grammar.{sizes, Path, firstPath, longerPath, spanned, first, NextName, Names}
+use Rattle.grammar.specs.Grammar.{sizes, Path, firstPath, longerPath, spanned, first, NextName, APath}
 use Rattle.grammar.specs.Grammar as grammar
 use Rattle.tokens.specs.Blanks.{unblanked}
 use Rattle.placing.specs.Placed.{pathAt, IsName, a-name, one-name, one-more, PathPlaced}
@@ -48,24 +48,18 @@ unfolding unblanked
 unblanked-blanks empty = refl
 unblanked-blanks (next e a) = rw e (unblanked-blanks a)
 
-lone-byte : (c b : ℕ) → is Blanks c ≡ false → eqb b c ≡ true → is Blanks b ≡ false
-lone-byte c b n e = rw (eqb-true b c e) n
-
 letter-no-blank : (b : ℕ) → is Letters b ≡ true → is Blanks b ≡ false
 letter-no-blank b e = rw (eqb-true (classOf b) letter e)
 
 word-no-blank : (b : ℕ) → is WordBytes b ≡ true → is Blanks b ≡ false
 unfolding classOf
-word-no-blank b e =
-    ⊎-elim
-    (λ (f : (eqb (classOf b) letter || eqb (classOf b) digit || eqb b 95) ≡ true).
-    ⊎-elim
-    (λ (g : (eqb (classOf b) letter || eqb (classOf b) digit) ≡ true).
-    ⊎-elim (λ (h : eqb (classOf b) letter ≡ true). letter-no-blank b h) (λ (h : eqb (classOf b) digit ≡ true). rw (eqb-true (classOf b) digit h)) (or-cases _ _ g))
-    (λ (g : eqb b 95 ≡ true). lone-byte 95 b refl g)
-    (or-cases _ _ f))
-    (λ (f : eqb b 45 ≡ true). lone-byte 45 b refl f)
-    (or-cases _ _ e)
+word-no-blank b e = go (eqb (classOf b) letter) (eqb (classOf b) digit) (eqb b (code "_")) refl refl refl
+  where
+    go : (l d u : Bool) → eqb (classOf b) letter ≡ l → eqb (classOf b) digit ≡ d → eqb b (code "_") ≡ u → is Blanks b ≡ false
+    go true d u p q r = letter-no-blank b p
+    go false true u p q r = rw (eqb-true (classOf b) digit q)
+    go false false true p q r = rw (eqb-true b (code "_") r)
+    go false false false p q r = rw (eqb-true b (code "-") (rw (p, q, r) at e))
 
 unblanked-word : {l : List ℕ} → All WordBytes l → unblanked l ≡ l
 unblanked-word empty = unfold unblanked in refl
@@ -165,6 +159,6 @@ module _ {text : List ℕ} {root : Root} where
   step (w, token ld (token l rest)) kd k a = (next-walked w ld kd l k a, rest)
 
   -- a path that the grammar reads
-  pub walked : {i r : List Lexeme} {p : Path} {at : ℕ} → Names sizes root i r p → Running text at i → Walked text root p × Running text (p .end) r
+  pub walked : {i r : List Lexeme} {p : Path} {at : ℕ} → APath sizes root i r p → Running text at i → Walked text root p × Running text (p .end) r
   walked (alone (first k a)) (token l rest) = (first-walked l k a, rest)
   walked (more {x = d} j t (grammar.NextName.next k a)) f = step (walked j f) (eqb-true (d .kind) kinds.dot t) k a

@@ -15,7 +15,7 @@ use Rattle.reading.specs.Lexemes.{Lexeme, is}
 use Rattle.reading.specs.Reads.{Reads, Chain, Chain.alone, Chain.more, Onto, Onto.onto, Before, Before.ended, After, After.begun}
 use Rattle.grammar.specs.Policies.{Span, Root, Literal, text, number, truth, Operand, attribute, Tree, both, either, Part, any, typed, Actions, Policy}
 use Rattle.grammar.specs.Rules.{inside, spanOf, isLiteral, literalOf, typeAmong, typeOf, isType, principalTypes, resourceTypes, isPattern}
-use Rattle.grammar.specs.Grammar.{sizes, spanned, Names, Attribute, rooted, AnOperand, given, Element, element, Listing, Simple, comparison, likeness, listed, held, call, having, Conjunction, Disjunction, Form, simple, negation, bracketed, conditional, Condition, Typed, ResourceRest, ActionRest, When, PolicyRest, Policies}
+use Rattle.grammar.specs.Grammar.{sizes, spanned, APath, Attribute, rooted, AnOperand, given, Element, element, Listing, Simple, comparison, likeness, listed, held, call, having, Conjunction, Disjunction, Form, simple, negation, bracketed, conditional, Condition, Typed, ResourceRest, ActionRest, When, PolicyRest, Policies}
 use Rattle.grammar.specs.Grammar as grammar
 use Rattle.placing.specs.Placed.{quotedAt, StringPlaced, NumberPlaced, PathPlaced, Each, none-left, and-each, LiteralPlaced, a-string, a-number, a-truth, ActionPlaced, an-action, OperandPlaced, an-attribute, a-literal, Listed, TreePlaced, a-constant, a-comparison, a-likeness, in-list, in-attribute, a-call, a-presence, a-negation, in-brackets, a-conjunction, a-disjunction, a-choice, depth, PrincipalPlaced, any-principal, principal-type, ResourcePlaced, any-resource, resource-type, one-resource, ActionsPlaced, any-action, one-of, ConditionPlaced, no-condition, a-condition, PolicyPlaced, PoliciesPlaced}
 use Rattle.placing.proofs.EachLaws.{each-append}
@@ -105,7 +105,7 @@ module _ {t : List ℕ} where
   unfolding literalOf
   action-placed e l = rw e (an-action (string-of l (eqb-true _ _ e)))
 
-  gives-names : (root : Root) → Gives t (Names sizes root) (λ p. PathPlaced t root (spanned p))
+  gives-names : (root : Root) → Gives t (APath sizes root) (λ p. PathPlaced t root (spanned p))
   gives-names root = record { at = λ h f. let y = walked h (f .running) in (y .0 .placed, record { at = _; running = y .1 }) }
 
   gives-attribute : Gives t (Attribute sizes) (OperandPlaced t)

@@ -74,15 +74,17 @@ pub data Each {A : Type 0} (P : A → Type 0) : List A → Type 0 where
   none-left : Each P []
   and-each : {a : A} {l : List A} → P a → Each P l → Each P (a ∷ l)
 
+-- a literal: a string or a number that lies in the text, or true or false
 pub data LiteralPlaced (t : List ℕ) : Literal → Type 0 where
   a-string : {s : Span} → StringPlaced t s → LiteralPlaced t (text s)
   a-number : {s : Span} → NumberPlaced t s → LiteralPlaced t (number s)
   a-truth : {b : Bool} → LiteralPlaced t (truth b)
 
--- a literal that is a string
+-- a literal of an action part: a string
 pub data ActionPlaced (t : List ℕ) : Literal → Type 0 where
   an-action : {s : Span} → StringPlaced t s → ActionPlaced t (text s)
 
+-- an operand: an attribute whose path lies in the text, or a literal
 pub data OperandPlaced (t : List ℕ) : Operand → Type 0 where
   an-attribute : {root : Root} {s : Span} → PathPlaced t root s → OperandPlaced t (attribute root s)
   a-literal : {l : Literal} → LiteralPlaced t l → OperandPlaced t (literal l)
@@ -95,6 +97,7 @@ pub record Listed (P : Literal → Type 0) (ls : List Literal) : Type 0 where
 
 -- ---- conditions
 
+-- a condition: what it has lies in the text, its patterns keep their rule, and its lists have 1 to 16 literals
 pub data TreePlaced (t : List ℕ) : Tree → Type 0 where
   a-constant : {b : Bool} → TreePlaced t (constant b)
   a-comparison : {c : Comparator} {a b : Operand} → OperandPlaced t a → OperandPlaced t b → TreePlaced t (compare c a b)
@@ -137,7 +140,7 @@ pub data ResourcePlaced (t : List ℕ) : Part → Type 0 where
   resource-type : {n : ℕ} → 0 < n → n ≤ 4 → ResourcePlaced t (typed n)
   one-resource : {s : Span} → StringPlaced t s → ResourcePlaced t (pinned s)
 
--- an action part: its literals are strings
+-- an action part: 1 to 16 strings
 pub data ActionsPlaced (t : List ℕ) : Actions → Type 0 where
   any-action : ActionsPlaced t every
   one-of : {ls : List Literal} → Listed (ActionPlaced t) ls → ActionsPlaced t (oneOf ls)
@@ -147,13 +150,14 @@ pub data ConditionPlaced (t : List ℕ) : Option Tree → Type 0 where
   no-condition : ConditionPlaced t none
   a-condition : {c : Tree} → TreePlaced t c → depth c ≤ 32 → ConditionPlaced t (some c)
 
+-- a policy: its parts and its condition
 pub record PolicyPlaced (t : List ℕ) (p : Policy) : Type 0 where
   pub principal : PrincipalPlaced (p .principal)
   pub action : ActionsPlaced t (p .action)
   pub resource : ResourcePlaced t (p .resource)
   pub condition : ConditionPlaced t (p .condition)
 
--- at most 64 policies
+-- a text's policies: at most 64
 pub record PoliciesPlaced (t : List ℕ) (ps : List Policy) : Type 0 where
   pub few : length ps ≤ mostPolicies
   pub each : Each (PolicyPlaced t) ps

@@ -93,18 +93,19 @@ pub goes-need : {A : Type 0} (P : A → List Lexeme → Type 0) (Q : ℕ → Lis
 unfolding need
 goes-need P Q k f i q h = goes-on P Q (is k) (λ _. f) (refuseBy ten) i (λ x r e t. h x r e (eqb-true _ _ t)) (goes-ten i q)
 
-need-bind : {A B : Type 0} (k : ℕ) (p : Reader A) (f : A → Reader B) (i : List Lexeme) → need k (λ j. bind (p j) f) i ≡ bind (need k p i) f
+-- a token, and after it what p reads and then f
+pub need-bind : {A B : Type 0} (k : ℕ) (g : Reader B) (p : Reader A) (f : A → Reader B) → ((j : List Lexeme) → g j ≡ bind (p j) f) → (i : List Lexeme) → need k g i ≡ bind (need k p i) f
 unfolding need on choose refuseBy bind
-need-bind k p f [] = refl
-need-bind k p f (x ∷ i) = go (is k x)
+need-bind k g p f h [] = refl
+need-bind k g p f h (x ∷ i) = go (is k x)
   where
-    go : (o : Bool) → choose o (λ _. bind (p i) f) (λ _. refuseBy ten (x ∷ i)) ≡ bind (choose o (λ _. p i) (λ _. refuseBy ten (x ∷ i))) f
-    go true = refl
+    go : (o : Bool) → choose o (λ _. g i) (λ _. refuseBy ten (x ∷ i)) ≡ bind (choose o (λ _. p i) (λ _. refuseBy ten (x ∷ i))) f
+    go true = h i
     go false = refl
 
 pub goes-need-bind : {A B : Type 0} {P : A → List Lexeme → Type 0} {Q Q′ : ℕ → List Lexeme → Type 0} {P′ : B → List Lexeme → Type 0} (k : ℕ) (p : Reader A) (f : A → Reader B) (i : List Lexeme)
     → Goes P Q (need k p i) → ((n : ℕ) (r : List Lexeme) → Q n r → Q′ n r) → ((a : A) (r : List Lexeme) → P a r → Goes P′ Q′ (f a r)) → Goes P′ Q′ (need k (λ j. bind (p j) f) i)
-goes-need-bind k p f i h q g = rw (need-bind k p f i) (goes-bind f h q g)
+goes-need-bind k p f i h q g = rw (need-bind k (λ j. bind (p j) f) p f (λ j. refl) i) (goes-bind f h q g)
 
 -- what holds before a loop and after each of its turns holds where it ends
 pub goes-onwards : {A : Type 0} (P : A → List Lexeme → Type 0) (Q : ℕ → List Lexeme → Type 0) (sep : A → Lexeme → Bool) (q : A → Lexeme → Reader A)
@@ -151,28 +152,28 @@ takes s t = record { at = λ i r a e. t .at (goes-took (rw e at (s i))) }
 -- ---- a chain's loop, with no bound on its turns: what a proof of code cites
 
 module _ {A : Type 0} (sep : A → Lexeme → Bool) (q : A → Lexeme → Reader A) (t : (a : A) (x : Lexeme) → Takes (q a x)) where
+  -- one turn, and then F or G: they need only agree on what is left
+  turn : (F G : A → Reader A) (a : A) (i : List Lexeme) → ((b : A) (r : List Lexeme) → length r < length i → F b r ≡ G b r)
+      → on (sep a) (λ x m. bind (q a x m) F) (took a) i ≡ on (sep a) (λ x m. bind (q a x m) G) (took a) i
+  unfolding on choose bind
+  turn F G a [] h = refl
+  turn F G a (x ∷ i) h = go (sep a x) (q a x i) refl
+    where
+      go : (o : Bool) (y : Answer A) → q a x i ≡ y → choose o (λ _. bind y F) (λ _. took a (x ∷ i)) ≡ choose o (λ _. bind y G) (λ _. took a (x ∷ i))
+      go false y e = refl
+      go true (took b r) e = let z = t a x .at i r b e in h b r (omega arith)
+      go true (refuse m r) e = refl
+
   enough : (n k : ℕ) (a : A) (i : List Lexeme) → length i ≤ n → length i ≤ k → upTo n sep q a i ≡ upTo k sep q a i
-  unfolding upTo on choose bind
+  unfolding upTo on
   enough zero zero a i l m = refl
   enough zero (suc k) a [] l m = refl
   enough zero (suc k) a (x ∷ i) l m = absurd (omega arith)
   enough (suc n) zero a [] l m = refl
   enough (suc n) zero a (x ∷ i) l m = absurd (omega arith)
-  enough (suc n) (suc k) a [] l m = refl
-  enough (suc n) (suc k) a (x ∷ i) l m = go (sep a x) (q a x i) refl (λ b r z. enough n k b r (omega arith) (omega arith))
-    where
-      go : (o : Bool) (y : Answer A) → q a x i ≡ y → ((b : A) (r : List Lexeme) → length r < length i → upTo n sep q b r ≡ upTo k sep q b r)
-          → choose o (λ _. bind y (upTo n sep q)) (λ _. took a (x ∷ i)) ≡ choose o (λ _. bind y (upTo k sep q)) (λ _. took a (x ∷ i))
-      go false y e f = refl
-      go true (took b r) e f = f b r (t a x .at i r b e)
-      go true (refuse m r) e f = refl
+  enough (suc n) (suc k) a i l m = turn _ _ a i (λ b r z. enough n k b r (omega arith) (omega arith))
 
   pub onwards-step : (a : A) (i : List Lexeme) → onwards sep q a i ≡ on (sep a) (λ x m. bind (q a x m) (onwards sep q)) (took a) i
-  unfolding onwards upTo on choose bind
+  unfolding onwards upTo on
   onwards-step a [] = refl
-  onwards-step a (x ∷ i) = go (sep a x) (q a x i) refl
-    where
-      go : (o : Bool) (y : Answer A) → q a x i ≡ y → choose o (λ _. bind y (upTo (length i) sep q)) (λ _. took a (x ∷ i)) ≡ choose o (λ _. bind y (onwards sep q)) (λ _. took a (x ∷ i))
-      go false y e = refl
-      go true (took b r) e = let z = t a x .at i r b e in enough (length i) (length r) b r (omega arith) (omega arith)
-      go true (refuse m r) e = refl
+  onwards-step a (x ∷ i) = turn _ _ a (x ∷ i) (λ b r z. enough (length i) (length r) b r (omega arith) (omega arith))

@@ -15,33 +15,30 @@ use Rattle.reading.specs.Reader.{Reader, on}
 use Rattle.reading.proofs.Readers.{on-token, on-other}
 
 module _ (text : List ℕ) where
+  -- the token at a place, and then f or g: they need only agree on what is left
+  followed : (f g : ℕ → List Lexeme) (at : ℕ) → at ≤ length text → ((end : ℕ) → at < end → end ≤ length text → f end ≡ g end)
+      → following text (tokenAt text at) f ≡ following text (tokenAt text at) g
+  unfolding following choose
+  followed f g at h k = go (eqb (tokenAt text at .kind) 0) refl
+    where
+      go : (b : Bool) → eqb (tokenAt text at .kind) 0 ≡ b
+          → choose b (λ _. []) (λ _. lexeme text (tokenAt text at) ∷ f (tokenAt text at .end)) ≡ choose b (λ _. []) (λ _. lexeme text (tokenAt text at) ∷ g (tokenAt text at .end))
+      go true e = refl
+      go false e =
+          let r = reads text at h in let s = r .some (eqb-false _ _ e) in let low = r .low in
+          ap (λ (l : List Lexeme). lexeme text (tokenAt text at) ∷ l) (k (tokenAt text at .end) (omega arith) (r .high))
+
   -- one turn more than there are tokens changes nothing
   enough : (n k at : ℕ) → at ≤ length text → length text < n + at → length text < k + at → tokensUpTo n text at ≡ tokensUpTo k text at
-  unfolding tokensUpTo following choose
+  unfolding tokensUpTo
   enough zero k at h l m = absurd (omega arith)
   enough (suc n) zero at h l m = absurd (omega arith)
-  enough (suc n) (suc k) at h l m =
-      go (eqb (tokenAt text at .kind) 0)
-      (λ e. let r = reads text at h in let s = r .some (eqb-false _ _ e) in let low = r .low in enough n k (tokenAt text at .end) (r .high) (omega arith) (omega arith)) refl
-    where
-      go : (b : Bool) → (eqb (tokenAt text at .kind) 0 ≡ false → tokensUpTo n text (tokenAt text at .end) ≡ tokensUpTo k text (tokenAt text at .end)) → eqb (tokenAt text at .kind) 0 ≡ b
-          → choose b (λ _. []) (λ _. lexeme text (tokenAt text at) ∷ tokensUpTo n text (tokenAt text at .end)) ≡ choose b (λ _. []) (λ _. lexeme text (tokenAt text at) ∷ tokensUpTo k text (tokenAt text at .end))
-      go true f e = refl
-      go false f e = ap (λ (l : List Lexeme). lexeme text (tokenAt text at) ∷ l) (f e)
+  enough (suc n) (suc k) at h l m = followed _ _ at h (λ end low high. enough n k end high (omega arith) (omega arith))
 
   -- the tokens from a place on are those from the token there on
   pub tokens-from : (at : ℕ) → at ≤ length text → tokensFrom text at ≡ stream text (tokenAt text at)
-  unfolding tokensFrom stream tokensUpTo following choose
-  tokens-from at h = go (eqb (tokenAt text at .kind) 0) refl
-    where
-      go : (b : Bool) → eqb (tokenAt text at .kind) 0 ≡ b
-          → choose b (λ _. []) (λ _. lexeme text (tokenAt text at) ∷ tokensUpTo (length text) text (tokenAt text at .end)) ≡ choose b (λ _. []) (λ _. lexeme text (tokenAt text at) ∷ tokensUpTo (suc (length text)) text (tokenAt text at .end))
-      go true e = refl
-      go false e =
-          let r = reads text at h in
-          let s = r .some (eqb-false _ _ e) in
-          let low = r .low in
-          ap (λ (l : List Lexeme). lexeme text (tokenAt text at) ∷ l) (enough (length text) (suc (length text)) (tokenAt text at .end) (r .high) (omega arith) (omega arith))
+  unfolding tokensFrom stream tokensUpTo
+  tokens-from at h = followed _ _ at h (λ end low high. enough (length text) (suc (length text)) end high (omega arith) (omega arith))
 
   module _ (t : Token) where
     pub stream-end : t .kind ≡ 0 → stream text t ≡ []

@@ -23,10 +23,11 @@ lexeme text t = record { kind = t .kind; start = t .start; end = t .end; bytes =
 abbrev pub is : ℕ → Lexeme → Bool
 is k x = eqb (x .kind) k
 
--- how many bytes a token has
+-- how many bytes a token has, by its places
 abbrev pub size : Lexeme → ℕ
 size x = x .end - x .start
 
+-- the first of two where the test holds, else the second; only the one that is chosen is computed
 unfoldable pub choose : {A : Type 0} → Bool → (Unit {0} → A) → (Unit {0} → A) → A
 choose true f g = f tt
 choose false f g = g tt
@@ -35,6 +36,7 @@ choose false f g = g tt
 unfoldable pub following : List ℕ → Token → (ℕ → List Lexeme) → List Lexeme
 following text t rest = choose (eqb (t .kind) endOfText) (λ _. []) (λ _. lexeme text t ∷ rest (t .end))
 
+-- the first n tokens of a text from a place on, or all there are
 unfoldable pub tokensUpTo : ℕ → List ℕ → ℕ → List Lexeme
 tokensUpTo zero text at = []
 tokensUpTo (suc n) text at = following text (tokenAt text at) (tokensUpTo n text)

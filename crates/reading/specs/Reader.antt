@@ -11,6 +11,7 @@ pub data Answer (A : Type 0) : Type 0 where
   took : A → List Lexeme → Answer A
   refuse : ℕ → List Lexeme → Answer A
 
+-- what finds an A at the front of a list of tokens
 abbrev pub Reader : Type 0 → Type 0
 Reader A = List Lexeme → Answer A
 
@@ -27,7 +28,7 @@ refuseBy number (x ∷ r) = refuse (numbered number x) (x ∷ r)
 abbrev pub ten : Lexeme → ℕ
 ten x = 10
 
--- first the one, then the other
+-- after an answer, what f reads from the tokens that are left; a refusal stays
 unfoldable pub bind : {A B : Type 0} → Answer A → (A → Reader B) → Answer B
 bind (took a r) f = f a r
 bind (refuse n r) f = refuse n r
@@ -45,6 +46,7 @@ need k f = on (is k) (λ _. f) (refuseBy ten)
 unfoldable pub before : {A : Type 0} → ℕ → Reader A → Reader A
 before k p i = bind (p i) (λ a. need k (took a))
 
+-- f of what p reads
 unfoldable pub mapped : {A B : Type 0} → (A → B) → Reader A → Reader B
 mapped f p i = bind (p i) (λ a. took (f a))
 
@@ -53,9 +55,10 @@ unfoldable pub upTo : {A : Type 0} → ℕ → (A → Lexeme → Bool) → (A �
 upTo zero sep next a = took a
 upTo (suc n) sep next a = on (sep a) (λ x m. bind (next a x m) (upTo n sep next)) (took a)
 
--- as many times as there are tokens is no bound
+-- the same any number of times: each takes a token, so as many as there are tokens is no bound
 unfoldable pub onwards : {A : Type 0} → (A → Lexeme → Bool) → (A → Lexeme → Reader A) → A → Reader A
 onwards sep next a i = upTo (length i) sep next a i
 
+-- what `first` reads, and then any number of separators with what `next` reads after each
 unfoldable pub chain : {A : Type 0} → (A → Lexeme → Bool) → Reader A → (A → Lexeme → Reader A) → Reader A
 chain sep first next i = bind (first i) (onwards sep next)
