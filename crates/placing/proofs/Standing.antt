@@ -2,28 +2,25 @@
 use mathlib.Core.Path.{_≡_, refl, sym, ap, _∙_}
 use mathlib.Core.Bool.{Bool, true, false, not, _&&_, _||_}
 use mathlib.Core.List.{List, [], _∷_, _++_}
-use mathlib.Core.Logic.{⊎-elim}
 use Prim.Native.Nat.{ℕ, zero, suc, _+_, _-_, _≤_, _<_}
 use native.Mathlib.Nat.{add-zero}
 use native.Mathlib.Omega.{arith}
 use lib.Dec.{eqb}
 use lib.ListN.{length, getD, take, drop, length-append, length-drop}
-use lib.Seq.{take-append-seam, drop-append-seam, drop-drop, length-take-le, take-take, getD-take, getD-drop, getD-append-seam}
+use lib.Seq.{take-append-seam, drop-drop, length-take-le, take-take, getD-take, getD-drop, getD-append-seam}
 use borrow.Author.Tests.{eqb-false, not-true}
 use Rattle.slices.specs.Same.{same}
 use Rattle.slices.proofs.Equal.{same-decides}
 use Rattle.tokens.specs.Kinds as kinds
-use Rattle.tokens.specs.Words.{wordKind, reserved}
 use Rattle.tokens.specs.Tokens.{tokenAt}
-use Rattle.tokens.specs.Forms.{All, marks, Among, Form, sizeOf, mostOf, Stands, end-of-text, a-token, too-long, a-colon, bad-byte, unended, bad-inside, quote}
+use Rattle.tokens.specs.Forms.{All, marks, Among, Form, sizeOf, mostOf, quote}
 use Rattle.tokens.specs.Forms as forms
 use Rattle.tokens.specs.declared.classes.Sort.the-variants.{Blanks, StringBytes}
-use Rattle.tokens.specs.declared.reader.Token.{Token}
 use Rattle.tokens.proofs.TokenLaws.{every, and-left, and-right}
-use Rattle.tokens.proofs.KindLaws.{kind-among}
+use Rattle.tokens.proofs.KindLaws.{word-high}
 use Rattle.tokens.proofs.FormLaws.{mark-passes}
 use Rattle.tokens.proofs.ReadLaws.{reads}
-use Rattle.tokens.proofs.Longest.{longest-token}
+use Rattle.tokens.proofs.Told.{token-told}
 use Rattle.numbers.proofs.NumberTokens.{token-is-number}
 use Rattle.reading.specs.Lexemes.{Lexeme, lexeme, choose, following, tokensUpTo, tokensFrom, tokensOf}
 use Rattle.grammar.specs.Policies.{span}
@@ -53,9 +50,6 @@ dot-mark : {kind : ℕ} {l : List ℕ} → Among marks kind l → kind ≡ kinds
 dot-mark {kind} {l} m e =
     same-decides l (kinds.dot ∷ []) .sound (rw e at (and-right (not (eqb kind kinds.name)) _ (and-right (not (eqb kind kinds.string)) _ (mark-told m))))
 
-word-kind : (w : List ℕ) (k : ℕ) → wordKind w ≡ k → (k ≡ kinds.name → ⊥) → k < 201 → ⊥
-word-kind w k e n h = ⊎-elim (λ (f : wordKind w ≡ kinds.name). n (sym e ∙ f)) (λ (l : 201 ≤ wordKind w). omega arith) (kind-among reserved 201 w)
-
 -- a name's bytes, a string's, a dot's
 pub name-form : {kind : ℕ} {l : List ℕ} → Form kind l → kind ≡ kinds.name → IsName l
 name-form (forms.Form.a-word e a) k = a-name e a k
@@ -64,7 +58,7 @@ name-form (forms.Form.a-number n) k = absurd (omega arith)
 name-form (forms.Form.a-mark m) k = absurd (no-name-mark m k)
 
 pub dot-form : {kind : ℕ} {l : List ℕ} → Form kind l → kind ≡ kinds.dot → l ≡ kinds.dot ∷ []
-dot-form (forms.Form.a-word {b} {rest} e a) k = absurd (word-kind (b ∷ rest) kinds.dot k (λ z. omega arith) (omega arith))
+dot-form (forms.Form.a-word {b} {rest} e a) k = absurd (omega (arith, word-high (b ∷ rest)))
 dot-form (forms.Form.a-string a) k = absurd (omega arith)
 dot-form (forms.Form.a-number n) k = absurd (omega arith)
 dot-form (forms.Form.a-mark m) k = dot-mark m k
@@ -73,35 +67,12 @@ pub data Quoted : List ℕ → Type 0 where
   quoted : {inside : List ℕ} → All StringBytes inside → Quoted (quote ∷ (inside ++ quote ∷ []))
 
 string-form : {kind : ℕ} {l : List ℕ} → Form kind l → kind ≡ kinds.string → Quoted l
-string-form (forms.Form.a-word {b} {rest} e a) k = absurd (word-kind (b ∷ rest) kinds.string k (λ z. omega arith) (omega arith))
+string-form (forms.Form.a-word {b} {rest} e a) k = absurd (omega (arith, word-high (b ∷ rest)))
 string-form (forms.Form.a-string a) k = quoted a
 string-form (forms.Form.a-number n) k = absurd (omega arith)
 string-form (forms.Form.a-mark m) k = absurd (no-string-mark m k)
 
 -- ---- a token of a text
-
--- the token t stands at or after a place: before it stand only blanks, and its bytes have the form of its kind, within its size
-record Told (text : List ℕ) (at : ℕ) (t : Token) : Type 0 where
-  gap : All Blanks (between text at (t .start))
-  form : Form (t .kind) (between text (t .start) (t .end))
-  few : sizeOf (t .kind) (between text (t .start) (t .end)) ≤ mostOf (t .kind)
-
-told : (text blanks rest : List ℕ) (at : ℕ) {t : Token} → drop at text ≡ blanks ++ rest → All Blanks blanks → Stands (at + length blanks) rest t
-    → 6 < t .kind → Told text at t
-told text blanks rest at e a end-of-text h = absurd (omega arith)
-told text blanks rest at e a (a-token {kind} {p} f s) h =
-    let start = at + length blanks in
-    let size : start - at ≡ length blanks = omega arith in
-    let size′ : start + length p - start ≡ length p = omega arith in
-    let gap : between text at start ≡ blanks = rw (size, e) (take-append-seam blanks rest) in
-    let behind : drop start text ≡ rest = sym (drop-drop (length blanks) at text) ∙ rw e (drop-append-seam blanks rest) in
-    let bytes : between text start (start + length p) ≡ p = rw (size′, behind, f .begins .parts) (take-append-seam p (f .begins .more)) in
-    record { gap = rw gap a; form = rw bytes (f .form); few = rw bytes s }
-told text blanks rest at e a (too-long f s) h = absurd (omega arith)
-told text blanks rest at e a (a-colon f) h = absurd (omega arith)
-told text blanks rest at e a (bad-byte f c q) h = absurd (omega arith)
-told text blanks rest at e a (unended f b) h = absurd (omega arith)
-told text blanks rest at e a (bad-inside l f b o) h = absurd (omega arith)
 
 -- a token x of a text, read at a place; a number is one in the text
 pub record Lexed (text : List ℕ) (at : ℕ) (x : Lexeme) : Type 0 where
@@ -119,8 +90,7 @@ lexed text at h n =
     let t = tokenAt text at in
     let lies = reads text at h in
     let some = lies .some n in
-    let s = longest-token text at h in
-    let all : 6 < t .kind → Told text at t = told text (s .blanks) (s .rest) at (s .parts) (s .passed) (s .stands) in
+    let all = token-told text at h in
     record {
       low = lies .low;
       some = some;
