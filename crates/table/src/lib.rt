@@ -1,11 +1,13 @@
 // The table's bytes: nothing else looks into a table or writes into one. An entry is there whole or not at all.
+pub mod entries;
+
 ghost use mathlib.Core.Path.{_≡_};
 ghost use mathlib.Core.Bool.{_&&_};
 ghost use Prim.Native.Nat.{_+_, _*_, _<_, _≤_, _^_};
 ghost use lib.ListN.{length};
 ghost use Rattle.table.specs.Layout.{putAt, numberOf, entryAt, entryIs};
 
-// An entry: a kind and two fields.
+// An entry: a kind and two fields. In a table it takes five bytes: the kind, and two for each field.
 pub struct Entry {
     pub kind: u8,
     pub first: usize,
