@@ -4,3 +4,4 @@ pub mod answers;
 pub mod lists;
 pub mod operands;
 pub mod paths;
+pub mod refusals;
