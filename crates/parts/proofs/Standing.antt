@@ -1,5 +1,5 @@
 -- The token that stands next: where it lies, what its refusal says, and what a reader makes of it. Assumes nothing.
-use mathlib.Core.Path.{_≡_, refl, _∙_}
+use mathlib.Core.Path.{_≡_, refl, _∙_, ap}
 use mathlib.Core.Bool.{Bool, true, false}
 use mathlib.Core.List.{List, [], _∷_}
 use Prim.Native.Nat.{ℕ, _+_, _^_, _≤_, _<_}
@@ -58,6 +58,10 @@ module _ (text : List ℕ) (t : Token) where
       go : (b : Bool) → eqb (t .kind) 0 ≡ b → Turned text {A = A} (refuseBy number (stream text t)) f
       go true e = record { number = 10; rest = []; is = rw (stream-end text t (eqb-true _ _ e)); told = p ∙ rw e }
       go false e = token-turned (ltb (t .kind) 7) e refl
+
+  -- the same by a number that was found otherwise
+  pub turned-for : {A : Type 0} (number : Lexeme → ℕ) {n : ℕ} → n ≡ number (lexeme text t) → {f : Refusal} → f ≡ turnedAway (length text) n t → Turned text {A = A} (refuseBy number (stream text t)) f
+  turned-for number e p = turned number (p ∙ ap (λ (n : ℕ). turnedAway (length text) n t) e)
 
   -- a token of a kind that must stand next, and does or does not
   pub need-on : {A : Type 0} (k : ℕ) (f : Reader A) (n : Token) → 0 < k → t .kind ≡ k → t .end ≤ length text → n ≡ tokenAt text (t .end) → need k f (stream text t) ≡ f (stream text n)

@@ -13,7 +13,7 @@ use Rattle.grammar.specs.Parser.{read-action}
 use Rattle.grammar.specs.Policies.{every, oneOf}
 use Rattle.table.specs.Entries.{entry, actionEntries}
 use Rattle.parts.specs.Names.{sortOf}
-use Rattle.parts.proofs.Simple.{list-count}
+use Rattle.parts.proofs.Literals.{list-count}
 use Rattle.parts.proofs.Standing.{number-small, standing, ready-past, turned-as, need-on, need-off}
 use Rattle.parts.proofs.Writing.{done-as, turned-done, one-done, kept-none, closing, free-small, counts}
 use Rattle.heads.proofs.read_action.Statement.{statement}

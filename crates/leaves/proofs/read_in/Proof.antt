@@ -15,9 +15,10 @@ use Rattle.grammar.specs.Rules.{isRoot}
 use Rattle.table.specs.Entries.{entry, treeEntries}
 use Rattle.parts.specs.Names.{rootFrom, sortOf}
 use Rattle.parts.proofs.Roots.{root-of}
-use Rattle.parts.proofs.Simple.{attribute-is, list-count}
+use Rattle.parts.proofs.Literals.{list-count}
 use Rattle.parts.proofs.Sorts.{root-some}
 use Rattle.parts.proofs.Standing.{number-small, past, ready-past, turned-as, turned}
+use Rattle.parts.proofs.Ways.{attribute-is}
 use Rattle.parts.proofs.Writing.{done-as, turned-done, kept-one, closing, free-small, counts}
 use Rattle.leaves.proofs.read_in.Statement.{statement}
 use Rattle.leaves.proofs.read_in.Tie as tie

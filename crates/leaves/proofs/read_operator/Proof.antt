@@ -9,10 +9,10 @@ use Rattle.reading.specs.Lexemes.{lexeme, is}
 use Rattle.grammar.specs.Parser.{read-operator}
 use Rattle.grammar.specs.Rules.{isComparator, comparatorOf}
 use Rattle.parts.specs.Names.{comparing}
-use Rattle.parts.proofs.Simple.{compares, no-compare, compare-is}
 use Rattle.parts.proofs.Sorts.{comparator-some}
 use Rattle.parts.proofs.Standing.{past, ready-past}
 use Rattle.parts.proofs.Writing.{done-as, weaker}
+use Rattle.leaves.proofs.Simple.{compares, no-compare, compare-is}
 use Rattle.leaves.proofs.read_operator.Statement.{statement}
 use Rattle.leaves.proofs.read_operator.Tie as tie
 
