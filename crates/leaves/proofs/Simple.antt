@@ -16,6 +16,7 @@ use Rattle.table.specs.declared.Entry.{Entry}
 use Rattle.table.specs.Entries.{comparatorKind, whichKind, literalEntry, operandEntry, treeEntries}
 use Rattle.parts.specs.Names.{ofKind, comparing}
 use Rattle.parts.specs.Answers.{callAfter}
+use Rattle.parts.proofs.Roots.{root-small}
 
 -- ---- comparators
 
@@ -80,10 +81,7 @@ module _ {left : Entry} where
 
   pub bare-other : (a : Operand) → operandEntry a ≡ left → 4 < left .kind → left .kind ≤ 10 → read-bare a ≡ refuseBy ten
   unfolding read-bare operandEntry literalEntry
-  bare-other (attribute Root.Principal p) e l h = absurd (let k = ap (λ (x : Entry). x .kind) e in omega arith)
-  bare-other (attribute Root.Resource p) e l h = absurd (let k = ap (λ (x : Entry). x .kind) e in omega arith)
-  bare-other (attribute Root.Env p) e l h = absurd (let k = ap (λ (x : Entry). x .kind) e in omega arith)
-  bare-other (attribute Root.Action p) e l h = absurd (let k = ap (λ (x : Entry). x .kind) e in omega arith)
+  bare-other (attribute root p) e l h = absurd (let k = ap (λ (x : Entry). x .kind) e in let n = root-small _ root refl in omega arith)
   bare-other (literal (text s)) e l h = refl
   bare-other (literal (number s)) e l h = refl
   bare-other (literal (truth true)) e l h = absurd (let k = ap (λ (x : Entry). x .kind) e in omega arith)
@@ -97,10 +95,7 @@ pub record Alone (left : Entry) (a : Operand) : Type 0 where
 
 pub bare-truth : {left : Entry} (a : Operand) → operandEntry a ≡ left → 10 < left .kind → Alone left a
 unfolding read-bare operandEntry literalEntry treeEntries
-bare-truth (attribute Root.Principal p) e h = absurd (let k = ap (λ (x : Entry). x .kind) e in omega arith)
-bare-truth (attribute Root.Resource p) e h = absurd (let k = ap (λ (x : Entry). x .kind) e in omega arith)
-bare-truth (attribute Root.Env p) e h = absurd (let k = ap (λ (x : Entry). x .kind) e in omega arith)
-bare-truth (attribute Root.Action p) e h = absurd (let k = ap (λ (x : Entry). x .kind) e in omega arith)
+bare-truth (attribute root p) e h = absurd (let k = ap (λ (x : Entry). x .kind) e in let n = root-small _ root refl in omega arith)
 bare-truth (literal (text s)) e h = absurd (let k = ap (λ (x : Entry). x .kind) e in omega arith)
 bare-truth (literal (number s)) e h = absurd (let k = ap (λ (x : Entry). x .kind) e in omega arith)
 bare-truth (literal (truth true)) e h = record { value = true; reads = refl; entries = λ n. ap (λ (x : Entry). x ∷ []) e }
