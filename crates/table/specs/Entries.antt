@@ -67,13 +67,9 @@ whichKind Any = 23
 abbrev pub joint : ℕ → ℕ → List Entry → (ℕ → List Entry) → List Entry
 joint kind e left right = (left ++ right (e + length left)) ++ entry kind (e + length left) 0 ∷ []
 
--- a node after its three parts: it says where the second, number f, and the third begin
-abbrev pub fork′ : ℕ → List Entry → List Entry → (ℕ → List Entry) → List Entry
-fork′ f a b c = ((a ++ b) ++ c (f + length b)) ++ entry 28 f (f + length b) ∷ []
-
--- the same by the number e at which the first begins
+-- a node after its three parts: it says where the second and the third begin
 abbrev pub fork : ℕ → List Entry → (ℕ → List Entry) → (ℕ → List Entry) → List Entry
-fork e a b c = fork′ (e + length a) a (b (e + length a)) c
+fork e a b c = let f = e + length a in let g = f + length (b f) in ((a ++ b f) ++ c g) ++ entry 28 f g ∷ []
 
 -- the entries of a condition whose first is number e
 unfoldable pub treeEntries : ℕ → Tree → List Entry

@@ -50,7 +50,7 @@ pub fn entry_at(table: &[u8], number: usize) -> Entry
 }
 
 // Whether this is entry `number` of the table.
-pub fn entry_is(table: &[u8], number: usize, x: Entry) -> bool
+fn entry_is(table: &[u8], number: usize, x: Entry) -> bool
     requires { ⌜ number < 2 ^ 60 ⌝ }
     ensures { λ r. ⌜ r ≡ entryIs (now (table .entry)) number x ⌝ }
 {
@@ -66,7 +66,7 @@ pub fn entry_is(table: &[u8], number: usize, x: Entry) -> bool
 }
 
 // Puts an entry into the table, where there is room for all of it.
-pub fn put_entry(table: &mut [u8], number: usize, x: Entry)
+fn put_entry(table: &mut [u8], number: usize, x: Entry)
     requires { ⌜ number < 2 ^ 60 ⌝ }
     ensures { λ _. ⌜ now (table .exit) ≡ putAt (now (table .entry)) number x ⌝ }
 {
