@@ -48,7 +48,7 @@ fn resource_type(name: &[u8]) -> usize
     number_if(name, b"controller", 1, n)
 }
 
-// The same among those of the one or the other.
+// The same among those of the resource, or else of the principal.
 pub fn type_number(resource: bool, name: &[u8]) -> usize
     ensures { λ r. ⌜ r ≡ typeAmong (typesOf resource) 1 (now (name .entry)) ⌝ }
 {

@@ -58,8 +58,8 @@ module _ (sort : Lexeme → Bool) where
     count : free ≡ first + length (l .ls)
     count = l .kept .counted .free-is ∙ ap (λ (n : ℕ). first + n) (length-map (l .ls) literalEntry)
 
-    pub few : first ≤ free
-    few = let x = count in omega arith
+    pub free-past : first ≤ free
+    free-past = let x = count in omega arith
 
     refuses : isElement sort (l .ls) (lexeme text at) ≡ false → {f : Refusal} → f ≡ turnedAway (length text) (tooMany sort (lexeme text at)) at → Turned text total f
     unfolding read-element
