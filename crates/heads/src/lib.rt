@@ -14,9 +14,11 @@ use parts::answers::Answer;
 use parts::answers::counted;
 use parts::answers::turned_away;
 use parts::lists::read_list;
+use parts::refusals;
 use slices::same as equal;
 use table::Entry;
 use table::append;
+use table::entries;
 use tokens::kinds;
 use tokens::reader::Token;
 use tokens::reader::next_token;
@@ -28,7 +30,7 @@ fn number_if(name: &[u8], sort: &[u8], number: usize, other: usize) -> usize
     if equal(name, sort) { number } else { other }
 }
 
-// The number of a type among those of the principal, and among those of the resource; 0 where the name is none of them.
+// The number of a type among those of the principal; 0 where the name is none of them.
 fn principal_type(name: &[u8]) -> usize
     ensures { λ r. ⌜ r ≡ typeAmong principalTypes 1 (now (name .entry)) ⌝ }
 {
@@ -36,6 +38,7 @@ fn principal_type(name: &[u8]) -> usize
     number_if(name, b"person", 1, n)
 }
 
+// The same among those of the resource.
 fn resource_type(name: &[u8]) -> usize
     ensures { λ r. ⌜ r ≡ typeAmong resourceTypes 1 (now (name .entry)) ⌝ }
 {
@@ -45,6 +48,7 @@ fn resource_type(name: &[u8]) -> usize
     number_if(name, b"controller", 1, n)
 }
 
+// The same among those of the resource, or else of the principal.
 pub fn type_number(resource: bool, name: &[u8]) -> usize
     ensures { λ r. ⌜ r ≡ typeAmong (typesOf resource) 1 (now (name .entry)) ⌝ }
 {
@@ -71,13 +75,13 @@ fn read_type(
         (read-type (typesOf resource) (stream (now (text .entry)) t)) r ⌝ }
 {
     if t.kind != kinds::NAME {
-        return Answer::Refused(turned_away(text, t, 10));
+        return Answer::Refused(turned_away(text, t, refusals::NOT_ADMITTED));
     }
     let start = t.start;
     let end = t.end;
     let sort = type_number(resource, &text[start..end]);
     if sort == 0 {
-        return Answer::Refused(turned_away(text, t, 9));
+        return Answer::Refused(turned_away(text, t, refusals::NO_TYPE));
     }
     let next = next_token(classes, text, t.end);
     let ok = append(
@@ -86,7 +90,7 @@ fn read_type(
         number,
         same,
         Entry {
-            kind: 30,
+            kind: entries::TYPED_PART,
             first: sort,
             second: 0,
         },
@@ -118,7 +122,7 @@ pub fn read_principal(
         number,
         same,
         Entry {
-            kind: 29,
+            kind: entries::BARE_PART,
             first: 0,
             second: 0,
         },
@@ -143,11 +147,11 @@ pub fn read_action(
     if t.kind == kinds::IN {
         let square = next_token(classes, text, t.end);
         if square.kind != b'[' {
-            return Answer::Refused(turned_away(text, square, 10));
+            return Answer::Refused(turned_away(text, square, refusals::NOT_ADMITTED));
         }
         let first = next_token(classes, text, square.end);
         let list = read_list(classes, text, table, seen, true, first, number, same);
-        return counted(table, seen, list, 33, number);
+        return counted(table, seen, list, entries::LISTED_ACTION, number);
     }
     let ok = append(
         table,
@@ -155,7 +159,7 @@ pub fn read_action(
         number,
         same,
         Entry {
-            kind: 32,
+            kind: entries::BARE_ACTION,
             first: 0,
             second: 0,
         },
@@ -184,7 +188,7 @@ pub fn read_resource(
     if t.kind == kinds::EQUAL {
         let s = next_token(classes, text, t.end);
         if s.kind != kinds::STRING {
-            return Answer::Refused(turned_away(text, s, 10));
+            return Answer::Refused(turned_away(text, s, refusals::NOT_ADMITTED));
         }
         let next = next_token(classes, text, s.end);
         let ok = append(
@@ -193,7 +197,7 @@ pub fn read_resource(
             number,
             same,
             Entry {
-                kind: 31,
+                kind: entries::PINNED_PART,
                 first: s.start,
                 second: s.end,
             },
@@ -206,7 +210,7 @@ pub fn read_resource(
         number,
         same,
         Entry {
-            kind: 29,
+            kind: entries::BARE_PART,
             first: 0,
             second: 0,
         },

@@ -12,8 +12,10 @@ use lib.Seq.{drop-cons, drop-drop, take-take, take-nil, length-take-le}
 use borrow.Author.Tests.{lt-leb, le-leb}
 use mir.Val.{boolByte}
 use Rattle.tokens.specs.declared.reader.Token.{Token}
+use Rattle.tokens.proofs.TokenLaws.{never}
 use Rattle.reading.specs.Lexemes.{lexeme}
 use Rattle.grammar.specs.Rules.{inside, isWildcard, wildcards, plain, isPattern}
+use Rattle.table.proofs.Holding.{and-true, and-false}
 
 -- the bytes from a place up to the last before `end`, which is a quote
 abbrev pub between : List ℕ → ℕ → ℕ → List ℕ
@@ -75,26 +77,22 @@ module _ {text : List ℕ} {end start many : ℕ} {star : Bool} {i : ℕ} (s : S
 
       goes : (a b d f : Bool) → (a || b || d) ≡ false → not a && not b && not d && f ≡ f
       goes false false false f e = refl
-      goes true b d f e = absurd (let z : _≡_ {A = ℕ} 0 1 = cc in omega arith)
-      goes false true d f e = absurd (let z : _≡_ {A = ℕ} 0 1 = cc in omega arith)
-      goes false false true f e = absurd (let z : _≡_ {A = ℕ} 0 1 = cc in omega arith)
+      goes true b d f e = absurd (never (sym e))
+      goes false true d f e = absurd (never (sym e))
+      goes false false true f e = absurd (never (sym e))
 
   -- a byte that no pattern has there
   pub seen-bad : i + 1 < end → (eqb (getD text i 0) 91 || eqb (getD text i 0) 123 || star && eqb (getD text i 0) 42) ≡ true → false ≡ isPattern (between text end start)
   unfolding isPattern plain
   seen-bad h e =
       rw (s .plainly, between-byte text end i h (s .fits), stops (eqb (getD text i 0) 91) (eqb (getD text i 0) 123) (star && eqb (getD text i 0) 42) (plain (eqb (getD text i 0) 42) (between text end (i + 1))) e)
-      (no-right (leb (length (between text end start)) 100 && leb (wildcards (between text end start)) 5))
+      (sym (and-false (leb (length (between text end start)) 100 && leb (wildcards (between text end start)) 5)))
     where
       stops : (a b d f : Bool) → (a || b || d) ≡ true → not a && not b && not d && f ≡ false
       stops true b d f e = refl
       stops false true d f e = refl
       stops false false true f e = refl
-      stops false false false f e = absurd (let z : _≡_ {A = ℕ} 0 1 = cc in omega arith)
-
-      no-right : (b : Bool) → false ≡ b && false
-      no-right true = refl
-      no-right false = refl
+      stops false false false f e = absurd (never e)
 
   -- all bytes were seen
   pub seen-all : end ≤ i + 1 → end - start ≤ 101 → leb many 5 ≡ isPattern (between text end start)
@@ -102,11 +100,7 @@ module _ {text : List ℕ} {end start many : ℕ} {star : Bool} {i : ℕ} (s : S
   seen-all h l =
       let short : length (between text end start) ≤ 100 = rw (length-take-le (end - 1 - start) (drop start text) (rw (length-drop start text) (let x = s .fits in omega arith))) (omega arith) in
       let many-is : many + 0 ≡ many = omega arith in
-      sym (rw (s .plainly, s .wild, between-none text end i h, le-leb _ _ short, many-is) (right (leb many 5)))
-    where
-      right : (b : Bool) → b && true ≡ b
-      right true = refl
-      right false = refl
+      sym (rw (s .plainly, s .wild, between-none text end i h, le-leb _ _ short, many-is) (and-true (leb many 5)))
 
 pub too-long : (text : List ℕ) (end start : ℕ) → end ≤ length text → 101 < end - start → false ≡ isPattern (between text end start)
 unfolding isPattern

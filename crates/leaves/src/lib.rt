@@ -30,8 +30,10 @@ use parts::paths::is_root;
 use parts::paths::read_placed;
 use parts::paths::read_way;
 use parts::paths::root_kind;
+use parts::refusals;
 use table::Entry;
 use table::append;
+use table::entries;
 use tokens::kinds;
 use tokens::reader::Token;
 use tokens::reader::next_token;
@@ -41,12 +43,12 @@ fn comparator_kind(kind: u8) -> u8
     ensures { λ r. ⌜ r ≡ comparing kind ⌝ }
 {
     match kind {
-        kinds::EQUAL => 13,
-        kinds::NOT_EQUAL => 14,
-        b'>' => 15,
-        kinds::AT_LEAST => 16,
-        b'<' => 17,
-        kinds::AT_MOST => 18,
+        kinds::EQUAL => entries::EQUAL,
+        kinds::NOT_EQUAL => entries::NOT_EQUAL,
+        b'>' => entries::MORE,
+        kinds::AT_LEAST => entries::AT_LEAST,
+        b'<' => entries::LESS,
+        kinds::AT_MOST => entries::AT_MOST,
         _ => 0,
     }
 }
@@ -63,13 +65,13 @@ fn no_operator(t: Token) -> u8
         | (k == kinds::THEN)
         | (k == kinds::ELSE)
     {
-        8
+        refusals::BARE_ATTRIBUTE
     } else {
-        10
+        refusals::NOT_ADMITTED
     }
 }
 
-// After a comparator.
+// After a comparator, whose entry has this kind; `left` is the left operand's entry, here and below.
 fn read_compared(
     classes: &[u8; 256],
     text: &[u8],
@@ -115,10 +117,10 @@ fn read_pattern(
         (now (table .entry)) (now (table .exit)) (read-pattern a (stream (now (text .entry)) t)) r) ⌝ }
 {
     if t.kind != kinds::STRING {
-        return Answer::Refused(turned_away(text, t, 10));
+        return Answer::Refused(turned_away(text, t, refusals::NOT_ADMITTED));
     }
     if !is_pattern(text, t) {
-        return Answer::Refused(turned_away(text, t, 13));
+        return Answer::Refused(turned_away(text, t, refusals::NO_PATTERN));
     }
     let next = next_token(classes, text, t.end);
     let ok = append(table, seen, number, same, left);
@@ -129,7 +131,7 @@ fn read_pattern(
         last,
         ok,
         Entry {
-            kind: 19,
+            kind: entries::LIKE,
             first: t.start,
             second: t.end,
         },
@@ -156,7 +158,7 @@ fn read_in(
     if t.kind == b'[' {
         let first = next_token(classes, text, t.end);
         let list = read_list(classes, text, table, seen, false, first, number + 1, ok);
-        return counted(table, seen, list, 20, number + 1);
+        return counted(table, seen, list, entries::IN_LIST, number + 1);
     }
     if is_root(t) {
         let dot = next_token(classes, text, t.end);
@@ -166,16 +168,16 @@ fn read_in(
             seen,
             right,
             Entry {
-                kind: 21,
+                kind: entries::IN_ATTRIBUTE,
                 first: 0,
                 second: 0,
             },
         );
     }
-    Answer::Refused(turned_away(text, t, 10))
+    Answer::Refused(turned_away(text, t, refusals::NOT_ADMITTED))
 }
 
-// After a left operand that no operator follows.
+// After a left operand that no operator follows: an attribute, a string or a number is refused, true or false is a condition.
 fn read_bare(
     text: &[u8],
     table: &mut [u8],
@@ -189,17 +191,17 @@ fn read_bare(
     ensures { λ r. ⌜ ((a : Operand) → operandEntry a ≡ left → Done treeEntries (now (text .entry)) (now (seen .entry)) (t .start - 1) number same
         (now (table .entry)) (now (table .exit)) (read-bare a (stream (now (text .entry)) t)) r) ⌝ }
 {
-    if left.kind <= 4 {
+    if left.kind <= entries::ACTION {
         return Answer::Refused(turned_away(text, t, no_operator(t)));
     }
-    if left.kind <= 10 {
-        return Answer::Refused(turned_away(text, t, 10));
+    if left.kind <= entries::NUMBER {
+        return Answer::Refused(turned_away(text, t, refusals::NOT_ADMITTED));
     }
     let ok = append(table, seen, number, same, left);
     Answer::Read(t, number + 1, ok)
 }
 
-// After the left operand whose entry is `left`.
+// After a left operand.
 pub fn read_operator(
     classes: &[u8; 256],
     text: &[u8],
@@ -240,7 +242,7 @@ pub fn read_operator(
     read_bare(text, table, seen, left, t, number, same)
 }
 
-// After containsAll or containsAny, whose entry has this kind; `left` is the attribute's entry.
+// After containsAll or containsAny, whose entry has this kind.
 fn read_call(
     classes: &[u8; 256],
     text: &[u8],
@@ -257,11 +259,11 @@ fn read_call(
         (now (table .entry)) (now (table .exit)) (read-call w root p (stream (now (text .entry)) t)) r) ⌝ }
 {
     if t.kind != b'(' {
-        return Answer::Refused(turned_away(text, t, 10));
+        return Answer::Refused(turned_away(text, t, refusals::NOT_ADMITTED));
     }
     let square = next_token(classes, text, t.end);
     if square.kind != b'[' {
-        return Answer::Refused(turned_away(text, square, 10));
+        return Answer::Refused(turned_away(text, square, refusals::NOT_ADMITTED));
     }
     let first = next_token(classes, text, square.end);
     let ok = append(table, seen, number, same, left);
@@ -343,5 +345,5 @@ pub fn read_rooted(
             same,
         );
     }
-    Answer::Refused(turned_away(text, t, 10))
+    Answer::Refused(turned_away(text, t, refusals::NOT_ADMITTED))
 }

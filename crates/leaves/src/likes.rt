@@ -11,6 +11,7 @@ pub fn is_pattern(text: &[u8], t: Token) -> bool
     ensures { λ r. ⌜ r ≡ isPattern (inside (lexeme (now (text .entry)) t)) ⌝ }
 {
     let end = t.end;
+    // 100 bytes, and the two quotes
     if 102 < end - t.start {
         return false;
     }

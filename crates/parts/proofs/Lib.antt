@@ -4,4 +4,3 @@ pub mod Sorts
 pub mod Roots
 pub mod Ways
 pub mod Literals
-pub mod Simple

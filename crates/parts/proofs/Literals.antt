@@ -18,7 +18,7 @@ use Rattle.grammar.specs.Rules.{literalOf}
 use Rattle.grammar.specs.Parser.{tooMany, isElement, read-element, read-list}
 use Rattle.grammar.proofs.Steps.{list-step}
 use Rattle.table.specs.declared.Entry.{Entry}
-use Rattle.table.specs.Entries.{literalEntry, literalEntries}
+use Rattle.table.specs.Entries.{entry, literalEntry, literalEntries}
 use Rattle.table.specs.Layout.{putAt, entryIs}
 use Rattle.parts.specs.Answers.{turnedAway, Turned, Done, expectedOf}
 use Rattle.parts.specs.declared.answers.Answer.{Answer}
@@ -58,8 +58,8 @@ module _ (sort : Lexeme → Bool) where
     count : free ≡ first + length (l .ls)
     count = l .kept .counted .free-is ∙ ap (λ (n : ℕ). first + n) (length-map (l .ls) literalEntry)
 
-    pub few : first ≤ free
-    few = let x = count in omega arith
+    pub free-past : first ≤ free
+    free-past = let x = count in omega arith
 
     refuses : isElement sort (l .ls) (lexeme text at) ≡ false → {f : Refusal} → f ≡ turnedAway (length text) (tooMany sort (lexeme text at)) at → Turned text total f
     unfolding read-element
@@ -111,3 +111,10 @@ module _ (sort : Lexeme → Bool) where
         lies = let a = comma-lies .low in let b = s .order in let d = s′ .low in lowered (omega arith) s′;
         room = let a = room-now in let b = s .order in let d = s′ .low in omega arith;
       }
+
+-- after the entries `a` and those of the literals comes an entry that counts them
+pub list-count : (a : List Entry) (ls : List Literal) (kind first n : ℕ) → n ≡ first + length (literalEntries ls) → (a ++ literalEntries ls) ++ entry kind (length ls) 0 ∷ [] ≡ (a ++ literalEntries ls) ++ entry kind (n - first) 0 ∷ []
+list-count a ls kind first n e =
+    let l = length-map ls literalEntry in
+    let k : length ls ≡ n - first = omega arith in
+    rw k

@@ -7,34 +7,32 @@ use native.Mathlib.Omega.{arith}
 use lib.Dec.{eqb}
 use Rattle.tokens.specs.Kinds as kinds
 use Rattle.tokens.specs.declared.reader.Token.{Token}
+use Rattle.tokens.proofs.TokenLaws.{never}
 use Rattle.reading.specs.Lexemes.{Lexeme, lexeme}
 use Rattle.grammar.specs.Policies.{Which}
 use Rattle.grammar.specs.Rules.{isRoot, isLiteral, literalOf, whichOf, isComparator}
 use Rattle.table.specs.Entries.{whichKind}
 use Rattle.parts.specs.Names.{exitOf, callOf, sortOf}
 
-pub false-true : false ≡ true → ⊥
-false-true e = let z : _≡_ {A = ℕ} 0 1 = cc in omega arith
-
 -- ---- the end of the text is none of these
 
 pub literal-some : (x : Lexeme) → isLiteral x ≡ true → x .kind ≡ 0 → ⊥
-literal-some x e z = false-true (rw z at e)
+literal-some x e z = never (rw z at e)
 
 pub root-some : (x : Lexeme) → isRoot x ≡ true → x .kind ≡ 0 → ⊥
-root-some x e z = false-true (rw z at e)
+root-some x e z = never (rw z at e)
 
 pub comparator-some : (x : Lexeme) → isComparator x ≡ true → x .kind ≡ 0 → ⊥
-comparator-some x e z = false-true (rw z at e)
+comparator-some x e z = never (rw z at e)
 
 pub exit-some : (left : Bool) (x : Lexeme) → exitOf left x ≡ true → x .kind ≡ 0 → ⊥
 unfolding exitOf
-exit-some true x e z = false-true (rw z at e)
-exit-some false x e z = false-true e
+exit-some true x e z = never (rw z at e)
+exit-some false x e z = never e
 
 pub sort-some : (strings : Bool) (x : Lexeme) → sortOf strings x ≡ true → x .kind ≡ 0 → ⊥
 unfolding sortOf
-sort-some true x e z = false-true (rw z at e)
+sort-some true x e z = never (rw z at e)
 sort-some false x e z = literal-some x e z
 
 -- ---- lists
@@ -52,7 +50,7 @@ literal-of text t = refl
 
 -- the kind of a call's entry, by whether the word is containsAll and whether it is containsAny
 abbrev kind-by : Bool → Bool → ℕ
-kind-by all any = cond all 22 (cond any 23 0)
+kind-by all any = cond all (whichKind Which.All) (cond any (whichKind Which.Any) 0)
 
 -- a word begins a call exactly where it ends a path
 pub no-call : (left : Bool) (x : Lexeme) → callOf left (x .kind) ≡ 0 → exitOf left x ≡ false

@@ -1,5 +1,5 @@
 -- The token that stands next: where it lies, what its refusal says, and what a reader makes of it. Assumes nothing.
-use mathlib.Core.Path.{_≡_, refl, _∙_}
+use mathlib.Core.Path.{_≡_, refl, _∙_, ap}
 use mathlib.Core.Bool.{Bool, true, false}
 use mathlib.Core.List.{List, [], _∷_}
 use Prim.Native.Nat.{ℕ, _+_, _^_, _≤_, _<_}
@@ -11,7 +11,7 @@ use Rattle.tokens.specs.declared.reader.Token.{Token}
 use Rattle.tokens.specs.Tokens.{tokenAt, Reads}
 use Rattle.reading.specs.Lexemes.{Lexeme, lexeme, is, stream, tokensFrom}
 use Rattle.reading.specs.Reader as reader
-use Rattle.reading.specs.Reader.{Reader, refuseBy, numbered, bind, need, ten}
+use Rattle.reading.specs.Reader.{Reader, refuseBy, numbered, bind, on, need, ten}
 use Rattle.reading.proofs.Stream.{stream-end, stream-token, next-on, next-off}
 use Rattle.parts.specs.declared.answers.Refusal.{Refusal}
 use Rattle.parts.specs.Answers.{Ready, refusalAt, turnedAway, Turned}
@@ -59,11 +59,22 @@ module _ (text : List ℕ) (t : Token) where
       go true e = record { number = 10; rest = []; is = rw (stream-end text t (eqb-true _ _ e)); told = p ∙ rw e }
       go false e = token-turned (ltb (t .kind) 7) e refl
 
-  -- a token of a kind that must stand next, and does or does not
+  -- the same by a number that was found otherwise
+  pub turned-for : {A : Type 0} (number : Lexeme → ℕ) {n : ℕ} → n ≡ number (lexeme text t) → {f : Refusal} → f ≡ turnedAway (length text) n t → Turned text {A = A} (refuseBy number (stream text t)) f
+  turned-for number e p = turned number (p ∙ ap (λ (n : ℕ). turnedAway (length text) n t) e)
+
+  -- a token of a kind stands next, or none does
+  pub kind-on : {A : Type 0} (k : ℕ) (f : Lexeme → Reader A) (g : Reader A) (n : Token) → 0 < k → t .kind ≡ k → t .end ≤ length text → n ≡ tokenAt text (t .end) → on (is k) f g (stream text t) ≡ f (lexeme text t) (stream text n)
+  kind-on k f g n l e h q = next-on text t (is k) f g n (λ (z : t .kind ≡ 0). omega arith) h q (eq-eqb _ _ e)
+
+  pub kind-off : {A : Type 0} (k : ℕ) (f : Lexeme → Reader A) (g : Reader A) → (t .kind ≡ k → ⊥) → on (is k) f g (stream text t) ≡ g (stream text t)
+  kind-off k f g e = next-off text t (is k) f g (ne-eqb _ _ e)
+
+  -- the same where it must
   pub need-on : {A : Type 0} (k : ℕ) (f : Reader A) (n : Token) → 0 < k → t .kind ≡ k → t .end ≤ length text → n ≡ tokenAt text (t .end) → need k f (stream text t) ≡ f (stream text n)
   unfolding need
-  need-on k f n l e h q = next-on text t (is k) (λ _. f) (refuseBy ten) n (λ (z : t .kind ≡ 0). omega arith) h q (eq-eqb _ _ e)
+  need-on k f n = kind-on k (λ _. f) (refuseBy ten) n
 
   pub need-off : {A : Type 0} (k : ℕ) (f : Reader A) {g : Refusal} → (t .kind ≡ k → ⊥) → g ≡ turnedAway (length text) 10 t → Turned text (need k f (stream text t)) g
   unfolding need
-  need-off k f e p = turned-as (next-off text t (is k) (λ _. f) (refuseBy ten) (ne-eqb _ _ e)) (turned ten p)
+  need-off k f e p = turned-as (kind-off k (λ _. f) (refuseBy ten) e) (turned ten p)

@@ -1,7 +1,7 @@
--- A path's names, step by step. Assumes nothing.
+-- A path's names, step by step, and the attribute that a path is. Assumes nothing.
 use mathlib.Core.Path.{_≡_, refl, _∙_, sym, ap, subst}
 use mathlib.Core.Bool.{Bool, true, false, _&&_}
-use mathlib.Core.List.{List}
+use mathlib.Core.List.{List, [], _∷_}
 use Prim.Native.Nat.{ℕ, _+_, _-_, _≤_}
 use native.Mathlib.Omega.{arith}
 use native.Mathlib.Nat.{zero-add}
@@ -11,14 +11,15 @@ use borrow.Author.Tests.{eq-eqb, ne-eqb}
 use Rattle.tokens.specs.Kinds as kinds
 use Rattle.tokens.specs.declared.reader.Token.{Token}
 use Rattle.tokens.specs.Tokens.{tokenAt, Reads}
-use Rattle.reading.specs.Lexemes.{Lexeme, lexeme, is, stream}
+use Rattle.tokens.proofs.TokenLaws.{never}
+use Rattle.reading.specs.Lexemes.{Lexeme, lexeme, is, choose, stream}
 use Rattle.reading.specs.Reader as reader
-use Rattle.reading.specs.Reader.{Reader, took, refuseBy, bind, on, chain, onwards}
+use Rattle.reading.specs.Reader.{Reader, took, refuse, refuseBy, ten, bind, on, need, chain, onwards}
 use Rattle.reading.proofs.Stream.{next-on, next-off}
-use Rattle.grammar.specs.Policies.{Root, span}
+use Rattle.grammar.specs.Policies.{Span, span, Root}
 use Rattle.grammar.specs.Rules.{whichOf, admitted}
 use Rattle.grammar.specs.Grammar.{Path, firstPath, longerPath}
-use Rattle.grammar.specs.Parser.{Way, plain, calling, noName, fits, goesOn, read-first-name, read-next-name, read-way, spannedBy}
+use Rattle.grammar.specs.Parser.{Way, plain, calling, noName, fits, goesOn, read-first-name, read-next-name, read-way, spannedBy, read-path, read-attribute}
 use Rattle.grammar.proofs.Steps.{way-step}
 use Rattle.parts.specs.Names.{exitOf, callOf}
 use Rattle.parts.specs.Answers.{turnedAway, Turned, callAfter, Walked, Walks, found, lost}
@@ -26,8 +27,8 @@ use Rattle.parts.specs.declared.answers.Refusal.{Refusal}
 use Rattle.parts.specs.declared.paths.Path.{Path as Found-path}
 use Rattle.parts.specs.declared.paths.Way.{Way as Found-way}
 use Rattle.parts.specs.declared.paths.Way.the-variants.{Found, Lost}
-use Rattle.parts.proofs.Standing.{standing, lowered, past, turned-as, turned-bind, turned}
-use Rattle.parts.proofs.Sorts.{false-true, exit-some, no-call, calls, call-is}
+use Rattle.parts.proofs.Standing.{standing, lowered, past, turned-as, turned-bind, turned-for}
+use Rattle.parts.proofs.Sorts.{exit-some, no-call, calls, call-is}
 
 abbrev pub path : ℕ → ℕ → ℕ → Path
 path start end used = record { start = start; end = end; used = used }
@@ -62,14 +63,14 @@ module _ (left : Bool) (root : Root) where
   }
 
   module _ {text : List ℕ} {total : reader.Answer Way} {from start used : ℕ} {name : Token} (w : Walking text total from start used name) where
-    pub walking-lost : fits root used (lexeme text name) ≡ false → {f : Refusal} → f ≡ turnedAway (length text) (noName root (lexeme text name)) name → Turned text total f
-    walking-lost e p = turned-as (w .rest) (turned-bind (onwards goesOn next-name)
-        (turned-as (next-off text name (fits root used) (λ x. took (plain (w .make x))) (refuseBy (noName root)) e) (turned text name (noName root) p)))
+    pub walking-lost : fits root used (lexeme text name) ≡ false → {n : ℕ} → n ≡ noName root (lexeme text name) → {f : Refusal} → f ≡ turnedAway (length text) n name → Turned text total f
+    walking-lost e q p = turned-as (w .rest) (turned-bind (onwards goesOn next-name)
+        (turned-as (next-off text name (fits root used) (λ x. took (plain (w .make x))) (refuseBy (noName root)) e) (turned-for text name (noName root) q p)))
 
     module _ (e : fits root used (lexeme text name) ≡ true) (dot : Token) (q : dot ≡ tokenAt text (name .end)) (s : Reads text (name .end) dot) where
       pub name-some : name .kind ≡ 0 → ⊥
       unfolding fits
-      name-some z = false-true (rw z at e)
+      name-some z = never (rw z at e)
 
       -- the path so far
       abbrev pub here : Path
@@ -152,3 +153,21 @@ path-is k = rw (k .is, k .span-is)
 pub found-bind : {B : Type 0} {text : List ℕ} {from : ℕ} {p : reader.Answer Way} {w : Found-path} (f : Way → Reader B) (k : Walked text from p w) → bind p f ≡ f (k .way) (stream text (w .next))
 unfolding bind
 found-bind f k = rw (k .is)
+
+-- ---- attributes
+
+bind-took : {A B : Type 0} (p : reader.Answer A) (f : A → B) → bind p (λ a. took (f a)) ≡ bind (bind p took) (λ a. took (f a))
+unfolding bind
+bind-took (took a r) f = refl
+bind-took (refuse n r) f = refl
+
+-- an attribute is its place, with its root
+pub attribute-is : {A : Type 0} (root : Root) (f : Root → Span → A) (i : List Lexeme) → read-attribute root f i ≡ bind (read-attribute root (λ root s. s) i) (λ s. took (f root s))
+unfolding read-attribute need on choose refuseBy bind
+attribute-is root f [] = refl
+attribute-is root f (x ∷ i) = go (is kinds.dot x)
+  where
+    go : (b : Bool) → choose b (λ _. bind (read-path root i) (λ s. took (f root s))) (λ _. refuseBy ten (x ∷ i))
+        ≡ bind (choose b (λ _. bind (read-path root i) (λ s. took s)) (λ _. refuseBy ten (x ∷ i))) (λ s. took (f root s))
+    go true = bind-took (read-path root i) (f root)
+    go false = refl

@@ -25,6 +25,7 @@ use Rattle.parts.specs.declared.paths.Path.{Path}
 use Rattle.parts.specs.declared.paths.Way.{Way}
 use Rattle.parts.specs.declared.paths.Way.the-variants.{Found, Lost}
 
+-- a refusal by its number, and the start and the size of the refused token
 abbrev pub refusal : ℕ → ℕ → ℕ → Refusal
 refusal number start size = record { number = number; start = start; size = size }
 
@@ -44,7 +45,7 @@ unfoldable pub turnedAway : ℕ → ℕ → Token → Refusal
 turnedAway end number t =
     cond (eqb (t .kind) kinds.endOfText) (refusal 10 end 0) (refusal (cond (ltb (t .kind) 7) (t .kind) number) (t .start) (t .end - t .start))
 
--- what was refused
+-- what was refused: the reader's refusal is the one that is told
 pub record Turned (text : List ℕ) {A : Type 0} (p : reader.Answer A) (f : Refusal) : Type 0 where
   pub number : ℕ
   pub rest : List Lexeme
@@ -65,6 +66,7 @@ pub record Taken {A : Type 0} (es : ℕ → A → List Entry) (text seen : List 
   pub room : free + from ≤ next .start + first
   pub counted : Counted seen (es first value) first same free ok
 
+-- an answer: what was read, or what was refused
 pub data Says {A : Type 0} (es : ℕ → A → List Entry) (text seen : List ℕ) (from first : ℕ) (same : Bool) (p : reader.Answer A) : Answer → Type 0 where
   read : {next : Token} {free : ℕ} {ok : Bool} → Taken es text seen from first same p next free ok → Says es text seen from first same p (Read next free ok)
   refused : {f : Refusal} → Turned text p f → Says es text seen from first same p (Refused f)
@@ -95,6 +97,7 @@ pub record Walked (text : List ℕ) (from : ℕ) (p : reader.Answer parser.Way) 
   pub call-is : callAfter way ≡ w .call
   pub lies : Reads text (from + 1) (w .next)
 
+-- the same of a path
 pub data Walks (text : List ℕ) (from : ℕ) (p : reader.Answer parser.Way) : Way → Type 0 where
   found : {w : Path} → Walked text from p w → Walks text from p (Found w)
   lost : {f : Refusal} → Turned text p f → Walks text from p (Lost f)

@@ -5,6 +5,7 @@ ghost use lib.ListN.{length};
 ghost use Rattle.tokens.specs.Table.{classTable};
 ghost use Rattle.table.specs.Entries.{entry};
 ghost use Rattle.parts.specs.Answers.{turnedAway, Next, freeOf, Counts, closedOf, EntryPut, expectedOf};
+use crate::refusals;
 use table::Entry;
 use table::append;
 use tokens::kinds;
@@ -24,14 +25,14 @@ pub enum Answer {
     Refused(Refusal),
 }
 
-// The refusal of a token: by its own number where it is no token, by 10 at the end of the text.
+// The refusal of a token: by its own number where it is no token; the end of the text is not admitted.
 pub fn turned_away(text: &[u8], t: Token, number: u8) -> Refusal
     requires { ⌜ t .start ≤ t .end ⌝ }
     ensures { λ r. ⌜ r ≡ turnedAway (length (now (text .entry))) number t ⌝ }
 {
     if t.kind == kinds::END_OF_TEXT {
         return Refusal {
-            number: 10,
+            number: refusals::NOT_ADMITTED,
             start: text.len(),
             size: 0,
         };
@@ -98,5 +99,5 @@ pub fn expected(classes: &[u8; 256], text: &[u8], last: Answer, kind: u8) -> Ans
         let next = next_token(classes, text, t.end);
         return Answer::Read(next, free, same);
     }
-    Answer::Refused(turned_away(text, t, 10))
+    Answer::Refused(turned_away(text, t, refusals::NOT_ADMITTED))
 }

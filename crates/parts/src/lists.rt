@@ -10,8 +10,10 @@ ghost use Rattle.parts.specs.Names.{sortOf};
 use crate::answers::Answer;
 use crate::answers::expected;
 use crate::answers::turned_away;
+use crate::refusals;
 use table::Entry;
 use table::append;
+use table::entries;
 use tokens::kinds;
 use tokens::reader::Token;
 use tokens::reader::next_token;
@@ -30,27 +32,27 @@ pub fn literal_entry(t: Token) -> Entry
 {
     if t.kind == kinds::STRING {
         return Entry {
-            kind: 9,
+            kind: entries::STRING,
             first: t.start,
             second: t.end,
         };
     }
     if t.kind == kinds::NUMBER {
         return Entry {
-            kind: 10,
+            kind: entries::NUMBER,
             first: t.start,
             second: t.end,
         };
     }
     if t.kind == kinds::TRUE {
         Entry {
-            kind: 11,
+            kind: entries::TRUE,
             first: 0,
             second: 0,
         }
     } else {
         Entry {
-            kind: 12,
+            kind: entries::FALSE,
             first: 0,
             second: 0,
         }
@@ -88,10 +90,10 @@ pub fn read_list(
     let mut ok = same;
     loop {
         if !is_sort(strings, at) {
-            return Answer::Refused(turned_away(text, at, 10));
+            return Answer::Refused(turned_away(text, at, refusals::NOT_ADMITTED));
         }
         if 16 <= free - number {
-            return Answer::Refused(turned_away(text, at, 14));
+            return Answer::Refused(turned_away(text, at, refusals::TOO_MANY_LITERALS));
         }
         ok = append(table, seen, free, ok, literal_entry(at));
         free += 1;

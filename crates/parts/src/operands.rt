@@ -12,6 +12,7 @@ use crate::lists::literal_entry;
 use crate::paths::is_root;
 use crate::paths::read_placed;
 use crate::paths::root_kind;
+use crate::refusals;
 use table::append;
 use tokens::reader::Token;
 use tokens::reader::next_token;
@@ -32,7 +33,7 @@ pub fn read_attribute(
         (now (table .entry)) (now (table .exit)) (read-attribute (rootFrom root) (λ root s. s) (stream (now (text .entry)) t)) r ⌝ }
 {
     if t.kind != b'.' {
-        return Answer::Refused(turned_away(text, t, 10));
+        return Answer::Refused(turned_away(text, t, refusals::NOT_ADMITTED));
     }
     let name = next_token(classes, text, t.end);
     read_placed(
@@ -71,5 +72,5 @@ pub fn read_operand(
         let next = next_token(classes, text, t.end);
         return read_attribute(classes, text, table, seen, t.kind, next, number, same);
     }
-    Answer::Refused(turned_away(text, t, 10))
+    Answer::Refused(turned_away(text, t, refusals::NOT_ADMITTED))
 }

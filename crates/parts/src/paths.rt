@@ -12,9 +12,11 @@ ghost use Rattle.parts.specs.Names.{rootFrom, exitOf, callOf};
 use crate::answers::Answer;
 use crate::answers::Refusal;
 use crate::answers::turned_away;
+use crate::refusals;
 use slices::same;
 use table::Entry;
 use table::append;
+use table::entries;
 use tokens::kinds;
 use tokens::reader::Token;
 use tokens::reader::next_token;
@@ -27,6 +29,7 @@ pub struct Path {
     pub next: Token,
 }
 
+// What the reader of a path answers.
 pub enum Way {
     Found(Path),
     Lost(Refusal),
@@ -39,24 +42,28 @@ pub fn is_root(t: Token) -> bool
     (kinds::PRINCIPAL <= t.kind) & (t.kind <= kinds::ENV)
 }
 
-// The kind of an attribute's entry by the kind of its root's token.
+// The kind of an attribute's entry, by the kind of its root's token.
 pub fn root_kind(root: u8) -> u8
     ensures { λ r. ⌜ r ≡ rootKind (rootFrom root) ⌝ }
 {
     if root == kinds::PRINCIPAL {
-        return 1;
+        return entries::PRINCIPAL;
     }
     if root == kinds::RESOURCE {
-        return 2;
+        return entries::RESOURCE;
     }
-    if root == kinds::ACTION { 4 } else { 3 }
+    if root == kinds::ACTION {
+        entries::ACTION
+    } else {
+        entries::ENV
+    }
 }
 
-// The kind of the entry of `has`.
+// The kind of the entry of `has`, by the same.
 pub fn has_kind(root: u8) -> u8
     ensures { λ r. ⌜ r ≡ hasKind (rootFrom root) ⌝ }
 {
-    root_kind(root) + 4
+    root_kind(root) + entries::ROOTS
 }
 
 // The kind of the entry of a call by the word's kind, and 0 where the word is none of the two or none may stand there.
@@ -64,10 +71,10 @@ fn call_kind(left: bool, word: u8) -> u8
     ensures { λ r. ⌜ r ≡ callOf left word ⌝ }
 {
     if left & (word == kinds::CONTAINS_ALL) {
-        return 22;
+        return entries::CONTAINS_ALL;
     }
     if left & (word == kinds::CONTAINS_ANY) {
-        23
+        entries::CONTAINS_ANY
     } else {
         0
     }
@@ -78,15 +85,19 @@ fn no_name(root: u8, t: Token) -> u8
     ensures { λ r. ⌜ r ≡ noName (rootFrom root) (lexeme [] t) ⌝ }
 {
     if t.kind == kinds::NAME {
-        if root == kinds::ACTION { 11 } else { 16 }
+        if root == kinds::ACTION {
+            refusals::NO_ACTION_PATH
+        } else {
+            refusals::PATH_TOO_LONG
+        }
     } else if kinds::PERMIT <= t.kind {
-        7
+        refusals::RESERVED_WORD
     } else {
-        10
+        refusals::NOT_ADMITTED
     }
 }
 
-// Whether a name may go on a path of which `used` bytes are read.
+// Whether a name may go on a path of which `used` bytes are read: after action only `name` alone, else up to 64 bytes.
 fn is_admitted(text: &[u8], root: u8, used: usize, t: Token) -> bool
     requires { ⌜ (used ≤ 2 ^ 60) × Reads (now text) 0 t ⌝ }
     ensures { λ r. ⌜ r ≡ admitted (rootFrom root) used (lexeme (now (text .entry)) t) ⌝ }

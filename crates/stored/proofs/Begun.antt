@@ -20,6 +20,9 @@ use Rattle.table.proofs.Counting.{entries-few}
 small : {k : ℕ} (a b : ℕ) → a < 65536 → b < 65536 → Small (entry k a b)
 small a b h i = record { first = h; second = i }
 
+no-fields : {k : ℕ} → Small (entry k 0 0)
+no-fields = small 0 0 (omega arith) (omega arith)
+
 one : {x : Entry} → Small x → Each Small (x ∷ [])
 one h = and-each h none-left
 
@@ -33,8 +36,8 @@ module _ (t : List ℕ) (short : length t ≤ 8192) where
   unfolding literalEntry
   literal-small (a-string p) = placed-small (p .lies)
   literal-small (a-number p) = placed-small (p .lies)
-  literal-small (a-truth {b = true}) = small 0 0 (omega arith) (omega arith)
-  literal-small (a-truth {b = false}) = small 0 0 (omega arith) (omega arith)
+  literal-small (a-truth {b = true}) = no-fields
+  literal-small (a-truth {b = false}) = no-fields
 
   operand-small : {a : Operand} → OperandPlaced t a → Small (operandEntry a)
   unfolding operandEntry
@@ -65,12 +68,12 @@ module _ (t : List ℕ) (short : length t ≤ 8192) where
 
   tree-small : {c : Tree} → TreePlaced t c → (e : ℕ) → e + length (treeEntries e c) < 65536 → Each Small (treeEntries e c)
   unfolding treeEntries
-  tree-small (a-constant {b = true}) e few = one (small 0 0 (omega arith) (omega arith))
-  tree-small (a-constant {b = false}) e few = one (small 0 0 (omega arith) (omega arith))
-  tree-small (a-comparison a b) e few = and-each (operand-small a) (and-each (operand-small b) (one (small 0 0 (omega arith) (omega arith))))
+  tree-small (a-constant {b = true}) e few = one no-fields
+  tree-small (a-constant {b = false}) e few = one no-fields
+  tree-small (a-comparison a b) e few = and-each (operand-small a) (and-each (operand-small b) (one no-fields))
   tree-small (a-likeness a s p) e few = and-each (operand-small a) (one (placed-small (s .lies)))
   tree-small (in-list {ls = ls} a l) e few = and-each (operand-small a) (listed-small (λ x p. literal-small p) 20 ls l)
-  tree-small (in-attribute a p) e few = and-each (operand-small a) (and-each (placed-small (p .lies)) (one (small 0 0 (omega arith) (omega arith))))
+  tree-small (in-attribute a p) e few = and-each (operand-small a) (and-each (placed-small (p .lies)) (one no-fields))
   tree-small (a-call {w = w} {ls = ls} p l) e few = and-each (placed-small (p .lies)) (listed-small (λ x q. literal-small q) (whichKind w) ls l)
   tree-small (a-presence p) e few = one (placed-small (p .lies))
   tree-small (a-negation {c = c} h) e few =
@@ -93,12 +96,12 @@ module _ (t : List ℕ) (short : length t ≤ 8192) where
 
   principal-small : {p : Part} → PrincipalPlaced p → Small (partEntry p)
   unfolding partEntry
-  principal-small any-principal = small 0 0 (omega arith) (omega arith)
+  principal-small any-principal = no-fields
   principal-small (principal-type {n = n} h i) = small n 0 (omega arith) (omega arith)
 
   resource-small : {p : Part} → ResourcePlaced t p → Small (partEntry p)
   unfolding partEntry
-  resource-small any-resource = small 0 0 (omega arith) (omega arith)
+  resource-small any-resource = no-fields
   resource-small (resource-type {n = n} h i) = small n 0 (omega arith) (omega arith)
   resource-small (one-resource s) = placed-small (s .lies)
 
@@ -108,7 +111,7 @@ module _ (t : List ℕ) (short : length t ≤ 8192) where
 
   actions-small : {a : Actions} → ActionsPlaced t a → Each Small (actionEntries a)
   unfolding actionEntries
-  actions-small any-action = one (small 0 0 (omega arith) (omega arith))
+  actions-small any-action = one no-fields
   actions-small (one-of {ls = ls} h) = listed-small (λ x p. action-small p) 33 ls h
 
   condition-small : {c : Option Tree} → ConditionPlaced t c → (e : ℕ) → e + length (conditionEntries e c) < 65536 → Each Small (conditionEntries e c)

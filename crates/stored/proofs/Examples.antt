@@ -1,17 +1,31 @@
--- The worked example of docs/TABLE.md, read back from its bytes. Assumes nothing.
+-- The worked example of docs/TABLE.md: its text says its policy, whose entries are those of the table, and it is read back from their bytes. Assumes nothing.
 use mathlib.Core.Path.{_≡_, refl}
 use mathlib.Core.Bool.{true}
 use mathlib.Core.List.{List, [], _∷_}
 use mathlib.Core.Option.{some}
 use Prim.Native.Nat.{ℕ}
+use Rattle.slices.specs.Ascii.{bytes}
+use Rattle.slices.specs.Same.{same}
+use Rattle.tokens.specs.Bytes.{classOf}
+use Rattle.tokens.specs.Runs.{run}
+use Rattle.tokens.specs.Words.{reserved, kindAmong}
+use Rattle.tokens.specs.Tokens.{sized, wordAt, stringAt, numberAt, markOf, markAt, tokenAt}
+use Rattle.reading.specs.Lexemes.{choose, following, tokensUpTo, tokensFrom, tokensOf}
+use Rattle.reading.specs.Reader.{took, numbered, refuseBy, bind, on, need, before, mapped, upTo, onwards, chain}
 use Rattle.grammar.specs.Policies.{span, Root.Principal, Comparator.AtLeast, text, number, attribute, literal, compare, has, not, brackets, both, typed, oneOf, Policy}
-use Rattle.table.specs.Entries.{entry}
+use Rattle.grammar.specs.Rules as rules
+use Rattle.grammar.specs.Parser.{fits, read-first-name, goesOn, read-next-name, read-way, spannedBy, read-path, read-attribute, read-operand, isElement, read-element, read-list, read-bare, read-in, isLike, read-pattern, read-operator, read-call, read-rest, read-rooted, read-simple, read-joined, read-conjunction, read-disjunction, read-negated, read-bracketed, read-conditional, read-deeper, read-condition, read-conditions, read-type, read-principal, read-action, read-resource, read-when, read-policy, begins, read-next-policy, atEnd, read-text}
+use Rattle.table.specs.declared.Entry.{Entry}
+use Rattle.table.specs.Entries.{entry, literalEntry, operandEntry, treeEntries, partEntry, actionEntries, conditionEntries, effectKind, targetEntries, policyEntries, policiesEntries}
 use Rattle.table.specs.Layout.{entryBytes, bytesOf, entryAt}
 use Rattle.stored.specs.ReadBack.{rootOf, literalOf, operandOf, comparatorOf, literalsAt, treeOf, treeIn, partOf, actionsOf, conditionBetween, policyOf, policiesIn, policiesAt}
 
-abbrev table : List ℕ
-table =
-    bytesOf (entry 30 1 0 ∷ entry 9 39 46 ∷ entry 33 1 0 ∷ entry 30 2 0 ∷ entry 1 87 92 ∷ entry 10 96 97 ∷ entry 16 0 0 ∷ entry 5 117 121 ∷ entry 25 0 0 ∷ entry 24 0 0 ∷ entry 26 7 0 ∷ entry 34 0 4 ∷ [])
+abbrev rule : List ℕ
+rule = bytes "permit(principal is person, action in [\"teach\"], resource is shaft)\n  when { principal.grade >= 3 && !(principal has loan) };"
+
+abbrev entries : List Entry
+entries =
+    entry 30 1 0 ∷ entry 9 39 46 ∷ entry 33 1 0 ∷ entry 30 2 0 ∷ entry 1 87 92 ∷ entry 10 96 97 ∷ entry 16 0 0 ∷ entry 5 117 121 ∷ entry 25 0 0 ∷ entry 24 0 0 ∷ entry 26 7 0 ∷ entry 34 0 4 ∷ []
 
 abbrev policy : Policy
 policy = record {
@@ -22,6 +36,14 @@ policy = record {
   condition = some (both (compare AtLeast (attribute Principal (span 87 92)) (literal (number (span 96 97)))) (not (brackets (has Principal (span 117 121)))));
 }
 
-pub table-read : policiesAt table 12 ≡ policy ∷ []
+pub rule-says : read-text (tokensOf rule) ≡ took (policy ∷ []) []
+unfolding classOf run same reserved kindAmong sized wordAt stringAt numberAt markOf markAt tokenAt choose following tokensUpTo tokensFrom numbered refuseBy bind on need before mapped upTo onwards chain rules.rootOf rules.literalOf rules.comparatorOf rules.principalTypes rules.resourceTypes rules.typeAmong rules.admitted fits read-first-name goesOn read-next-name read-way spannedBy read-path read-attribute read-operand isElement read-element read-list read-bare read-in isLike read-pattern read-operator read-call read-rest read-rooted read-simple read-joined read-conjunction read-disjunction read-negated read-bracketed read-conditional read-deeper read-condition read-conditions read-type read-principal read-action read-resource read-when read-policy begins read-next-policy atEnd read-text
+rule-says = refl
+
+pub table-written : policiesEntries 0 (policy ∷ []) ≡ entries
+unfolding literalEntry operandEntry treeEntries partEntry actionEntries conditionEntries effectKind targetEntries policyEntries policiesEntries
+table-written = refl
+
+pub table-read : policiesAt (bytesOf entries) 12 ≡ policy ∷ []
 unfolding bytesOf entryBytes entryAt rootOf literalOf operandOf comparatorOf literalsAt treeOf treeIn partOf actionsOf conditionBetween policyOf policiesIn
 table-read = refl

@@ -1,28 +1,18 @@
 -- Which condition is read back from an entry, by its kind. Assumes nothing.
-use mathlib.Core.Path.{_≡_, refl, ap}
-use mathlib.Core.Bool.{true, false}
+use mathlib.Core.Path.{_≡_}
 use mathlib.Core.List.{List}
-use Prim.Native.Nat.{ℕ, zero, suc, _+_, _-_, _≤_}
+use Prim.Native.Nat.{ℕ, _-_, _≤_}
 use native.Mathlib.Omega.{arith}
-use lib.ListN.{length}
 use borrow.Author.Tests.{le-leb, lt-leb}
-use Rattle.grammar.specs.Policies.{Which.All, Which.Any, Tree, constant, compare, like, among, within, contains, has, not, brackets, both, either, choice}
+use Rattle.grammar.specs.Policies.{Which.All, Which.Any, Tree, compare, like, among, within, contains, has, not, brackets, both, either, choice}
 use Rattle.table.specs.declared.Entry.{Entry}
 use Rattle.table.specs.Layout.{entryAt}
-use Rattle.stored.specs.ReadBack.{spanOf, rootOf, operandOf, comparatorOf, literalsAt, listAt, ownerAt, treeOf}
+use Rattle.stored.specs.ReadBack.{spanOf, rootOf, operandOf, comparatorOf, listAt, ownerAt, treeOf}
 
 module _ (part : ℕ → Tree) (table : List ℕ) (end : ℕ) (x : Entry) where
   pub as-has : x .kind ≤ 8 → treeOf part table end x ≡ has (rootOf (x .kind - 4)) (spanOf x)
   unfolding treeOf
   as-has h = rw (le-leb (x .kind) 8 h)
-
-  pub as-true : x .kind ≡ 11 → treeOf part table end x ≡ constant true
-  unfolding treeOf
-  as-true e = rw e
-
-  pub as-false : x .kind ≡ 12 → treeOf part table end x ≡ constant false
-  unfolding treeOf
-  as-false e = rw e
 
   pub as-compare : 13 ≤ x .kind → x .kind ≤ 18
       → treeOf part table end x ≡ compare (comparatorOf (x .kind)) (operandOf (entryAt table (end - 3))) (operandOf (entryAt table (end - 2)))

@@ -25,7 +25,7 @@ module _ {table text : List ℕ} {ps : List Policy} (says : Says text ps) (b : B
   pub compiled-ready : ReadyPolicies text table (length (policiesEntries 0 ps))
   compiled-ready = ready-policies (begins-stored says b) (policies-placed text ps (says .read) .each)
 
--- two texts that are compiled to the same bytes, or to the same entries, say the same policies
+-- two texts that are compiled to the same bytes say the same policies
 module _ {a b : List ℕ} {ps qs : List Policy} (h : Says a ps) (k : Says b qs) where
   pub same-bytes : bytesOf (policiesEntries 0 ps) ≡ bytesOf (policiesEntries 0 qs) → ps ≡ qs
   same-bytes e =
@@ -34,6 +34,3 @@ module _ {a b : List ℕ} {ps qs : List Policy} (h : Says a ps) (k : Says b qs) 
       let same : length (policiesEntries 0 qs) ≡ length (policiesEntries 0 ps) = omega arith in
       one-list (begins-stored h (record { rest = []; is = sym (append-nil T) }))
       (subst (λ (i : ℕ). StoredPolicies T i qs) same (begins-stored k (record { rest = []; is = e ∙ sym (append-nil (bytesOf (policiesEntries 0 qs))) })))
-
-  pub same-entries : policiesEntries 0 ps ≡ policiesEntries 0 qs → ps ≡ qs
-  same-entries e = same-bytes (ap bytesOf e)

@@ -1,22 +1,20 @@
 -- Entries put into a table one after another, and a table compared with them. Assumes nothing.
 use mathlib.Core.Path.{_≡_, refl, sym, _∙_, ap}
-use mathlib.Core.Bool.{Bool, true, false, cond, _&&_}
+use mathlib.Core.Bool.{Bool, true, false, _&&_}
 use mathlib.Core.List.{List, [], _∷_, _++_, append-assoc, append-nil}
 use Prim.Native.Nat.{ℕ, suc, _+_, _*_, _/_, _%_, _≤_, _<_}
 use native.Mathlib.Omega.{arith}
 use native.Mathlib.Nat.{add-zero}
 use native.Mathlib.Numerals.{towards-suc}
 use lib.ListN.{length, drop, getD, length-append, length-drop}
-use lib.Seq.{sets, sets-eq, length-sets, drop-cons, drop-drop, take-at, drop-append-add}
+use lib.Seq.{sets-eq, drop-cons, drop-drop, take-at, drop-append-add}
 use lib.Dec.{eqb}
 use borrow.Author.Tests.{eqb-true, eqb-false, eq-eqb, le-leb, leb-true, leb-false}
-use Rattle.tokens.proofs.TokenLaws.{never, and-left, and-right}
+use Rattle.tokens.proofs.TokenLaws.{and-left, and-right}
 use Rattle.table.specs.declared.Entry.{Entry}
-use Rattle.table.specs.Entries.{entry}
 use Rattle.table.specs.Layout.{entrySize, entryBytes, bytesOf, fits, putAt, puts, numberOf, entryAt, entryIs, held, startsWith, Begins}
 use Rattle.slices.specs.Decides.{Decides}
 use Rattle.slices.proofs.Decided.{yes-to, no-to, refuted}
-use Rattle.table.proofs.Fields.{field-back}
 
 -- ---- one list of entries after another
 
@@ -34,6 +32,10 @@ and-assoc false b c = refl
 pub and-true : (a : Bool) → a && true ≡ a
 and-true true = refl
 and-true false = refl
+
+pub and-false : (a : Bool) → a && false ≡ false
+and-false true = refl
+and-false false = refl
 
 pub held-append : (T : List ℕ) (e : ℕ) (a b : List Entry) → held T e (a ++ b) ≡ held T e a && held T (e + length a) b
 unfolding held
@@ -59,15 +61,11 @@ starts-append [] b s = refl
 starts-append (x ∷ a) b [] = refl
 starts-append (x ∷ a) b (y ∷ s) = rw (starts-append a b s) (sym (and-assoc (eqb y x) (startsWith a s) (startsWith b (drop (length a) s))))
 
-no-right : (b : Bool) → b && false ≡ false
-no-right true = refl
-no-right false = refl
-
 too-short : (a s : List ℕ) → length s < length a → startsWith a s ≡ false
 unfolding startsWith
 too-short [] s h = absurd (omega arith)
 too-short (x ∷ a) [] h = refl
-too-short (x ∷ a) (y ∷ s) h = rw (too-short a s (omega arith)) (no-right (eqb y x))
+too-short (x ∷ a) (y ∷ s) h = rw (too-short a s (omega arith)) (and-false (eqb y x))
 
 pub starts-itself : (a s : List ℕ) → startsWith a (a ++ s) ≡ true
 unfolding startsWith
@@ -95,22 +93,11 @@ module _ (T : List ℕ) where
   unfolding startsWith
   starts-one i b bs h = rw (drop-cons T i 0 h) (simp towards-suc)
 
-  regrouped : (a b c d e : Bool) → a && (b && (c && (d && (e && true)))) ≡ a && b && c && d && e
-  regrouped false b c d e = refl
-  regrouped true false c d e = refl
-  regrouped true true false d e = refl
-  regrouped true true true false e = refl
-  regrouped true true true true false = refl
-  regrouped true true true true true = refl
-
   entry-starts : (e : ℕ) (x : Entry) → entryIs T e x ≡ startsWith (entryBytes x) (drop (entrySize * e) T)
   unfolding entryIs entryBytes
   entry-starts e x = go (fits T e) refl
     where
-      go : (b : Bool) → fits T e ≡ b
-          → fits T e && eqb (getD T (entrySize * e) 0) (x .kind) && eqb (getD T (entrySize * e + 1) 0) (x .first % 256) && eqb (getD T (entrySize * e + 2) 0) (x .first / 256 % 256)
-          && eqb (getD T (entrySize * e + 3) 0) (x .second % 256) && eqb (getD T (entrySize * e + 4) 0) (x .second / 256 % 256)
-          ≡ startsWith (x .kind ∷ x .first % 256 ∷ x .first / 256 % 256 ∷ x .second % 256 ∷ x .second / 256 % 256 ∷ []) (drop (entrySize * e) T)
+      go : (b : Bool) → fits T e ≡ b → entryIs T e x ≡ startsWith (entryBytes x) (drop (entrySize * e) T)
       go true h =
           let l = leb-true (entrySize * e + entrySize) (length T) h in
           let i₂ : entrySize * e + 1 + 1 ≡ entrySize * e + 2 = omega arith in
@@ -127,8 +114,7 @@ module _ (T : List ℕ) where
             starts-one (entrySize * e + 4) _ _ (omega arith),
             starts-nil,
             h,
-          ) (regrouped (eqb (getD T (entrySize * e) 0) (x .kind)) (eqb (getD T (entrySize * e + 1) 0) (x .first % 256)) (eqb (getD T (entrySize * e + 2) 0) (x .first / 256 % 256))
-          (eqb (getD T (entrySize * e + 3) 0) (x .second % 256)) (eqb (getD T (entrySize * e + 4) 0) (x .second / 256 % 256))))
+          ) (simp (and-assoc, and-true)))
       go false h =
           let l = leb-false (entrySize * e + entrySize) (length T) h in
           let short : length (drop (entrySize * e) T) < 5 = rw (length-drop (entrySize * e) T) (omega arith) in
@@ -145,29 +131,23 @@ module _ (T : List ℕ) where
 
 -- ---- what a table gives back
 
+-- a field below 65,536 comes back from its bytes
+field-back : (a b n : ℕ) → n < 65536 → a ≡ n % 256 → b ≡ n / 256 % 256 → numberOf a b ≡ n
+field-back a b n h e f = omega arith
+
+parted : (a b : Bool) → a && b ≡ true → (a ≡ true) × (b ≡ true)
+parted a b h = (and-left a b h, and-right a b h)
+
 -- an entry that the table has is the entry that it gives, where both fields fit into two bytes
 pub entry-back : (T : List ℕ) (e : ℕ) (x : Entry) → x .first < 65536 → x .second < 65536 → entryIs T e x ≡ true → entryAt T e ≡ x
 unfolding entryIs entryAt
-entry-back T e x f s h = go (fits T e) (eqb (getD T (entrySize * e) 0) (x .kind)) (eqb (getD T (entrySize * e + 1) 0) (x .first % 256)) (eqb (getD T (entrySize * e + 2) 0) (x .first / 256 % 256))
-    (eqb (getD T (entrySize * e + 3) 0) (x .second % 256)) (eqb (getD T (entrySize * e + 4) 0) (x .second / 256 % 256)) refl refl refl refl refl refl h
-  where
-    go : (r k a b c d : Bool) → fits T e ≡ r → eqb (getD T (entrySize * e) 0) (x .kind) ≡ k → eqb (getD T (entrySize * e + 1) 0) (x .first % 256) ≡ a → eqb (getD T (entrySize * e + 2) 0) (x .first / 256 % 256) ≡ b
-        → eqb (getD T (entrySize * e + 3) 0) (x .second % 256) ≡ c → eqb (getD T (entrySize * e + 4) 0) (x .second / 256 % 256) ≡ d → r && k && a && b && c && d ≡ true
-        → cond (fits T e) (entry (getD T (entrySize * e) 0) (numberOf (getD T (entrySize * e + 1) 0) (getD T (entrySize * e + 2) 0)) (numberOf (getD T (entrySize * e + 3) 0) (getD T (entrySize * e + 4) 0))) (entry 0 0 0) ≡ x
-    go true true true true true true h₀ h₁ h₂ h₃ h₄ h₅ e₀ =
-        let byte : (i n : ℕ) → eqb (getD T i 0) n ≡ true → getD T i 0 ≡ n = λ i n. eqb-true (getD T i 0) n in
-        rw (
-          h₀,
-          byte (entrySize * e) (x .kind) h₁,
-          field-back (getD T (entrySize * e + 1) 0) (getD T (entrySize * e + 2) 0) (x .first) f (byte _ _ h₂) (byte _ _ h₃),
-          field-back (getD T (entrySize * e + 3) 0) (getD T (entrySize * e + 4) 0) (x .second) s (byte _ _ h₄) (byte _ _ h₅),
-        )
-    go false k a b c d h₀ h₁ h₂ h₃ h₄ h₅ e₀ = absurd (never e₀)
-    go true false a b c d h₀ h₁ h₂ h₃ h₄ h₅ e₀ = absurd (never e₀)
-    go true true false b c d h₀ h₁ h₂ h₃ h₄ h₅ e₀ = absurd (never e₀)
-    go true true true false c d h₀ h₁ h₂ h₃ h₄ h₅ e₀ = absurd (never e₀)
-    go true true true true false d h₀ h₁ h₂ h₃ h₄ h₅ e₀ = absurd (never e₀)
-    go true true true true true false h₀ h₁ h₂ h₃ h₄ h₅ e₀ = absurd (never e₀)
+entry-back T e x f s h =
+    let (h₅, d) = parted _ _ h in let (h₄, c) = parted _ _ h₅ in let (h₃, b) = parted _ _ h₄ in let (h₂, a) = parted _ _ h₃ in let (r, k) = parted _ _ h₂ in
+    let room : fits T e ≡ true = r in
+    let kind = eqb-true (getD T (entrySize * e) 0) (x .kind) k in
+    let first = field-back (getD T (entrySize * e + 1) 0) (getD T (entrySize * e + 2) 0) (x .first) f (eqb-true _ _ a) (eqb-true _ _ b) in
+    let second = field-back (getD T (entrySize * e + 3) 0) (getD T (entrySize * e + 4) 0) (x .second) s (eqb-true _ _ c) (eqb-true _ _ d) in
+    rw (room, kind, first, second)
 
 -- the parts of a list that a table holds
 pub held-left : (T : List ℕ) (e : ℕ) (a b : List Entry) → held T e (a ++ b) ≡ true → held T e a ≡ true
@@ -215,16 +195,9 @@ pub puts-front : (es : List Entry) (T : List ℕ) → length (bytesOf es) ≤ le
 puts-front es T l = puts-behind es T [] 0 refl l
 
 -- a table that has some entries is long enough for them
-first-holds : (r k a b c d : Bool) → r && k && a && b && c && d ≡ true → r ≡ true
-first-holds true k a b c d e = refl
-first-holds false k a b c d e = e
-
 entry-fits : (T : List ℕ) (e : ℕ) (x : Entry) → entryIs T e x ≡ true → entrySize * e + entrySize ≤ length T
 unfolding entryIs
-entry-fits T e x h =
-    leb-true (entrySize * e + entrySize) (length T)
-    (first-holds (fits T e) (eqb (getD T (entrySize * e) 0) (x .kind)) (eqb (getD T (entrySize * e + 1) 0) (x .first % 256)) (eqb (getD T (entrySize * e + 2) 0) (x .first / 256 % 256))
-    (eqb (getD T (entrySize * e + 3) 0) (x .second % 256)) (eqb (getD T (entrySize * e + 4) 0) (x .second / 256 % 256)) h)
+entry-fits T e x h = leb-true (entrySize * e + entrySize) (length T) (and-left _ _ (and-left _ _ (and-left _ _ (and-left _ _ (and-left _ _ h)))))
 
 pub held-room : (T : List ℕ) (e : ℕ) (es : List Entry) → 0 < length es → held T e es ≡ true → entrySize * (e + length es) ≤ length T
 unfolding held

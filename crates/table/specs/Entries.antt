@@ -7,41 +7,47 @@ use lib.ListN.{length}
 use Rattle.table.specs.declared.Entry.{Entry}
 use Rattle.grammar.specs.Policies.{Span, Root, Root.Principal, Root.Resource, Root.Env, Root.Action, Comparator, Comparator.Equal, Comparator.NotEqual, Comparator.More, Comparator.AtLeast, Comparator.Less, Comparator.AtMost, Literal, text, number, truth, Operand, attribute, literal, Which, Which.All, Which.Any, Tree, constant, compare, like, among, within, contains, has, not, brackets, both, either, choice, Part, any, typed, pinned, Actions, every, oneOf, Policy}
 
+-- an entry of this kind, with these two fields
 abbrev pub entry : ℕ → ℕ → ℕ → Entry
 entry kind first second = record { kind = kind; first = first; second = second }
 
--- a place in the text
+-- an entry that holds a place in the text
 abbrev pub placed : ℕ → Span → Entry
 placed kind s = entry kind (s .start) (s .end)
 
 -- ---- operands and literals
 
--- the roots of a bag by their root bytes, and action
+-- attributes, by their roots: those of a bag have their root bytes
 abbrev pub rootKind : Root → ℕ
 rootKind Principal = 1
 rootKind Resource = 2
 rootKind Env = 3
 rootKind Action = 4
 
+-- `has`, by its root
 abbrev pub hasKind : Root → ℕ
 hasKind Principal = 5
 hasKind Resource = 6
 hasKind Env = 7
 hasKind Action = 8
 
+-- a literal: a string and a number by their places
 unfoldable pub literalEntry : Literal → Entry
 literalEntry (text s) = placed 9 s
 literalEntry (number s) = placed 10 s
 literalEntry (truth true) = entry 11 0 0
 literalEntry (truth false) = entry 12 0 0
 
+-- an operand: an attribute by its root and its path's place, or a literal
 unfoldable pub operandEntry : Operand → Entry
 operandEntry (attribute root s) = placed (rootKind root) s
 operandEntry (literal l) = literalEntry l
 
+-- the literals of a list
 abbrev pub literalEntries : List Literal → List Entry
 literalEntries ls = map literalEntry ls
 
+-- `==`, `!=`, `>`, `>=`, `<`, `<=`
 abbrev pub comparatorKind : Comparator → ℕ
 comparatorKind Equal = 13
 comparatorKind NotEqual = 14
@@ -50,6 +56,7 @@ comparatorKind AtLeast = 16
 comparatorKind Less = 17
 comparatorKind AtMost = 18
 
+-- containsAll, containsAny
 abbrev pub whichKind : Which → ℕ
 whichKind All = 22
 whichKind Any = 23
@@ -61,11 +68,8 @@ abbrev pub joint : ℕ → ℕ → List Entry → (ℕ → List Entry) → List 
 joint kind e left right = (left ++ right (e + length left)) ++ entry kind (e + length left) 0 ∷ []
 
 -- a node after its three parts: it says where the second and the third begin
-abbrev pub fork′ : ℕ → List Entry → List Entry → (ℕ → List Entry) → List Entry
-fork′ f a b c = ((a ++ b) ++ c (f + length b)) ++ entry 28 f (f + length b) ∷ []
-
 abbrev pub fork : ℕ → List Entry → (ℕ → List Entry) → (ℕ → List Entry) → List Entry
-fork e a b c = fork′ (e + length a) a (b (e + length a)) c
+fork e a b c = let f = e + length a in let g = f + length (b f) in ((a ++ b f) ++ c g) ++ entry 28 f g ∷ []
 
 -- the entries of a condition whose first is number e
 unfoldable pub treeEntries : ℕ → Tree → List Entry
@@ -85,23 +89,28 @@ treeEntries e (choice a b c) = fork e (treeEntries e a) (λ f. treeEntries f b) 
 
 -- ---- policies
 
+-- a principal or resource part: bare, with a type's number, with a string's place
 unfoldable pub partEntry : Part → Entry
 partEntry any = entry 29 0 0
 partEntry (typed k) = entry 30 k 0
 partEntry (pinned s) = placed 31 s
 
+-- an action part: bare, or its strings and how many they are
 unfoldable pub actionEntries : Actions → List Entry
 actionEntries every = entry 32 0 0 ∷ []
 actionEntries (oneOf ls) = literalEntries ls ++ entry 33 (length ls) 0 ∷ []
 
+-- a policy's condition, if it has one
 unfoldable pub conditionEntries : ℕ → Option Tree → List Entry
 conditionEntries e none = []
 conditionEntries e (some t) = treeEntries e t
 
+-- permit, forbid
 unfoldable pub effectKind : Bool → ℕ
 effectKind true = 34
 effectKind false = 35
 
+-- a policy's target: its principal, action and resource parts
 unfoldable pub targetEntries : Policy → List Entry
 targetEntries p = (partEntry (p .principal) ∷ actionEntries (p .action)) ++ partEntry (p .resource) ∷ []
 
@@ -109,9 +118,11 @@ targetEntries p = (partEntry (p .principal) ∷ actionEntries (p .action)) ++ pa
 abbrev pub policyEnd : ℕ → Bool → List Entry → (ℕ → List Entry) → List Entry
 policyEnd e permits target condition = (target ++ condition (e + length target)) ++ entry (effectKind permits) e (e + length target) ∷ []
 
+-- the entries of a policy whose first is number e
 unfoldable pub policyEntries : ℕ → Policy → List Entry
 policyEntries e p = policyEnd e (p .permits) (targetEntries p) (λ f. conditionEntries f (p .condition))
 
+-- entries from number e on, and those of the rest, which go by the number after them
 abbrev pub andThen : ℕ → List Entry → (ℕ → List Entry) → List Entry
 andThen e first rest = first ++ rest (e + length first)
 

@@ -9,12 +9,15 @@ use lib.Dec.{eqb, leb}
 use Rattle.table.specs.declared.Entry.{Entry}
 use Rattle.table.specs.Entries.{entry}
 
+-- an entry's bytes
 abbrev pub entrySize : ℕ
 entrySize = 5
 
+-- the bytes of an entry: its kind, the two of its first field, the two of its second
 unfoldable pub entryBytes : Entry → List ℕ
 entryBytes x = x .kind ∷ x .first % 256 ∷ x .first / 256 % 256 ∷ x .second % 256 ∷ x .second / 256 % 256 ∷ []
 
+-- the bytes of entries, one after another
 unfoldable pub bytesOf : List Entry → List ℕ
 bytesOf [] = []
 bytesOf (x ∷ xs) = entryBytes x ++ bytesOf xs
@@ -36,7 +39,7 @@ puts table e (x ∷ xs) = puts (putAt table e x) (e + 1) xs
 abbrev pub numberOf : ℕ → ℕ → ℕ
 numberOf low high = low + 256 * high
 
--- entry number e of a table
+-- entry number e of a table, with zeros where the table has none
 unfoldable pub entryAt : List ℕ → ℕ → Entry
 entryAt table e =
     cond (fits table e)

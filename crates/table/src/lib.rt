@@ -1,11 +1,13 @@
 // The table's bytes: nothing else looks into a table or writes into one. An entry is there whole or not at all.
+pub mod entries;
+
 ghost use mathlib.Core.Path.{_≡_};
 ghost use mathlib.Core.Bool.{_&&_};
 ghost use Prim.Native.Nat.{_+_, _*_, _<_, _≤_, _^_};
 ghost use lib.ListN.{length};
 ghost use Rattle.table.specs.Layout.{putAt, numberOf, entryAt, entryIs};
 
-// An entry: a kind and two fields.
+// An entry: a kind and two fields. In a table it takes five bytes: the kind, and two for each field.
 pub struct Entry {
     pub kind: u8,
     pub first: usize,
@@ -48,7 +50,7 @@ pub fn entry_at(table: &[u8], number: usize) -> Entry
 }
 
 // Whether this is entry `number` of the table.
-pub fn entry_is(table: &[u8], number: usize, x: Entry) -> bool
+fn entry_is(table: &[u8], number: usize, x: Entry) -> bool
     requires { ⌜ number < 2 ^ 60 ⌝ }
     ensures { λ r. ⌜ r ≡ entryIs (now (table .entry)) number x ⌝ }
 {
@@ -64,7 +66,7 @@ pub fn entry_is(table: &[u8], number: usize, x: Entry) -> bool
 }
 
 // Puts an entry into the table, where there is room for all of it.
-pub fn put_entry(table: &mut [u8], number: usize, x: Entry)
+fn put_entry(table: &mut [u8], number: usize, x: Entry)
     requires { ⌜ number < 2 ^ 60 ⌝ }
     ensures { λ _. ⌜ now (table .exit) ≡ putAt (now (table .entry)) number x ⌝ }
 {

@@ -4,17 +4,14 @@ use mathlib.Core.Path.{_≡_, refl, _∙_}
 use Prim.Native.Nat.{_-_}
 use native.Mathlib.Omega.{arith}
 use borrow.Author.Needs.{needs}
-use borrow.Author.Tests.{eq-eqb, ne-eqb}
 use Rattle.tokens.specs.Kinds as kinds
-use Rattle.reading.proofs.Stream.{next-on, next-off}
-use Rattle.reading.specs.Lexemes.{is}
 use Rattle.reading.specs.Reader.{mapped}
 use Rattle.grammar.specs.Parser.{read-action}
 use Rattle.grammar.specs.Policies.{every, oneOf}
 use Rattle.table.specs.Entries.{entry, actionEntries}
 use Rattle.parts.specs.Names.{sortOf}
-use Rattle.parts.proofs.Simple.{list-count}
-use Rattle.parts.proofs.Standing.{number-small, standing, ready-past, turned-as, need-on, need-off}
+use Rattle.parts.proofs.Literals.{list-count}
+use Rattle.parts.proofs.Standing.{number-small, standing, ready-past, turned-as, need-on, need-off, kind-on, kind-off}
 use Rattle.parts.proofs.Writing.{done-as, turned-done, one-done, kept-none, closing, free-small, counts}
 use Rattle.heads.proofs.read_action.Statement.{statement}
 use Rattle.heads.proofs.read_action.Tie as tie
@@ -35,8 +32,7 @@ returns c =
     let start = at-if1 .before .before .before .before .before in
     let s = start .args .text .now in
     let t = start .args .t in
-    let some : t .kind ≡ 0 → ⊥ = λ (z : t .kind ≡ 0). (let k = at-if1 .if1 .taken in omega arith) in
-    turned-done (turned-as (next-on s t (is kinds.inWord) _ _ _ some (start .pre .lies .high) (at-next-token .next-token .ensures .0) (eq-eqb _ _ (at-if1 .if1 .taken))) (need-off _ _ kinds.leftSquare _ (c .before .if2 .taken) (c .turned-away .ensures)))
+    turned-done (turned-as (kind-on s t kinds.inWord _ _ _ (omega arith) (at-if1 .if1 .taken) (start .pre .lies .high) (at-next-token .next-token .ensures .0)) (need-off _ _ kinds.leftSquare _ (c .before .if2 .taken) (c .turned-away .ensures)))
 
 next-token-requires-2 : tie.Need-next-token-requires-2
 next-token-requires-2 c κs =
@@ -79,13 +75,12 @@ returns-2 c =
     let s = start .args .text .now in
     let t = start .args .t in
     let pre = start .pre in
-    let some : t .kind ≡ 0 → ⊥ = λ (z : t .kind ≡ 0). (let k = at-if1 .if1 .taken in omega arith) in
     let l = pre .lies .low in
     let o = pre .lies .order in
     let a = at-next-token .next-token .ensures .1 .low in
     let b = at-next-token .next-token .ensures .1 .order in
     let d = at-next-token2 .next-token2 .ensures .1 .low in
-    done-as (next-on s t (is kinds.inWord) _ _ _ some (pre .lies .high) (at-next-token .next-token .ensures .0) (eq-eqb _ _ (at-if1 .if1 .taken)) ∙ need-on _ _ kinds.leftSquare _ _ (omega arith) (at-if2 .if2 .left) (at-next-token .next-token .ensures .1 .high) (at-next-token2 .next-token2 .ensures .0))
+    done-as (kind-on s t kinds.inWord _ _ _ (omega arith) (at-if1 .if1 .taken) (pre .lies .high) (at-next-token .next-token .ensures .0) ∙ need-on _ _ kinds.leftSquare _ _ (omega arith) (at-if2 .if2 .left) (at-next-token .next-token .ensures .1 .high) (at-next-token2 .next-token2 .ensures .0))
     (closing [] oneOf (kept-none _ _ _ _) (λ n. entry 33 (n - start .args .number) 0) (λ ls n h. list-count [] ls 33 _ n h) (omega (arith, l, o, a, b, d)) (at-read-list .read-list .ensures) (c .before .before .counted .ensures))
 
 append-requires : tie.Need-append-requires
@@ -106,7 +101,7 @@ returns-3 c =
     let s = start .args .text .now in
     let t = start .args .t in
     let l = start .pre .lies .low in
-    one-done every refl (next-off s t (is kinds.inWord) _ _ (ne-eqb _ _ (at-if1 .if1 .left))) (standing t (omega (arith, l)) (start .pre .lies)) (c .before .before .append .ensures)
+    one-done every refl (kind-off s t kinds.inWord _ _ (at-if1 .if1 .left)) (standing t (omega (arith, l)) (start .pre .lies)) (c .before .before .append .ensures)
 
 pub read-action-spec : {M : Type 1} → statement M
 read-action-spec =

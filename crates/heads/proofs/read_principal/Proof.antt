@@ -2,15 +2,12 @@
 use mathlib.Core.Path.{_≡_, refl}
 use native.Mathlib.Omega.{arith}
 use borrow.Author.Needs.{needs}
-use borrow.Author.Tests.{eq-eqb, ne-eqb}
 use Rattle.tokens.specs.Kinds as kinds
-use Rattle.reading.proofs.Stream.{next-on, next-off}
-use Rattle.reading.specs.Lexemes.{is}
 use Rattle.grammar.specs.Parser.{read-principal}
 use Rattle.grammar.specs.Policies.{any}
 use Rattle.table.specs.Entries.{partEntry}
 use Rattle.parts.specs.Names.{typesOf}
-use Rattle.parts.proofs.Standing.{number-small, standing, past, ready-past}
+use Rattle.parts.proofs.Standing.{number-small, standing, past, ready-past, kind-on, kind-off}
 use Rattle.parts.proofs.Writing.{done-as, weaker, one-done}
 use Rattle.heads.proofs.read_principal.Statement.{statement}
 use Rattle.heads.proofs.read_principal.Tie as tie
@@ -39,7 +36,7 @@ returns c =
     let t = start .args .t in
     let some : t .kind ≡ 0 → ⊥ = λ (z : t .kind ≡ 0). (let k = at-if1 .if1 .taken in omega arith) in
     let l = past t (start .pre .lies) some (at-next-token .next-token .ensures .1) .low in
-    done-as (next-on s t (is kinds.isWord) _ _ _ some (start .pre .lies .high) (at-next-token .next-token .ensures .0) (eq-eqb _ _ (at-if1 .if1 .taken))) (weaker (omega (arith, l)) (c .before .before .read-type .ensures))
+    done-as (kind-on s t kinds.isWord _ _ _ (omega arith) (at-if1 .if1 .taken) (start .pre .lies .high) (at-next-token .next-token .ensures .0)) (weaker (omega (arith, l)) (c .before .before .read-type .ensures))
 
 append-requires : tie.Need-append-requires
 append-requires c κs =
@@ -59,7 +56,7 @@ returns-2 c =
     let s = start .args .text .now in
     let t = start .args .t in
     let l = start .pre .lies .low in
-    one-done any refl (next-off s t (is kinds.isWord) _ _ (ne-eqb _ _ (at-if1 .if1 .left))) (standing t (omega (arith, l)) (start .pre .lies)) (c .before .before .append .ensures)
+    one-done any refl (kind-off s t kinds.isWord _ _ (at-if1 .if1 .left)) (standing t (omega (arith, l)) (start .pre .lies)) (c .before .before .append .ensures)
 
 pub read-principal-spec : {M : Type 1} → statement M
 read-principal-spec =

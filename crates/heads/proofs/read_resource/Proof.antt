@@ -2,17 +2,15 @@
 use mathlib.Core.Path.{_≡_, refl, _∙_}
 use native.Mathlib.Omega.{arith}
 use borrow.Author.Needs.{needs}
-use borrow.Author.Tests.{eq-eqb, ne-eqb}
 use Rattle.tokens.specs.Kinds as kinds
-use Rattle.reading.proofs.Stream.{next-on, next-off}
-use Rattle.reading.specs.Lexemes.{lexeme, is}
+use Rattle.reading.specs.Lexemes.{lexeme}
 use Rattle.reading.specs.Reader.{ten}
 use Rattle.grammar.specs.Parser.{read-resource}
 use Rattle.grammar.specs.Policies.{any, pinned}
 use Rattle.grammar.specs.Rules.{spanOf}
 use Rattle.table.specs.Entries.{partEntry}
 use Rattle.parts.specs.Names.{typesOf}
-use Rattle.parts.proofs.Standing.{number-small, standing, lowered, past, ready-past, turned-as, turned}
+use Rattle.parts.proofs.Standing.{number-small, standing, lowered, past, ready-past, turned-as, turned, kind-on, kind-off}
 use Rattle.parts.proofs.Writing.{done-as, turned-done, weaker, one-done}
 use Rattle.heads.proofs.read_resource.Statement.{statement}
 use Rattle.heads.proofs.read_resource.Tie as tie
@@ -41,7 +39,7 @@ returns c =
     let t = start .args .t in
     let some : t .kind ≡ 0 → ⊥ = λ (z : t .kind ≡ 0). (let k = at-if1 .if1 .taken in omega arith) in
     let l = past t (start .pre .lies) some (at-next-token .next-token .ensures .1) .low in
-    done-as (next-on s t (is kinds.isWord) _ _ _ some (start .pre .lies .high) (at-next-token .next-token .ensures .0) (eq-eqb _ _ (at-if1 .if1 .taken))) (weaker (omega (arith, l)) (c .before .before .read-type .ensures))
+    done-as (kind-on s t kinds.isWord _ _ _ (omega arith) (at-if1 .if1 .taken) (start .pre .lies .high) (at-next-token .next-token .ensures .0)) (weaker (omega (arith, l)) (c .before .before .read-type .ensures))
 
 next-token-requires-2 : tie.Need-next-token-requires-2
 next-token-requires-2 c κs =
@@ -61,8 +59,7 @@ returns-2 c =
     let s = start .args .text .now in
     let t = start .args .t in
     let n = at-next-token2 .next-token2 .result in
-    let some : t .kind ≡ 0 → ⊥ = λ (z : t .kind ≡ 0). (let k = at-if2 .if2 .taken in omega arith) in
-    turned-done (turned-as (next-off s t (is kinds.isWord) _ _ (ne-eqb _ _ (at-if1 .if1 .left)) ∙ next-on s t (is kinds.equal) _ _ _ some (start .pre .lies .high) (at-next-token2 .next-token2 .ensures .0) (eq-eqb _ _ (at-if2 .if2 .taken)) ∙ next-off s n (is kinds.string) _ _ (ne-eqb _ _ (c .before .if3 .taken))) (turned s n ten (c .turned-away .ensures)))
+    turned-done (turned-as (kind-off s t kinds.isWord _ _ (at-if1 .if1 .left) ∙ kind-on s t kinds.equal _ _ _ (omega arith) (at-if2 .if2 .taken) (start .pre .lies .high) (at-next-token2 .next-token2 .ensures .0) ∙ kind-off s n kinds.string _ _ (c .before .if3 .taken)) (turned s n ten (c .turned-away .ensures)))
 
 next-token-requires-3 : tie.Need-next-token-requires-3
 next-token-requires-3 c κs =
@@ -96,7 +93,7 @@ returns-3 c =
     let a = past t (start .pre .lies) some (at-next-token2 .next-token2 .ensures .1) in
     let b = past n a some′ (at-next-token3 .next-token3 .ensures .1) in
     let a-low = a .low in
-    one-done (pinned (spanOf (lexeme s n))) refl (next-off s t (is kinds.isWord) _ _ (ne-eqb _ _ (at-if1 .if1 .left)) ∙ next-on s t (is kinds.equal) _ _ _ some (start .pre .lies .high) (at-next-token2 .next-token2 .ensures .0) (eq-eqb _ _ (at-if2 .if2 .taken)) ∙ next-on s n (is kinds.string) _ _ _ some′ (at-next-token2 .next-token2 .ensures .1 .high) (at-next-token3 .next-token3 .ensures .0) (eq-eqb _ _ (at-if3 .if3 .left)))
+    one-done (pinned (spanOf (lexeme s n))) refl (kind-off s t kinds.isWord _ _ (at-if1 .if1 .left) ∙ kind-on s t kinds.equal _ _ _ (omega arith) (at-if2 .if2 .taken) (start .pre .lies .high) (at-next-token2 .next-token2 .ensures .0) ∙ kind-on s n kinds.string _ _ _ (omega arith) (at-if3 .if3 .left) (at-next-token2 .next-token2 .ensures .1 .high) (at-next-token3 .next-token3 .ensures .0))
     (lowered (omega (arith, a-low)) b) (c .before .before .append .ensures)
 
 append-requires-2 : tie.Need-append-requires-2
@@ -118,7 +115,7 @@ returns-4 c =
     let s = start .args .text .now in
     let t = start .args .t in
     let l = start .pre .lies .low in
-    one-done any refl (next-off s t (is kinds.isWord) _ _ (ne-eqb _ _ (at-if1 .if1 .left)) ∙ next-off s t (is kinds.equal) _ _ (ne-eqb _ _ (at-if2 .if2 .left))) (standing t (omega (arith, l)) (start .pre .lies)) (c .before .before .append2 .ensures)
+    one-done any refl (kind-off s t kinds.isWord _ _ (at-if1 .if1 .left) ∙ kind-off s t kinds.equal _ _ (at-if2 .if2 .left)) (standing t (omega (arith, l)) (start .pre .lies)) (c .before .before .append2 .ensures)
 
 pub read-resource-spec : {M : Type 1} → statement M
 read-resource-spec =

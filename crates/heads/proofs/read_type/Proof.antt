@@ -1,8 +1,6 @@
 -- `heads::read_type` meets its contract: no name, no type, or its entry. Assumes nothing.
-use mathlib.Core.Path.{_≡_, _∙_, sym, ap}
-use Prim.Native.Nat.{ℕ}
+use mathlib.Core.Path.{_≡_, _∙_, sym}
 use native.Mathlib.Omega.{arith}
-use lib.ListN.{length}
 use borrow.Author.Needs.{needs}
 use Rattle.reading.proofs.Stream.{next-on, next-off}
 use Rattle.reading.specs.Lexemes.{lexeme}
@@ -10,9 +8,8 @@ use Rattle.grammar.specs.Parser.{noType, read-type}
 use Rattle.grammar.specs.Policies.{typed}
 use Rattle.grammar.specs.Rules.{isType, typeOf}
 use Rattle.table.specs.Entries.{partEntry}
-use Rattle.parts.specs.Answers.{turnedAway}
 use Rattle.parts.specs.Names.{typesOf}
-use Rattle.parts.proofs.Standing.{number-small, past, turned-as, turned}
+use Rattle.parts.proofs.Standing.{number-small, past, turned-as, turned-for}
 use Rattle.heads.proofs.Types.{no-type-name, is-type, no-type, ten-for-type, nine-for-type}
 use Rattle.parts.proofs.Writing.{one-done, turned-done}
 use Rattle.heads.proofs.read_type.Statement.{statement}
@@ -29,7 +26,7 @@ returns c =
     let start = c .before .before .before .before .before .before in
     let s = start .args .text .now in
     let t = start .args .t in
-    turned-done (turned-as (next-off s t (isType (typesOf (start .args .resource))) _ _ (no-type-name _ s t (c .before .if1 .taken))) (turned s t noType (c .turned-away .ensures ∙ ap (λ (n : ℕ). turnedAway (length s) n t) (sym (ten-for-type s t (c .before .if1 .taken))))))
+    turned-done (turned-as (next-off s t (isType (typesOf (start .args .resource))) _ _ (no-type-name _ s t (c .before .if1 .taken))) (turned-for s t noType (sym (ten-for-type s t (c .before .if1 .taken))) (c .turned-away .ensures)))
 
 sub-type-number : tie.Need-sub-type-number
 sub-type-number c =
@@ -58,7 +55,7 @@ returns-2 c =
     let start = at-if1 .before .before .before .before .before in
     let s = start .args .text .now in
     let t = start .args .t in
-    turned-done (turned-as (next-off s t (isType (typesOf (start .args .resource))) _ _ (no-type _ s t (at-if1 .if1 .left) (sym (c .before .before .type-number .ensures) ∙ c .before .if2 .taken))) (turned s t noType (c .turned-away2 .ensures ∙ ap (λ (n : ℕ). turnedAway (length s) n t) (sym (nine-for-type s t (at-if1 .if1 .left))))))
+    turned-done (turned-as (next-off s t (isType (typesOf (start .args .resource))) _ _ (no-type _ s t (at-if1 .if1 .left) (sym (c .before .before .type-number .ensures) ∙ c .before .if2 .taken))) (turned-for s t noType (sym (nine-for-type s t (at-if1 .if1 .left))) (c .turned-away2 .ensures)))
 
 next-token-requires : tie.Need-next-token-requires
 next-token-requires c κs =

@@ -1,17 +1,14 @@
 -- `leaves::read_bare` meets its contract: by the kind of the left operand's entry. Assumes nothing.
-use mathlib.Core.Path.{_∙_, ap}
-use Prim.Native.Nat.{ℕ}
+use mathlib.Core.Path.{ap}
 use native.Mathlib.Omega.{arith}
-use lib.ListN.{length}
 use borrow.Author.Needs.{needs}
 use Rattle.reading.specs.Lexemes.{stream}
 use Rattle.reading.specs.Reader.{Reader, ten}
 use Rattle.grammar.specs.Parser.{bare}
 use Rattle.grammar.specs.Policies.{Tree, constant}
-use Rattle.parts.specs.Answers.{turnedAway}
-use Rattle.parts.proofs.Simple.{bare-attribute, bare-other, bare-truth}
-use Rattle.parts.proofs.Standing.{standing, turned-as, turned}
+use Rattle.parts.proofs.Standing.{standing, turned-as, turned, turned-for}
 use Rattle.parts.proofs.Writing.{one-done, turned-done}
+use Rattle.leaves.proofs.Simple.{bare-attribute, bare-other, bare-truth}
 use Rattle.leaves.proofs.read_bare.Statement.{statement}
 use Rattle.leaves.proofs.read_bare.Tie as tie
 
@@ -27,7 +24,7 @@ returns c =
     λ a e.
     let s = start .args .text .now in
     let t = start .args .t in
-    turned-done (turned-as (ap (λ (p : Reader Tree). p (stream s t)) (bare-attribute a e (c .before .before .if1 .taken))) (turned s t bare (c .turned-away .ensures ∙ ap (λ (n : ℕ). turnedAway (length s) n t) (c .before .no-operator .ensures))))
+    turned-done (turned-as (ap (λ (p : Reader Tree). p (stream s t)) (bare-attribute a e (c .before .before .if1 .taken))) (turned-for s t bare (c .before .no-operator .ensures) (c .turned-away .ensures)))
 
 turned-away-requires-2 : tie.Need-turned-away-requires-2
 turned-away-requires-2 c κs =

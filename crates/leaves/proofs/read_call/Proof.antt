@@ -9,7 +9,7 @@ use Rattle.grammar.specs.Parser.{read-list, read-call}
 use Rattle.grammar.specs.Policies.{contains}
 use Rattle.table.specs.Entries.{entry, operandEntry, treeEntries}
 use Rattle.parts.specs.Names.{sortOf}
-use Rattle.parts.proofs.Simple.{list-count}
+use Rattle.parts.proofs.Literals.{list-count}
 use Rattle.parts.proofs.Standing.{number-small, ready-past, turned-as, need-on, need-off}
 use Rattle.parts.proofs.Writing.{closed-next}
 use Rattle.parts.proofs.Writing.{done-as, turned-done, kept-one, closing, expected-done, free-small, counts}

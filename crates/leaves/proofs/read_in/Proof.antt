@@ -4,10 +4,9 @@ use mathlib.Core.Path.{_≡_, _∙_, sym}
 use Prim.Native.Nat.{_+_, _-_}
 use native.Mathlib.Omega.{arith}
 use borrow.Author.Needs.{needs}
-use borrow.Author.Tests.{eq-eqb, ne-eqb}
 use Rattle.tokens.specs.Kinds as kinds
 use Rattle.reading.proofs.Stream.{next-on, next-off}
-use Rattle.reading.specs.Lexemes.{lexeme, is}
+use Rattle.reading.specs.Lexemes.{lexeme}
 use Rattle.reading.specs.Reader.{mapped, ten}
 use Rattle.grammar.specs.Parser.{read-in}
 use Rattle.grammar.specs.Policies.{among, within}
@@ -15,9 +14,10 @@ use Rattle.grammar.specs.Rules.{isRoot}
 use Rattle.table.specs.Entries.{entry, treeEntries}
 use Rattle.parts.specs.Names.{rootFrom, sortOf}
 use Rattle.parts.proofs.Roots.{root-of}
-use Rattle.parts.proofs.Simple.{attribute-is, list-count}
+use Rattle.parts.proofs.Literals.{list-count}
 use Rattle.parts.proofs.Sorts.{root-some}
-use Rattle.parts.proofs.Standing.{number-small, past, ready-past, turned-as, turned}
+use Rattle.parts.proofs.Standing.{number-small, past, ready-past, turned-as, turned, kind-on, kind-off}
+use Rattle.parts.proofs.Ways.{attribute-is}
 use Rattle.parts.proofs.Writing.{done-as, turned-done, kept-one, closing, free-small, counts}
 use Rattle.leaves.proofs.read_in.Statement.{statement}
 use Rattle.leaves.proofs.read_in.Tie as tie
@@ -79,7 +79,7 @@ returns c =
     let some : t .kind ≡ 0 → ⊥ = λ (z : t .kind ≡ 0). (let k = at-if1 .if1 .taken in omega arith) in
     let l = start .pre .lies .low in
     let n-low = past t (start .pre .lies) some (at-next-token .next-token .ensures .1) .low in
-    done-as (next-on s t (is kinds.leftSquare) _ _ _ some (start .pre .lies .high) (at-next-token .next-token .ensures .0) (eq-eqb _ _ (at-if1 .if1 .taken)))
+    done-as (kind-on s t kinds.leftSquare _ _ _ (omega arith) (at-if1 .if1 .taken) (start .pre .lies .high) (at-next-token .next-token .ensures .0))
     (closing (start .args .left ∷ []) (among a) (kept-one (start .args .left) (at-append .append .ensures)) (λ n. entry 20 (n - (start .args .number + 1)) 0) (λ ls n h. rw e (list-count (start .args .left ∷ []) ls 20 _ n h)) (omega (arith, l, n-low)) (at-read-list .read-list .ensures) (c .before .before .counted .ensures))
 
 next-token-requires-2 : tie.Need-next-token-requires-2
@@ -134,7 +134,7 @@ returns-2 c =
     let some = root-some (lexeme s t) yes in
     let l = start .pre .lies .low in
     let n-low = past t (start .pre .lies) some (at-next-token2 .next-token2 .ensures .1) .low in
-    done-as (next-off s t (is kinds.leftSquare) _ _ (ne-eqb _ _ (at-if1 .if1 .left)) ∙ next-on s t isRoot _ _ _ some (start .pre .lies .high) (at-next-token2 .next-token2 .ensures .0) yes ∙ rw (root-of s t) (attribute-is (rootFrom (t .kind)) (within a) _))
+    done-as (kind-off s t kinds.leftSquare _ _ (at-if1 .if1 .left) ∙ next-on s t isRoot _ _ _ some (start .pre .lies .high) (at-next-token2 .next-token2 .ensures .0) yes ∙ rw (root-of s t) (attribute-is (rootFrom (t .kind)) (within a) _))
     (closing (start .args .left ∷ []) (within a (rootFrom (t .kind))) (kept-one (start .args .left) (at-append .append .ensures)) (λ n. entry 21 0 0) (λ p n h. rw e) (omega (arith, l, n-low)) (at-read-attribute .read-attribute .ensures) (c .before .before .closed .ensures))
 
 turned-away-requires : tie.Need-turned-away-requires
@@ -150,7 +150,7 @@ returns-3 c =
     λ a e.
     let s = start .args .text .now in
     let t = start .args .t in
-    turned-done (turned-as (next-off s t (is kinds.leftSquare) _ _ (ne-eqb _ _ (at-if1 .if1 .left)) ∙ next-off s t isRoot _ _ (sym (c .before .before .is-root .ensures) ∙ c .before .if2 .left)) (turned s t ten (c .turned-away .ensures)))
+    turned-done (turned-as (kind-off s t kinds.leftSquare _ _ (at-if1 .if1 .left) ∙ next-off s t isRoot _ _ (sym (c .before .before .is-root .ensures) ∙ c .before .if2 .left)) (turned s t ten (c .turned-away .ensures)))
 
 pub read-in-spec : {M : Type 1} → statement M
 read-in-spec =

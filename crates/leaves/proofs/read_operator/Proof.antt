@@ -2,17 +2,16 @@
 use mathlib.Core.Path.{_≡_, _∙_, sym}
 use native.Mathlib.Omega.{arith}
 use borrow.Author.Needs.{needs}
-use borrow.Author.Tests.{eq-eqb, ne-eqb}
 use Rattle.tokens.specs.Kinds as kinds
 use Rattle.reading.proofs.Stream.{next-on, next-off}
-use Rattle.reading.specs.Lexemes.{lexeme, is}
+use Rattle.reading.specs.Lexemes.{lexeme}
 use Rattle.grammar.specs.Parser.{read-operator}
 use Rattle.grammar.specs.Rules.{isComparator, comparatorOf}
 use Rattle.parts.specs.Names.{comparing}
-use Rattle.parts.proofs.Simple.{compares, no-compare, compare-is}
 use Rattle.parts.proofs.Sorts.{comparator-some}
-use Rattle.parts.proofs.Standing.{past, ready-past}
+use Rattle.parts.proofs.Standing.{past, ready-past, kind-on, kind-off}
 use Rattle.parts.proofs.Writing.{done-as, weaker}
+use Rattle.leaves.proofs.Simple.{compares, no-compare, compare-is}
 use Rattle.leaves.proofs.read_operator.Statement.{statement}
 use Rattle.leaves.proofs.read_operator.Tie as tie
 
@@ -78,7 +77,7 @@ returns-2 c =
     let x = lexeme s t in
     let some : t .kind ≡ 0 → ⊥ = λ (z : t .kind ≡ 0). (let k = at-if2 .if2 .taken in omega arith) in
     let l = past t (start .pre .lies) some (at-next-token2 .next-token2 .ensures .1) .low in
-    done-as (next-off s t isComparator _ _ (no-compare x (sym (at-comparator-kind .comparator-kind .ensures) ∙ at-if1 .if1 .left)) ∙ next-on s t (is kinds.likeWord) _ _ _ some (start .pre .lies .high) (at-next-token2 .next-token2 .ensures .0) (eq-eqb _ _ (at-if2 .if2 .taken)))
+    done-as (next-off s t isComparator _ _ (no-compare x (sym (at-comparator-kind .comparator-kind .ensures) ∙ at-if1 .if1 .left)) ∙ kind-on s t kinds.likeWord _ _ _ (omega arith) (at-if2 .if2 .taken) (start .pre .lies .high) (at-next-token2 .next-token2 .ensures .0))
     (weaker (omega (arith, l)) (c .before .before .read-pattern .ensures a e))
 
 next-token-requires-3 : tie.Need-next-token-requires-3
@@ -110,7 +109,7 @@ returns-3 c =
     let x = lexeme s t in
     let some : t .kind ≡ 0 → ⊥ = λ (z : t .kind ≡ 0). (let k = at-if3 .if3 .taken in omega arith) in
     let l = past t (start .pre .lies) some (at-next-token3 .next-token3 .ensures .1) .low in
-    done-as (next-off s t isComparator _ _ (no-compare x (sym (at-comparator-kind .comparator-kind .ensures) ∙ at-if1 .if1 .left)) ∙ next-off s t (is kinds.likeWord) _ _ (ne-eqb _ _ (at-if2 .if2 .left)) ∙ next-on s t (is kinds.inWord) _ _ _ some (start .pre .lies .high) (at-next-token3 .next-token3 .ensures .0) (eq-eqb _ _ (at-if3 .if3 .taken)))
+    done-as (next-off s t isComparator _ _ (no-compare x (sym (at-comparator-kind .comparator-kind .ensures) ∙ at-if1 .if1 .left)) ∙ kind-off s t kinds.likeWord _ _ (at-if2 .if2 .left) ∙ kind-on s t kinds.inWord _ _ _ (omega arith) (at-if3 .if3 .taken) (start .pre .lies .high) (at-next-token3 .next-token3 .ensures .0))
     (weaker (omega (arith, l)) (c .before .before .read-in .ensures a e))
 
 read-bare-requires : tie.Need-read-bare-requires
@@ -130,7 +129,7 @@ returns-4 c =
     let at-comparator-kind = at-if1 .before in
     let start = at-comparator-kind .before .before .before .before in
     λ a e. let s = start .args .text .now in let t = start .args .t in let x = lexeme s t in
-    done-as (next-off s t isComparator _ _ (no-compare x (sym (at-comparator-kind .comparator-kind .ensures) ∙ at-if1 .if1 .left)) ∙ next-off s t (is kinds.likeWord) _ _ (ne-eqb _ _ (at-if2 .if2 .left)) ∙ next-off s t (is kinds.inWord) _ _ (ne-eqb _ _ (at-if3 .if3 .left)))
+    done-as (next-off s t isComparator _ _ (no-compare x (sym (at-comparator-kind .comparator-kind .ensures) ∙ at-if1 .if1 .left)) ∙ kind-off s t kinds.likeWord _ _ (at-if2 .if2 .left) ∙ kind-off s t kinds.inWord _ _ (at-if3 .if3 .left))
     (c .before .before .read-bare .ensures a e)
 
 pub read-operator-spec : {M : Type 1} → statement M

@@ -1,8 +1,6 @@
 -- `leaves::read_pattern` meets its contract: no string, no pattern, or the two entries. Assumes nothing.
-use mathlib.Core.Path.{_≡_, _∙_, sym, ap}
-use Prim.Native.Nat.{ℕ}
+use mathlib.Core.Path.{_≡_, _∙_, sym}
 use native.Mathlib.Omega.{arith}
-use lib.ListN.{length}
 use borrow.Author.Tests.{not-true, not-false}
 use Rattle.reading.proofs.Stream.{next-on, next-off}
 use Rattle.reading.specs.Lexemes.{lexeme}
@@ -10,10 +8,9 @@ use Rattle.grammar.specs.Parser.{noPattern, isLike, read-pattern}
 use Rattle.grammar.specs.Policies.{like}
 use Rattle.grammar.specs.Rules.{spanOf}
 use Rattle.table.specs.Entries.{placed, treeEntries}
-use Rattle.parts.specs.Answers.{turnedAway}
-use Rattle.parts.proofs.Simple.{no-string, string-like, ten-for, thirteen-for}
-use Rattle.parts.proofs.Standing.{number-small, lowered, past, turned-as, turned}
+use Rattle.parts.proofs.Standing.{number-small, lowered, past, turned-as, turned-for}
 use Rattle.parts.proofs.Writing.{settled, turned-done, kept-one, kept-more}
+use Rattle.leaves.proofs.Simple.{no-string, string-like, ten-for, thirteen-for}
 use Rattle.leaves.proofs.read_pattern.Statement.{statement}
 use Rattle.leaves.proofs.read_pattern.Tie as tie
 
@@ -29,7 +26,7 @@ returns c =
     λ a e.
     let s = start .args .text .now in
     let t = start .args .t in
-    turned-done (turned-as (next-off s t isLike _ _ (no-string s t (c .before .if1 .taken))) (turned s t noPattern (c .turned-away .ensures ∙ ap (λ (n : ℕ). turnedAway (length s) n t) (sym (ten-for s t (c .before .if1 .taken))))))
+    turned-done (turned-as (next-off s t isLike _ _ (no-string s t (c .before .if1 .taken))) (turned-for s t noPattern (sym (ten-for s t (c .before .if1 .taken))) (c .turned-away .ensures)))
 
 is-pattern-requires : tie.Need-is-pattern-requires
 is-pattern-requires c κs =
@@ -49,7 +46,7 @@ returns-2 c =
     λ a e.
     let s = start .args .text .now in
     let t = start .args .t in
-    turned-done (turned-as (next-off s t isLike _ _ (string-like s t (at-if1 .if1 .left) ∙ sym (c .before .before .is-pattern .ensures) ∙ not-true _ (c .before .if2 .taken))) (turned s t noPattern (c .turned-away2 .ensures ∙ ap (λ (n : ℕ). turnedAway (length s) n t) (sym (thirteen-for s t (at-if1 .if1 .left))))))
+    turned-done (turned-as (next-off s t isLike _ _ (string-like s t (at-if1 .if1 .left) ∙ sym (c .before .before .is-pattern .ensures) ∙ not-true _ (c .before .if2 .taken))) (turned-for s t noPattern (sym (thirteen-for s t (at-if1 .if1 .left))) (c .turned-away2 .ensures)))
 
 next-token-requires : tie.Need-next-token-requires
 next-token-requires c κs =

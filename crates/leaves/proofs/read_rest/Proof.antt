@@ -6,8 +6,8 @@ use Rattle.reading.specs.Reader.{Reader}
 use Rattle.grammar.specs.Policies.{Tree, attribute, span}
 use Rattle.table.specs.Entries.{operandEntry}
 use Rattle.parts.specs.Names.{rootFrom}
-use Rattle.parts.proofs.Simple.{rest-plain, rest-call}
 use Rattle.parts.proofs.Writing.{done-as}
+use Rattle.leaves.proofs.Simple.{rest-plain, rest-call}
 use Rattle.leaves.proofs.read_rest.Statement.{statement}
 use Rattle.leaves.proofs.read_rest.Tie as tie
 

@@ -2,16 +2,13 @@
 use mathlib.Core.Path.{_≡_, _∙_}
 use native.Mathlib.Omega.{arith}
 use borrow.Author.Needs.{needs}
-use borrow.Author.Tests.{eq-eqb, ne-eqb}
 use Rattle.tokens.specs.Kinds as kinds
-use Rattle.reading.proofs.Stream.{next-on, next-off}
-use Rattle.reading.specs.Lexemes.{is}
 use Rattle.reading.specs.Reader.{mapped}
 use Rattle.grammar.specs.Parser.{read-rest, read-rooted}
 use Rattle.grammar.specs.Policies.{has}
 use Rattle.table.specs.Entries.{treeEntries}
 use Rattle.parts.specs.Names.{rootFrom, exitOf}
-use Rattle.parts.proofs.Standing.{lowered, past, ready-past, turned-as, turned-bind, need-on, need-off}
+use Rattle.parts.proofs.Standing.{lowered, past, ready-past, turned-as, turned-bind, need-on, need-off, kind-on, kind-off}
 use Rattle.parts.proofs.Ways.{as-found, as-lost}
 use Rattle.parts.proofs.Ways.{found-bind}
 use Rattle.parts.proofs.Writing.{done-as, turned-done, weaker, mapped-done}
@@ -51,8 +48,7 @@ returns c =
     let start = at-if1 .before .before .before .before .before in
     let s = start .args .text .now in
     let t = start .args .t in
-    let some : t .kind ≡ 0 → ⊥ = λ (z : t .kind ≡ 0). (let k = at-if1 .if1 .taken in omega arith) in
-    turned-done (turned-as (next-on s t (is kinds.dot) _ _ _ some (start .pre .lies .high) (at-next-token .next-token .ensures .0) (eq-eqb _ _ (at-if1 .if1 .taken))) (turned-bind (read-rest (rootFrom (start .args .root))) (as-lost (c .before .way .given .1) (at-read-way .read-way .ensures))))
+    turned-done (turned-as (kind-on s t kinds.dot _ _ _ (omega arith) (at-if1 .if1 .taken) (start .pre .lies .high) (at-next-token .next-token .ensures .0)) (turned-bind (read-rest (rootFrom (start .args .root))) (as-lost (c .before .way .given .1) (at-read-way .read-way .ensures))))
 
 same-length : tie.Need-same-length
 same-length c = c .before .before .read-rest .kept .1 .1 .0
@@ -71,7 +67,7 @@ returns-2 c =
     let k = as-found (at-way2 .way2 .given .1) (at-read-way .read-way .ensures) in
     let l = past t (start .pre .lies) some (at-next-token .next-token .ensures .1) .low in
     let m = k .lies .low in
-    done-as (next-on s t (is kinds.dot) _ _ _ some (start .pre .lies .high) (at-next-token .next-token .ensures .0) (eq-eqb _ _ (at-if1 .if1 .taken)) ∙ found-bind (read-rest (rootFrom (start .args .root))) k)
+    done-as (kind-on s t kinds.dot _ _ _ (omega arith) (at-if1 .if1 .taken) (start .pre .lies .high) (at-next-token .next-token .ensures .0) ∙ found-bind (read-rest (rootFrom (start .args .root))) k)
     (weaker (omega (arith, l, m)) (c .before .before .read-rest .ensures (k .way) (k .span-is) (k .call-is)))
 
 next-token-requires-2 : tie.Need-next-token-requires-2
@@ -101,7 +97,7 @@ returns-3 c =
     let t = start .args .t in
     let some : t .kind ≡ 0 → ⊥ = λ (z : t .kind ≡ 0). (let k = at-if2 .if2 .taken in omega arith) in
     let l = past t (start .pre .lies) some (at-next-token2 .next-token2 .ensures .1) .low in
-    done-as (next-off s t (is kinds.dot) _ _ (ne-eqb _ _ (at-if1 .if1 .left)) ∙ need-on s t kinds.hasWord _ _ (omega arith) (at-if2 .if2 .taken) (start .pre .lies .high) (at-next-token2 .next-token2 .ensures .0))
+    done-as (kind-off s t kinds.dot _ _ (at-if1 .if1 .left) ∙ need-on s t kinds.hasWord _ _ (omega arith) (at-if2 .if2 .taken) (start .pre .lies .high) (at-next-token2 .next-token2 .ensures .0))
     (mapped-done (has (rootFrom (start .args .root))) (λ v. rw (at-has-kind .has-kind .ensures)) (omega (arith, l)) (c .before .before .read-placed .ensures))
 
 turned-away-requires : tie.Need-turned-away-requires
@@ -116,7 +112,7 @@ returns-4 c =
     let start = at-if1 .before .before .before .before .before in
     let s = start .args .text .now in
     let t = start .args .t in
-    turned-done (turned-as (next-off s t (is kinds.dot) _ _ (ne-eqb _ _ (at-if1 .if1 .left))) (need-off s t kinds.hasWord _ (c .before .if2 .left) (c .turned-away .ensures)))
+    turned-done (turned-as (kind-off s t kinds.dot _ _ (at-if1 .if1 .left)) (need-off s t kinds.hasWord _ (c .before .if2 .left) (c .turned-away .ensures)))
 
 pub read-rooted-spec : {M : Type 1} → statement M
 read-rooted-spec =

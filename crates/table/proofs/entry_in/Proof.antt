@@ -1,7 +1,6 @@
 -- `table::entry_in` meets its contract: the bytes read are those of `entryAt`. Assumes nothing.
 use borrow.Author.Needs.{needs}
 use borrow.Author.Tests.{le-leb}
-use native.Mathlib.Omega.{arith}
 use Rattle.table.specs.Layout.{entryAt}
 use Rattle.table.proofs.entry_in.Statement.{statement}
 use Rattle.table.proofs.entry_in.Tie as tie

@@ -18,7 +18,6 @@ returns c =
     let bytes : (i : ℕ) → getD (start .args .table .now) i 0 < 256 = λ i. omega (arith, at-shared-slice-known .shared-slice-known .given i) in
     rw (c .before .number-of2 .ensures, at-number-of .number-of .ensures) (is-by-fields _ _ _ (le-leb _ _ (at-if1 .if1 .taken)) bytes)
 
--- src
 returns-2 : tie.Need-returns-2
 unfolding entryIs
 returns-2 c = rw (lt-leb _ _ (c .if1 .left))

@@ -8,18 +8,6 @@ use Rattle.table.specs.Layout.{putAt, entryBytes}
 use Rattle.table.proofs.put_entry.Statement.{statement}
 use Rattle.table.proofs.put_entry.Tie as tie
 
-slice-write-table-2 : tie.Need-slice-write-table-2
-slice-write-table-2 c = simp length-set (omega arith)
-
-slice-write-table-3 : tie.Need-slice-write-table-3
-slice-write-table-3 c = simp length-set (omega arith)
-
-slice-write-table-4 : tie.Need-slice-write-table-4
-slice-write-table-4 c = simp length-set (omega arith)
-
-slice-write-table-5 : tie.Need-slice-write-table-5
-slice-write-table-5 c = simp length-set (omega arith)
-
 returns : tie.Need-returns
 unfolding putAt entryBytes
 returns c =
@@ -39,16 +27,16 @@ put-entry-spec =
     (λ c. search needs)
     (λ c. search needs)
     (λ c. search needs)
-    slice-write-table-2
+    (λ c. simp length-set (omega arith))
     (λ c. search needs)
     (λ c. search needs)
-    slice-write-table-3
+    (λ c. simp length-set (omega arith))
     (λ c. search needs)
     (λ c. search needs)
-    slice-write-table-4
+    (λ c. simp length-set (omega arith))
     (λ c. search needs)
     (λ c. search needs)
-    slice-write-table-5
+    (λ c. simp length-set (omega arith))
     (λ c. search needs)
     returns
     returns-2)

@@ -9,7 +9,7 @@ use Rattle.reading.specs.Lexemes.{stream}
 use Rattle.grammar.specs.Parser.{read-list}
 use Rattle.table.specs.Entries.{literalEntry}
 use Rattle.parts.specs.Names.{sortOf}
-use Rattle.parts.proofs.Literals.{Listing, listing-none, few, listing-off, listing-full, listing-ends, listing-on}
+use Rattle.parts.proofs.Literals.{Listing, listing-none, free-past, listing-off, listing-full, listing-ends, listing-on}
 use Rattle.parts.proofs.Sorts.{sort-some, sort-of, literal-of}
 use Rattle.parts.proofs.Standing.{lowered}
 use Rattle.parts.proofs.Writing.{turned-done}
@@ -41,7 +41,7 @@ returns c =
     turned-done (listing-off _ (at-loop .loop .inv) (sym (sort-of _ _ _) ∙ sym (c .before .before .is-sort .ensures) ∙ not-true _ (c .before .if1 .taken)) (c .turned-away .ensures))
 
 sub-if2 : tie.Need-sub-if2 Inv-loop μ-loop
-sub-if2 c = few _ (c .before .before .loop .inv)
+sub-if2 c = free-past _ (c .before .before .loop .inv)
 
 turned-away-requires-2 : tie.Need-turned-away-requires-2 Inv-loop μ-loop
 turned-away-requires-2 c κs =

@@ -13,8 +13,8 @@ use Rattle.table.specs.Entries.{literalEntry, operandEntry}
 use Rattle.table.specs.declared.Entry.{Entry}
 use Rattle.parts.specs.Names.{rootFrom}
 use Rattle.parts.proofs.Roots.{root-of}
-use Rattle.parts.proofs.Simple.{attribute-is}
 use Rattle.parts.proofs.Sorts.{literal-some, root-some, literal-of}
+use Rattle.parts.proofs.Ways.{attribute-is}
 use Rattle.parts.proofs.Standing.{number-small, past, ready-past, turned-as, turned}
 use Rattle.parts.proofs.Writing.{done-as, one-done, turned-done, mapped-done}
 use Rattle.parts.proofs.operands.read_operand.Statement.{statement}

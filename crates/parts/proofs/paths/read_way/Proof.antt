@@ -1,18 +1,17 @@
 -- `parts::paths::read_way` meets its contract: the invariant `Walking` says what the name that must stand next makes of the path; each turn takes a name and a dot. Assumes nothing.
-use mathlib.Core.Path.{_≡_, _∙_, sym, ap}
-use Prim.Native.Nat.{ℕ, _-_}
+use mathlib.Core.Path.{_≡_, _∙_, sym}
+use Prim.Native.Nat.{_-_}
 use native.Mathlib.Omega.{arith}
 use lib.ListN.{length}
 use borrow.Author.Needs.{needs}
 use borrow.Author.Tests.{not-true, not-false}
 use Rattle.reading.specs.Lexemes.{stream}
 use Rattle.grammar.specs.Parser.{read-way}
-use Rattle.parts.specs.Answers.{turnedAway, found, lost}
+use Rattle.parts.specs.Answers.{found, lost}
 use Rattle.parts.specs.Names.{rootFrom, exitOf}
 use Rattle.parts.proofs.Roots.{no-name-of}
 use Rattle.parts.proofs.Standing.{lowered}
-use Rattle.parts.proofs.Ways.{Walking, walking-first, walking-lost, walking-ends, walking-calls, walking-on}
-use Rattle.parts.proofs.Ways.{fits-is}
+use Rattle.parts.proofs.Ways.{Walking, walking-first, walking-lost, walking-ends, walking-calls, walking-on, fits-is}
 use Rattle.parts.proofs.paths.read_way.Statement.{statement}
 use Rattle.parts.proofs.paths.read_way.Tie as tie
 
@@ -39,8 +38,7 @@ returns : tie.Need-returns Inv-loop μ-loop
 returns c =
     let at-is-admitted = c .before .before .before .before in
     let at-loop = at-is-admitted .before in
-    let start = at-loop .before .before in
-    lost (walking-lost _ _ (at-loop .loop .inv) (fits-is _ _ _ _ (at-is-admitted .is-admitted .ensures) ∙ not-true _ (c .before .before .if1 .taken)) (c .turned-away .ensures ∙ ap (λ (n : ℕ). turnedAway (length (start .args .text .now)) n (at-loop .loop .name)) (c .before .no-name .ensures ∙ no-name-of _ _ _)))
+    lost (walking-lost _ _ (at-loop .loop .inv) (fits-is _ _ _ _ (at-is-admitted .is-admitted .ensures) ∙ not-true _ (c .before .before .if1 .taken)) (c .before .no-name .ensures ∙ no-name-of _ _ _) (c .turned-away .ensures))
 
 next-token-requires : tie.Need-next-token-requires Inv-loop μ-loop
 next-token-requires c κs =

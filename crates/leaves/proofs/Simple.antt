@@ -1,41 +1,22 @@
--- Conditions that hold no other, by the token that stands next. Assumes nothing.
+-- What follows a left operand, by the token that stands next. Assumes nothing.
 use mathlib.Core.Path.{_≡_, refl, sym, ap}
 use mathlib.Core.Bool.{Bool, true, false, cond}
-use mathlib.Core.List.{List, [], _∷_, _++_}
-use Prim.Native.Nat.{ℕ, _+_, _-_, _≤_, _<_}
+use mathlib.Core.List.{List, [], _∷_}
+use Prim.Native.Nat.{ℕ, _≤_, _<_}
 use native.Mathlib.Omega.{arith}
-use lib.ListN.{length, length-map}
 use borrow.Author.Tests.{eq-eqb, ne-eqb}
 use Rattle.tokens.specs.Kinds as kinds
 use Rattle.tokens.specs.declared.reader.Token.{Token}
-use Rattle.reading.specs.Lexemes.{Lexeme, lexeme, is, choose}
-use Rattle.reading.specs.Reader as reader
-use Rattle.reading.specs.Reader.{took, refuse, refuseBy, ten, bind, on, need}
-use Rattle.grammar.specs.Policies.{Span, Root, Comparator, Literal, text, number, truth, Operand, attribute, literal, Which, constant}
+use Rattle.reading.specs.Lexemes.{Lexeme, lexeme}
+use Rattle.reading.specs.Reader.{took, refuseBy, ten}
+use Rattle.grammar.specs.Policies.{Span, Root, Comparator, text, number, truth, Operand, attribute, literal, Which, constant}
 use Rattle.grammar.specs.Rules.{isComparator, comparatorOf, isPattern, inside}
-use Rattle.grammar.specs.Parser.{Way, plain, calling, spannedBy, bare, noPattern, isLike, read-path, read-attribute, read-bare, read-operator, read-call, read-rest}
+use Rattle.grammar.specs.Parser.{Way, plain, calling, spannedBy, bare, noPattern, isLike, read-bare, read-operator, read-call, read-rest}
 use Rattle.table.specs.declared.Entry.{Entry}
-use Rattle.table.specs.Entries.{entry, comparatorKind, whichKind, literalEntry, literalEntries, operandEntry, treeEntries}
+use Rattle.table.specs.Entries.{comparatorKind, whichKind, literalEntry, operandEntry, treeEntries}
 use Rattle.parts.specs.Names.{ofKind, comparing}
 use Rattle.parts.specs.Answers.{callAfter}
-
--- ---- attributes
-
-bind-took : {A B : Type 0} (p : reader.Answer A) (f : A → B) → bind p (λ a. took (f a)) ≡ bind (bind p took) (λ a. took (f a))
-unfolding bind
-bind-took (took a r) f = refl
-bind-took (refuse n r) f = refl
-
--- an attribute is its place, with its root
-pub attribute-is : {A : Type 0} (root : Root) (f : Root → Span → A) (i : List Lexeme) → read-attribute root f i ≡ bind (read-attribute root (λ root s. s) i) (λ s. took (f root s))
-unfolding read-attribute need on choose refuseBy bind
-attribute-is root f [] = refl
-attribute-is root f (x ∷ i) = go (is kinds.dot x)
-  where
-    go : (b : Bool) → choose b (λ _. bind (read-path root i) (λ s. took (f root s))) (λ _. refuseBy ten (x ∷ i))
-        ≡ bind (choose b (λ _. bind (read-path root i) (λ s. took s)) (λ _. refuseBy ten (x ∷ i))) (λ s. took (f root s))
-    go true = bind-took (read-path root i) (f root)
-    go false = refl
+use Rattle.parts.proofs.Roots.{root-small}
 
 -- ---- comparators
 
@@ -100,10 +81,7 @@ module _ {left : Entry} where
 
   pub bare-other : (a : Operand) → operandEntry a ≡ left → 4 < left .kind → left .kind ≤ 10 → read-bare a ≡ refuseBy ten
   unfolding read-bare operandEntry literalEntry
-  bare-other (attribute Root.Principal p) e l h = absurd (let k = ap (λ (x : Entry). x .kind) e in omega arith)
-  bare-other (attribute Root.Resource p) e l h = absurd (let k = ap (λ (x : Entry). x .kind) e in omega arith)
-  bare-other (attribute Root.Env p) e l h = absurd (let k = ap (λ (x : Entry). x .kind) e in omega arith)
-  bare-other (attribute Root.Action p) e l h = absurd (let k = ap (λ (x : Entry). x .kind) e in omega arith)
+  bare-other (attribute root p) e l h = absurd (let k = ap (λ (x : Entry). x .kind) e in let n = root-small _ root refl in omega arith)
   bare-other (literal (text s)) e l h = refl
   bare-other (literal (number s)) e l h = refl
   bare-other (literal (truth true)) e l h = absurd (let k = ap (λ (x : Entry). x .kind) e in omega arith)
@@ -117,10 +95,7 @@ pub record Alone (left : Entry) (a : Operand) : Type 0 where
 
 pub bare-truth : {left : Entry} (a : Operand) → operandEntry a ≡ left → 10 < left .kind → Alone left a
 unfolding read-bare operandEntry literalEntry treeEntries
-bare-truth (attribute Root.Principal p) e h = absurd (let k = ap (λ (x : Entry). x .kind) e in omega arith)
-bare-truth (attribute Root.Resource p) e h = absurd (let k = ap (λ (x : Entry). x .kind) e in omega arith)
-bare-truth (attribute Root.Env p) e h = absurd (let k = ap (λ (x : Entry). x .kind) e in omega arith)
-bare-truth (attribute Root.Action p) e h = absurd (let k = ap (λ (x : Entry). x .kind) e in omega arith)
+bare-truth (attribute root p) e h = absurd (let k = ap (λ (x : Entry). x .kind) e in let n = root-small _ root refl in omega arith)
 bare-truth (literal (text s)) e h = absurd (let k = ap (λ (x : Entry). x .kind) e in omega arith)
 bare-truth (literal (number s)) e h = absurd (let k = ap (λ (x : Entry). x .kind) e in omega arith)
 bare-truth (literal (truth true)) e h = record { value = true; reads = refl; entries = λ n. ap (λ (x : Entry). x ∷ []) e }
@@ -146,12 +121,3 @@ pub rest-call : (root : Root) (way : Way) {s : Span} {kind : ℕ} → spannedBy 
 unfolding spannedBy callAfter read-rest
 rest-call root (plain p) e h n = absurd (n (sym h))
 rest-call root (calling p w) e h n = record { which = w; kind-is = h; reads = ap (read-call w root) e }
-
--- ---- lists
-
--- after the entries `a` and those of the literals comes an entry that counts them
-pub list-count : (a : List Entry) (ls : List Literal) (kind first n : ℕ) → n ≡ first + length (literalEntries ls) → (a ++ literalEntries ls) ++ entry kind (length ls) 0 ∷ [] ≡ (a ++ literalEntries ls) ++ entry kind (n - first) 0 ∷ []
-list-count a ls kind first n e =
-    let l = length-map ls literalEntry in
-    let k : length ls ≡ n - first = omega arith in
-    rw k
