@@ -3,20 +3,13 @@ use Prim.Native.Nat.{ℕ}
 use mathlib.Core.Bool.{true, false}
 use mathlib.Core.List.{List, [], _∷_, _++_}
 use mathlib.Core.Path.{_≡_, refl}
-use lib.Ieee.{ofBits}
 use lib.ListN.{length}
 use Prim.Native.String.{String}
 use Rattle.slices.specs.Ascii.{bytes}
-use Rattle.slices.specs.Order.{before}
-use Rattle.slices.specs.Same.{same}
-use Rattle.tokens.specs.Bytes.{classOf}
-use Rattle.tokens.specs.Words.{reserved, kindAmong}
-use Rattle.numbers.specs.Bits.{numberAt}
-use Rattle.slices.specs.Parts.{part}
-use Rattle.bags.specs.Reading.{many, each}
-use Rattle.bags.specs.Paths.{every, isName, pieces, isPath}
-use Rattle.bags.specs.Values.{stringEnd, numberEnd, flagEnd, listEnd, valueEnd}
-use Rattle.bags.specs.Sections.{entryEnd, ascends, ascending, entriesEnd, sectionEnd, sectionsOf, isBag}
+use Rattle.bags.specs.Reading.{each}
+use Rattle.bags.specs.Paths.{isPath}
+use Rattle.bags.specs.Sections.{isBag}
+use Rattle.bags.proofs.Opened.{bags-opened}
 
 pub paths :
     (isPath (bytes "grade") ≡ true)
@@ -31,7 +24,7 @@ pub paths :
     × (isPath (bytes "a123456789b123456789c123456789d123456789e123456789f123456789.123") ≡ false)
     × (isPath (bytes "a123456789b123456789c123456789d123456789e123456789f123456789.abc") ≡ true)
     × (isPath (bytes "a123456789b123456789c123456789d123456789e123456789f123456789.abcd") ≡ false)
-unfolding isPath pieces every isName classOf reserved kindAmong same
+unfolding bags-opened
 paths = (refl, refl, refl, refl, refl, refl, refl, refl, refl, refl, refl, refl)
 
 -- a bag with one entry of the section principal
@@ -69,6 +62,6 @@ pub bags :
     × (isBag (two "a_" "aa") ≡ true)
     × (isBag (two "b" "a") ≡ false)
     × (isBag (two "a" "a") ≡ false)
-unfolding isBag sectionsOf sectionEnd entriesEnd ascending ascends entryEnd valueEnd stringEnd numberEnd flagEnd listEnd numberAt ofBits many each part isPath pieces every isName classOf reserved kindAmong same before
+unfolding bags-opened
 bags =
     (refl, refl, refl, refl, refl, refl, refl, refl, refl, refl, refl, refl, refl, refl, refl, refl, refl, refl, refl, refl, refl, refl, refl, refl, refl, refl)

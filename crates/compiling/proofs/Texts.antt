@@ -99,7 +99,7 @@ module _ {text seen T₀ T : List ℕ} {total : reader.Answer (List Policy)} {t 
 
   module _ (n : Token) (e : not (isEffect (lexeme text t) && ltb policies mostPolicies) ≡ false) (q : n ≡ tokenAt text (t .end)) where
     next-policy : total ≡ bind (bind (bind (read-policy (is kinds.permitWord (lexeme text t)) (stream text n)) (λ p. took (b .value ++ p ∷ []))) onAndOn) atEnd
-    unfolding bind read-next-policy mapped
+    unfolding read-next-policy mapped
     next-policy =
         b .rest ∙ ap (λ (p : reader.Answer (List Policy)). bind p atEnd)
         (policies-step (b .value) (stream text t) ∙ next-on text t (begins (b .value)) _ _ n (effect-some e) (b .lies .high) q (begins-is true (un-not-false (isEffect (lexeme text t) && ltb policies mostPolicies) e)))

@@ -98,7 +98,7 @@ module _ {text seen : List ℕ} {from first : ℕ} {same : Bool} {inner : Reader
 
       -- the word follows, and the next part after it
       pub turn : (word ≡ 0 → ⊥) → t .kind ≡ word → Choosing text seen from first same inner total T₀ T₁ (t .end) free n o (wordAfter word)
-      unfolding awaited remaining lastFirst entriesOf wordAfter read-conditional before mapped bind
+      unfolding awaited remaining lastFirst entriesOf wordAfter before bind
       turn some m = go (g .parts) (g .word-is) (g .rest) (g .kept)
         where
           go : (parts : Parts) → word ≡ awaited parts → total ≡ remaining inner parts (stream text (tokenAt text at)) → Kept seen T₀ first same (entriesOf first parts) free ok T

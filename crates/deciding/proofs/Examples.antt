@@ -4,31 +4,10 @@ use mathlib.Core.List.{List, [], _∷_}
 use Prim.Native.Nat.{ℕ}
 use Prim.Native.String.{String}
 use Rattle.slices.specs.Ascii.{bytes}
-use Rattle.compiling.specs.Outcome.{said, compiledBytes, beginsBy, beginsOf}
-use Rattle.grammar.specs.Parser.{noName, bare, noType, noLevel, noPattern, tooMany, noPolicy, fits, read-first-name, goesOn, read-next-name, read-way, spannedBy, read-path, read-attribute, read-operand, isElement, read-element, read-list, read-bare, read-in, isLike, read-pattern, read-operator, read-call, read-rest, read-rooted, read-simple, read-joined, read-conjunction, read-disjunction, read-negated, read-bracketed, read-conditional, read-deeper, read-condition, read-conditions, read-type, read-principal, read-action, read-resource, read-when, read-policy, begins, read-next-policy, atEnd, read-text}
-use Rattle.grammar.specs.Rules.{rootOf, literalOf, comparatorOf, whichOf, principalTypes, resourceTypes, typeAmong, admitted, wildcards, plain, isPattern}
-use Rattle.meaning.specs.Conditions.{told, given, givenBoth, settled, negated, bothOf, eitherOf, choiceOf, some, all, verdict}
-use Rattle.meaning.specs.Decisions.{targetMatches, conditionHolds, satisfied, firstOf, byNumbers, policiesDecide, decisionOf, outcomeOf, policyOf}
-use Rattle.meaning.specs.Targets.{kindOf, idOf, isTyped, isAction, partMatches, isString, actionMatches}
-use Rattle.meaning.specs.Values.{withAction, literalValue, attributeValue, operandValue, compares}
-use Rattle.numbers.specs.Literals.{digitsOf, afterPoint, magnitudeIn, numberIn}
-use Rattle.patterns.specs.Likes.{stands, steps, runs, likes}
-use Rattle.reading.specs.Lexemes.{choose, following, tokensUpTo, tokensFrom}
-use Rattle.reading.specs.Reader.{numbered, refuseBy, bind, on, need, before, mapped, upTo, onwards, chain}
-use Rattle.slices.specs.Same.{same}
-use Rattle.table.specs.Entries.{treeEntries, literalEntry, operandEntry, partEntry, actionEntries, conditionEntries, effectKind, targetEntries, policyEntries, policiesEntries}
-use Rattle.table.specs.Layout.{entryBytes, bytesOf, startsWith}
-use Rattle.tokens.specs.Blanks.{unblanked}
-use Rattle.tokens.specs.Bytes.{classOf}
-use Rattle.tokens.specs.Runs.{run}
-use Rattle.tokens.specs.Tokens.{sized, wordAt, stringAt, numberAt, markOf, markAt, tokenAt}
-use Rattle.tokens.specs.Words.{reserved, kindAmong}
-use Rattle.bags.specs.Reading.{many, each}
-use Rattle.bags.specs.Sections.{sectionEnd, entriesEnd, ascending, sectionsOf, isBag}
-use Rattle.lookups.specs.Lookups.{lookIn, sectionAt, baseOf}
-use Rattle.views.specs.Values.{baseBag}
+use Rattle.compiling.specs.Outcome.{compiledBytes}
 use Rattle.targets.specs.Matching.{request}
-use Rattle.deciding.specs.Answers.{policiesIn, policiesOf, viewIn, answerOf, Said, saidOf}
+use Rattle.deciding.specs.Answers.{policiesOf, answerOf, Said, saidOf}
+use Rattle.deciding.proofs.Opened.{deciding-opened}
 
 -- the bag that holds nothing
 abbrev empty : List ℕ
@@ -61,5 +40,5 @@ pub record Computed : Type 0 where
       × (asks "person:K7" empty "no text" ≡ answered 20 0 0)
 
 pub computed : Computed
-unfolding classOf run same reserved kindAmong sized wordAt stringAt numberAt markOf markAt tokenAt choose following tokensUpTo tokensFrom numbered refuseBy bind on need before mapped upTo onwards chain rootOf literalOf comparatorOf whichOf principalTypes resourceTypes typeAmong admitted wildcards plain isPattern noName bare noType noLevel noPattern tooMany noPolicy fits read-first-name goesOn read-next-name read-way spannedBy read-path read-attribute read-operand isElement read-element read-list read-bare read-in isLike read-pattern read-operator read-call read-rest read-rooted read-simple read-joined read-conjunction read-disjunction read-negated read-bracketed read-conditional read-deeper read-condition read-conditions read-type read-principal read-action read-resource read-when read-policy begins read-next-policy atEnd read-text unblanked literalValue attributeValue operandValue compares withAction told given givenBoth settled negated bothOf eitherOf choiceOf some all verdict stands steps runs likes kindOf idOf isTyped isAction partMatches isString actionMatches targetMatches conditionHolds satisfied firstOf byNumbers policiesDecide decisionOf outcomeOf policyOf numberIn magnitudeIn digitsOf afterPoint treeEntries literalEntry operandEntry partEntry actionEntries conditionEntries effectKind targetEntries policyEntries policiesEntries said entryBytes bytesOf startsWith compiledBytes beginsBy beginsOf answerOf saidOf policiesIn viewIn sectionsOf sectionEnd entriesEnd ascending isBag baseBag lookIn baseOf sectionAt many each
+unfolding deciding-opened
 computed = record { case-g = refl; case-h = refl; case-i = (refl, refl); case-l = refl; in-order = (refl, refl, refl, refl) }

@@ -3,4 +3,5 @@ pub mod Counting
 pub mod HeldLaws
 pub mod Answering
 pub mod Promised
+pub mod Opened
 pub mod Examples

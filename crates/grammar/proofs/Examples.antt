@@ -6,20 +6,15 @@ use Prim.Native.Nat.{ℕ, zero, suc}
 use Prim.Native.String.{String}
 use lib.ListN.{length}
 use Rattle.slices.specs.Ascii.{bytes}
-use Rattle.slices.specs.Same.{same}
 use Rattle.tokens.specs.Kinds as kinds
-use Rattle.tokens.specs.Bytes.{classOf}
-use Rattle.tokens.specs.Runs.{run}
-use Rattle.tokens.specs.Words.{reserved, kindAmong}
-use Rattle.tokens.specs.Tokens.{sized, wordAt, stringAt, numberAt, markOf, markAt, tokenAt}
-use Rattle.tokens.specs.Places.{place, past, pastAll, placeOf}
+use Rattle.tokens.specs.Places.{place, placeOf}
 use Rattle.tokens.specs.declared.places.Place.{Place}
-use Rattle.reading.specs.Lexemes.{Lexeme, choose, following, tokensUpTo, tokensFrom, tokensOf}
-use Rattle.reading.specs.Reader.{Answer, took, refuse, numbered, refuseBy, bind, on, need, before, mapped, upTo, onwards, chain}
+use Rattle.reading.specs.Lexemes.{Lexeme, tokensOf}
+use Rattle.reading.specs.Reader.{Answer, took, refuse}
 use Rattle.grammar.proofs.Begun.{made}
 use Rattle.grammar.specs.Policies.{Policy, constant, both, choice}
-use Rattle.grammar.specs.Rules.{rootOf, literalOf, comparatorOf, whichOf, principalTypes, resourceTypes, typeAmong, admitted, wildcards, plain, isPattern}
-use Rattle.grammar.specs.Parser.{noName, bare, noType, noLevel, noPattern, tooMany, noPolicy, fits, read-first-name, goesOn, read-next-name, read-way, spannedBy, read-path, read-attribute, read-operand, isElement, read-element, read-list, read-bare, read-in, isLike, read-pattern, read-operator, read-call, read-rest, read-rooted, read-simple, read-joined, read-conjunction, read-disjunction, read-negated, read-bracketed, read-conditional, read-deeper, read-condition, read-conditions, read-type, read-principal, read-action, read-resource, read-when, read-policy, begins, read-next-policy, atEnd, read-text}
+use Rattle.grammar.specs.Parser.{bare, read-conditions, read-text}
+use Rattle.grammar.proofs.Opened.{grammar-opened}
 
 -- the number of policies, or the refusal's number, line and column
 pub data Seen : Type 0 where
@@ -136,7 +131,7 @@ pub record Computed : Type 0 where
       (seen [] (read-text (times 64 plainest)) ≡ policies 64) × (read-text (times 65 plainest) ≡ refuse 15 plainest)
 
 pub computed : Computed
-unfolding classOf run same reserved kindAmong sized wordAt stringAt numberAt markOf markAt tokenAt past pastAll choose following tokensUpTo tokensFrom numbered refuseBy bind on need before mapped upTo onwards chain rootOf literalOf comparatorOf whichOf principalTypes resourceTypes typeAmong admitted wildcards plain isPattern noName bare noType noLevel noPattern tooMany noPolicy fits read-first-name goesOn read-next-name read-way spannedBy read-path read-attribute read-operand isElement read-element read-list read-bare read-in isLike read-pattern read-operator read-call read-rest read-rooted read-simple read-joined read-conjunction read-disjunction read-negated read-bracketed read-conditional read-deeper read-condition read-conditions read-type read-principal read-action read-resource read-when read-policy begins read-next-policy atEnd read-text
+unfolding grammar-opened
 computed = record {
   cases = (refl, refl, refl, refl, refl, refl);
   case-h = refl;

@@ -12,4 +12,5 @@ pub mod Telling
 pub mod Spots
 pub mod Numbered
 pub mod Rows
+pub mod Opened
 pub mod Examples

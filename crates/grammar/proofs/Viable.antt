@@ -414,7 +414,7 @@ module _ (extra : ℕ) where
   }
 
   viable-action : Viable extra read-action ActionRest
-  unfolding read-action mapped
+  unfolding read-action
   viable-action = record {
     at = λ i.
         goes-on _ _ _ _ _ i

@@ -4,20 +4,11 @@ use mathlib.Core.List.{List, [], _∷_, _++_}
 use mathlib.Core.Path.{_≡_, refl}
 use lib.Ieee.{binary64, ofBits}
 use Rattle.slices.specs.Ascii.{bytes}
-use Rattle.slices.specs.Order.{before}
-use Rattle.slices.specs.Same.{same}
-use Rattle.tokens.specs.Bytes.{classOf}
-use Rattle.tokens.specs.Words.{reserved, kindAmong}
-use Rattle.numbers.specs.Bits.{numberAt}
-use Rattle.slices.specs.Parts.{part}
-use Rattle.bags.specs.Reading.{many, each}
-use Rattle.bags.specs.Paths.{every, isName, pieces, isPath}
-use Rattle.bags.specs.Values.{stringEnd, numberEnd, flagEnd, listEnd, valueEnd}
-use Rattle.bags.specs.Sections.{entryEnd, ascends, ascending, entriesEnd, sectionEnd, sectionsOf, isBag}
-use Rattle.lookups.specs.Values.{absent, numberOf, valueAt}
-use Rattle.lookups.specs.Lookups.{lookIn, sectionAt, baseOf, bagOf, lookupOf, said, startOf, lengthOf}
+use Rattle.lookups.specs.Values.{absent}
+use Rattle.lookups.specs.Lookups.{lookupOf, said, startOf, lengthOf}
 use Rattle.lookups.specs.declared.Answer.{Answer}
 use Rattle.lookups.specs.declared.Answer.the-variants.{Refused, Found}
+use Rattle.lookups.proofs.Opened.{lookups-opened}
 
 -- principal.grade is -0, resource.name is "A1", env.on is true
 abbrev bag : List ℕ
@@ -39,5 +30,5 @@ pub lookups :
     × (startOf (lookupOf bag 3 (bytes "on")) ≡ 0)
     × (lookupOf (0 ∷ 0 ∷ []) 9 (bytes "a") ≡ Refused 24)
     × (said (lookupOf (0 ∷ 0 ∷ []) 9 (bytes "a")) ≡ record { refusal = 24; kind = 0; number = ofBits binary64 0; place = 0 })
-unfolding lookupOf bagOf baseOf sectionAt lookIn valueAt numberOf startOf lengthOf isBag sectionsOf sectionEnd entriesEnd ascending ascends entryEnd valueEnd stringEnd numberEnd flagEnd listEnd numberAt ofBits many each part isPath pieces every isName classOf reserved kindAmong same before
+unfolding lookups-opened
 lookups = (refl, refl, refl, refl, refl, refl, refl, refl, refl, refl, refl, refl)

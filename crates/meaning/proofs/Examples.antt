@@ -7,27 +7,20 @@ use Prim.Native.String.{String}
 use lib.Dec.{eqb}
 use Rattle.slices.specs.Ascii.{bytes}
 use Rattle.slices.specs.Same.{same}
-use Rattle.tokens.specs.Bytes.{classOf}
-use Rattle.tokens.specs.Runs.{run}
-use Rattle.tokens.specs.Words.{reserved, kindAmong}
-use Rattle.tokens.specs.Tokens.{sized, wordAt, stringAt, numberAt, markOf, markAt, tokenAt}
-use Rattle.numbers.specs.Literals.{digitsOf, afterPoint, magnitudeIn, numberIn}
-use Rattle.patterns.specs.Likes.{stands, steps, runs, likes}
-use Rattle.reading.specs.Lexemes.{choose, following, tokensUpTo, tokensFrom, tokensOf}
-use Rattle.reading.specs.Reader.{Answer, took, refuse, numbered, refuseBy, bind, on, need, before, mapped, upTo, onwards, chain}
+use Rattle.patterns.specs.Likes.{stands}
+use Rattle.reading.specs.Lexemes.{tokensOf}
+use Rattle.reading.specs.Reader.{Answer, took, refuse, before}
 use Rattle.grammar.specs.Policies.{Tree, Policy}
-use Rattle.grammar.specs.Rules.{rootOf, literalOf, comparatorOf, whichOf, principalTypes, resourceTypes, typeAmong, admitted, wildcards, plain, isPattern}
-use Rattle.grammar.specs.Parser.{noName, bare, noType, noLevel, noPattern, tooMany, noPolicy, fits, read-first-name, goesOn, read-next-name, read-way, spannedBy, read-path, read-attribute, read-operand, isElement, read-element, read-list, read-bare, read-in, isLike, read-pattern, read-operator, read-call, read-rest, read-rooted, read-simple, read-joined, read-conjunction, read-disjunction, read-negated, read-bracketed, read-conditional, read-deeper, read-condition, read-conditions, read-type, read-principal, read-action, read-resource, read-when, read-policy, begins, read-next-policy, atEnd, read-text}
-use Rattle.tokens.specs.Blanks.{unblanked}
+use Rattle.grammar.specs.Parser.{read-conditions, read-text}
 use Rattle.views.specs.Meaning.{text, flag, texts, absent, View}
-use Rattle.meaning.specs.Values.{withAction, literalValue, attributeValue, operandValue, compares}
-use Rattle.meaning.specs.Conditions.{told, given, givenBoth, settled, negated, bothOf, eitherOf, choiceOf, some, all, verdict}
-use Rattle.meaning.specs.Targets.{Request, kindOf, idOf, isTyped, isAction, partMatches, isString, actionMatches}
-use Rattle.meaning.specs.Decisions.{targetMatches, conditionHolds, satisfied, firstOf, byNumbers, policiesDecide, decisionOf, outcomeOf, policyOf}
+use Rattle.meaning.specs.Conditions.{all, verdict}
+use Rattle.meaning.specs.Targets.{Request}
+use Rattle.meaning.specs.Decisions.{decisionOf, outcomeOf, policyOf}
 use Rattle.meaning.specs.declared.Verdict.{Verdict}
 use Rattle.meaning.specs.declared.Verdict.the-variants.{Yes, No, Missing}
 use Rattle.meaning.specs.declared.Decision.{Decision}
 use Rattle.meaning.specs.declared.Decision.the-variants.{Allowed, Forbidden, Nothing}
+use Rattle.meaning.proofs.Opened.{meaning-opened}
 
 -- no attributes at all; and principal.a, principal.b and principal.l alone
 abbrev pub nothing : View
@@ -86,7 +79,7 @@ pub record Computed : Type 0 where
       × (gets "permit(principal,action,resource)when{action.name==\"teach\"};" ≡ Allowed 1)
 
 pub computed : Computed
-unfolding classOf run same reserved kindAmong sized wordAt stringAt numberAt markOf markAt tokenAt choose following tokensUpTo tokensFrom numbered refuseBy bind on need before mapped upTo onwards chain rootOf literalOf comparatorOf whichOf principalTypes resourceTypes typeAmong admitted wildcards plain isPattern noName bare noType noLevel noPattern tooMany noPolicy fits read-first-name goesOn read-next-name read-way spannedBy read-path read-attribute read-operand isElement read-element read-list read-bare read-in isLike read-pattern read-operator read-call read-rest read-rooted read-simple read-joined read-conjunction read-disjunction read-negated read-bracketed read-conditional read-deeper read-condition read-conditions read-type read-principal read-action read-resource read-when read-policy begins read-next-policy atEnd read-text unblanked literalValue attributeValue operandValue compares withAction told given givenBoth settled negated bothOf eitherOf choiceOf some all verdict stands steps runs likes kindOf idOf isTyped isAction partMatches isString actionMatches targetMatches conditionHolds satisfied firstOf byNumbers policiesDecide decisionOf outcomeOf policyOf numberIn magnitudeIn digitsOf afterPoint
+unfolding meaning-opened
 computed = record {
   case-g = refl;
   case-h = refl;

@@ -3,3 +3,4 @@ pub mod NumberTokens
 pub mod Reading
 pub mod Rounded
 pub mod Spelled
+pub mod Opened

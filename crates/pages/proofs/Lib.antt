@@ -4,3 +4,4 @@ pub mod Stepping
 pub mod Progress
 pub mod Listed
 pub mod SixColumns
+pub mod Opened

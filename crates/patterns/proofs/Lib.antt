@@ -1,3 +1,4 @@
 pub mod Laws
 pub mod Computed
 pub mod Cases
+pub mod Opened

@@ -5,18 +5,14 @@ use mathlib.Core.List.{List, [], _∷_}
 use mathlib.Core.Option.{some}
 use Prim.Native.Nat.{ℕ}
 use Rattle.slices.specs.Ascii.{bytes}
-use Rattle.slices.specs.Same.{same}
 use Rattle.tokens.specs.Bytes.{classOf}
-use Rattle.tokens.specs.Runs.{run}
-use Rattle.tokens.specs.Words.{reserved, kindAmong}
-use Rattle.tokens.specs.Tokens.{sized, wordAt, stringAt, numberAt, markOf, markAt, tokenAt}
-use Rattle.reading.specs.Lexemes.{choose, following, tokensUpTo, tokensFrom, tokensOf}
-use Rattle.reading.specs.Reader.{took, numbered, refuseBy, bind, on, need, before, mapped, upTo, onwards, chain}
+use Rattle.reading.specs.Lexemes.{tokensOf}
+use Rattle.reading.specs.Reader.{took}
 use Rattle.grammar.specs.Policies.{span, Root.Principal, Comparator.AtLeast, text, number, attribute, literal, Tree, compare, has, not, brackets, both, typed, oneOf, Policy}
-use Rattle.grammar.specs.Rules.{rootOf, literalOf, comparatorOf, whichOf, principalTypes, resourceTypes, typeAmong, admitted, wildcards, plain, isPattern}
-use Rattle.grammar.specs.Parser.{noName, bare, noType, noLevel, noPattern, tooMany, noPolicy, fits, read-first-name, goesOn, read-next-name, read-way, spannedBy, read-path, read-attribute, read-operand, isElement, read-element, read-list, read-bare, read-in, isLike, read-pattern, read-operator, read-call, read-rest, read-rooted, read-simple, read-joined, read-conjunction, read-disjunction, read-negated, read-bracketed, read-conditional, read-deeper, read-condition, read-conditions, read-type, read-principal, read-action, read-resource, read-when, read-policy, begins, read-next-policy, atEnd, read-text}
+use Rattle.grammar.specs.Parser.{read-text}
 use Rattle.tokens.specs.Blanks.{unblanked}
 use Rattle.placing.specs.Placed.{bytesAt, quotedAt, pathAt, depth}
+use Rattle.grammar.proofs.Opened.{grammar-opened}
 
 -- the worked example of docs/TABLE.md
 abbrev rule : List ℕ
@@ -29,7 +25,7 @@ abbrev policy : Policy
 policy = record { permits = true; principal = typed 1; action = oneOf (text (span 39 46) ∷ []); resource = typed 2; condition = some condition }
 
 pub rule-read : read-text (tokensOf rule) ≡ took (policy ∷ []) []
-unfolding classOf run same reserved kindAmong sized wordAt stringAt numberAt markOf markAt tokenAt choose following tokensUpTo tokensFrom numbered refuseBy bind on need before mapped upTo onwards chain rootOf literalOf comparatorOf whichOf principalTypes resourceTypes typeAmong admitted wildcards plain isPattern noName bare noType noLevel noPattern tooMany noPolicy fits read-first-name goesOn read-next-name read-way spannedBy read-path read-attribute read-operand isElement read-element read-list read-bare read-in isLike read-pattern read-operator read-call read-rest read-rooted read-simple read-joined read-conjunction read-disjunction read-negated read-bracketed read-conditional read-deeper read-condition read-conditions read-type read-principal read-action read-resource read-when read-policy begins read-next-policy atEnd read-text
+unfolding grammar-opened
 rule-read = refl
 
 pub rule-spans :

@@ -4,22 +4,11 @@ use Prim.Native.String.{String}
 use mathlib.Core.Bool.{true, false}
 use mathlib.Core.List.{List, [], _∷_, _++_}
 use mathlib.Core.Path.{_≡_, refl}
-use lib.Ieee.{ofBits}
 use lib.ListN.{length}
 use Rattle.slices.specs.Ascii.{bytes}
-use Rattle.slices.specs.Order.{before}
-use Rattle.slices.specs.Same.{same}
-use Rattle.tokens.specs.Bytes.{classOf}
-use Rattle.tokens.specs.Words.{reserved, kindAmong}
-use Rattle.numbers.specs.Bits.{numberAt}
-use Rattle.slices.specs.Parts.{part}
-use Rattle.bags.specs.Reading.{many, each}
-use Rattle.bags.specs.Paths.{every, isName, pieces, isPath}
-use Rattle.bags.specs.Values.{stringEnd, numberEnd, flagEnd, listEnd, valueEnd}
-use Rattle.bags.specs.Sections.{entryEnd, ascends, ascending, entriesEnd, sectionEnd, sectionsOf, isBag}
-use Rattle.questions.specs.Distinct.{among, distinct}
-use Rattle.questions.specs.Columns.{candidateEnd, nameOf, candidatesEnd, headOk, columnEnd, columnsEnd}
-use Rattle.questions.specs.Questions.{fourthEnd, isQuestion, headOf, choiceOf, cell, rowsOf}
+use Rattle.bags.specs.Sections.{isBag}
+use Rattle.questions.specs.Questions.{isQuestion, headOf, cell, rowsOf}
+use Rattle.questions.proofs.Opened.{questions-opened}
 
 -- a question with an empty base
 abbrev asked : ℕ → List ℕ → List ℕ
@@ -52,7 +41,7 @@ pub questions :
     × (isQuestion (asked 2 (column 1 "hired" hired ++ column 2 "hired" hired)) ≡ true)
     × (isQuestion (asked 2 (column 1 "hired" hired ++ column 1 "hired" (1 ∷ 0 ∷ []))) ≡ false)
     × (isQuestion (asked 7 []) ≡ false)
-unfolding isQuestion fourthEnd columnsEnd columnEnd candidatesEnd headOk candidateEnd nameOf distinct among isBag sectionsOf sectionEnd entriesEnd ascending ascends entryEnd valueEnd stringEnd numberEnd flagEnd listEnd numberAt ofBits many each part isPath pieces every isName classOf reserved kindAmong same before
+unfolding questions-opened
 questions = (refl, refl, refl, refl, refl, refl, refl, refl, refl, refl, refl, refl)
 
 -- the places of `both` by column and choice, and its rows
@@ -67,5 +56,5 @@ pub places :
     × (cell both 4 2 2 0 ≡ 0)
     × (rowsOf 2 both 4 ≡ 6)
     × (rowsOf 0 both 4 ≡ 1)
-unfolding cell choiceOf rowsOf columnEnd candidatesEnd headOk candidateEnd nameOf distinct among valueEnd stringEnd numberEnd flagEnd listEnd numberAt ofBits many each part isPath pieces every isName classOf reserved kindAmong same
+unfolding questions-opened
 places = (refl, refl, refl, refl, refl, refl, refl, refl, refl, refl)

@@ -1,4 +1,5 @@
 pub mod DifferLaws
 pub mod ColumnLaws
 pub mod PlaceLaws
+pub mod Opened
 pub mod Examples

@@ -2,3 +2,4 @@ pub mod Readers
 pub mod Complete
 pub mod Local
 pub mod Stream
+pub mod Opened

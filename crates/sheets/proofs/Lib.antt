@@ -1,3 +1,4 @@
 pub mod RowLaws
 pub mod Cases
 pub mod Promised
+pub mod Opened

@@ -1,13 +1,10 @@
 -- Tokens of short texts, as document 01 has them: antt computes each. Assumes nothing.
 use mathlib.Core.Path.{_≡_, refl}
 use Rattle.slices.specs.Ascii.{bytes}
-use Rattle.slices.specs.Same.{same}
-use Rattle.tokens.specs.Bytes.{classOf}
 use Rattle.tokens.specs.Kinds as kinds
-use Rattle.tokens.specs.Runs.{run}
-use Rattle.tokens.specs.Words.{reserved, kindAmong}
-use Rattle.tokens.specs.Tokens.{token, sized, wordAt, stringAt, numberAt, markOf, markAt, tokenAt}
+use Rattle.tokens.specs.Tokens.{token, tokenAt}
 use Rattle.tokens.specs.Places.{place, past, pastAll, placeOf}
+use Rattle.tokens.proofs.Opened.{tokens-opened}
 
 pub tokens :
     (tokenAt (bytes "permit(principal") 0 ≡ token kinds.permitWord 0 6)
@@ -26,7 +23,7 @@ pub tokens :
     × (tokenAt (bytes "1234567890.123456") 0 ≡ token kinds.tooLong 0 17)
     × (tokenAt (bytes "1234567890.12345") 0 ≡ token kinds.number 0 16)
     × (tokenAt (bytes "  ") 0 ≡ token kinds.endOfText 2 2)
-unfolding classOf run same reserved kindAmong sized wordAt stringAt numberAt markOf markAt tokenAt
+unfolding tokens-opened
 tokens = (refl, refl, refl, refl, refl, refl, refl, refl, refl, refl, refl, refl, refl, refl, refl, refl)
 
 pub places : (placeOf (bytes "ab\n\nc") 0 ≡ place 1 1) × (placeOf (bytes "ab\n\nc") 2 ≡ place 1 3) × (placeOf (bytes "ab\n\nc") 4 ≡ place 3 1) × (placeOf (bytes "ab\n\nc") 5 ≡ place 3 2)

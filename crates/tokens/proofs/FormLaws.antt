@@ -171,7 +171,7 @@ unfolding every kindOf marks classOf
 mark-kind {kind} {l} m = eqb-true kind (kindOf l) (mark-passes (λ kind l. eqb kind (kindOf l)) m refl)
 
 pub mark-small : {kind : ℕ} {l : List ℕ} → Among marks kind l → sizeOf kind l ≤ mostOf kind
-unfolding every marks digits classOf
+unfolding every marks
 mark-small {kind} {l} m = leb-true (sizeOf kind l) (mostOf kind) (mark-passes (λ kind l. leb (sizeOf kind l) (mostOf kind)) m refl)
 
 one-at-least : (t : Bool) → 1 ≤ cond t 2 1
@@ -221,7 +221,7 @@ covers (a-number n) q = number-covers n q
 covers (a-mark {l} m) q = mark-covers l (all-marked m) q
 
 unsigned-kind : {l : List ℕ} → Unsigned l → 48 ≡ kindOf l
-unfolding kindOf classOf
+unfolding kindOf
 unsigned-kind (whole (digits-from {b} e a)) = rw (eqb-true (classOf b) digit e)
 unsigned-kind (pointed (digits-from {b} e a) t) = rw (eqb-true (classOf b) digit e)
 

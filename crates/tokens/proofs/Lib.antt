@@ -8,6 +8,7 @@ pub mod PlaceLaws
 pub mod ReadLaws
 pub mod KindLaws
 pub mod FormLaws
+pub mod Opened
 pub mod Examples
 pub mod ShiftLaws
 pub mod KeepLaws

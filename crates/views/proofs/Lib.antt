@@ -2,4 +2,5 @@ pub mod RowBag
 pub mod ReadLaws
 pub mod ViewLaws
 pub mod RowLaws
+pub mod Opened
 pub mod Examples

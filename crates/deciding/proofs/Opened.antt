@@ -1,0 +1,9 @@
+-- One word for proofs that compute: who unfolds it sees through what decide answers. Assumes nothing.
+use Rattle.compiling.proofs.Opened.{compiling-opened}
+use Rattle.meaning.proofs.Opened.{meaning-opened}
+use Rattle.views.proofs.Opened.{views-opened}
+use Rattle.deciding.specs.Answers.{answerOf, saidOf, policiesIn, viewIn}
+
+unfoldable pub deciding-opened : Unit {0}
+unfolding compiling-opened meaning-opened views-opened answerOf saidOf policiesIn viewIn
+deciding-opened = tt

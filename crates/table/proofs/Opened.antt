@@ -1,0 +1,7 @@
+-- One word for proofs that compute: who unfolds it sees through the entries of policies and their bytes. Assumes nothing.
+use Rattle.table.specs.Entries.{treeEntries, literalEntry, operandEntry, partEntry, actionEntries, conditionEntries, effectKind, targetEntries, policyEntries, policiesEntries}
+use Rattle.table.specs.Layout.{entryBytes, bytesOf, startsWith, entryAt}
+
+unfoldable pub table-opened : Unit {0}
+unfolding treeEntries literalEntry operandEntry partEntry actionEntries conditionEntries effectKind targetEntries policyEntries policiesEntries entryBytes bytesOf startsWith entryAt
+table-opened = tt
