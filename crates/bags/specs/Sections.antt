@@ -27,11 +27,12 @@ kindAt s at = at + 1 + byte s at
 unfoldable pub entryEnd : List ℕ → ℕ → After
 entryEnd s at = only (ltb (kindAt s at) (length s) && isPath (pathAt s at)) (valueEnd (byte s (kindAt s at)) s (kindAt s at + 1))
 
--- each path stands before the next; `ascends p` is for those after p
+-- the paths that follow p: each stands after the one before it, the first after p
 unfoldable pub ascends : List ℕ → List (List ℕ) → Bool
 ascends p [] = true
 ascends p (q ∷ qs) = before p q && ascends q qs
 
+-- each path stands before the next
 unfoldable pub ascending : List (List ℕ) → Bool
 ascending [] = true
 ascending (p ∷ ps) = ascends p ps
@@ -54,11 +55,12 @@ entriesEnd n s at = only (ascending (pathsOf n s at)) (many n (entryEnd s) at)
 unfoldable pub sectionEnd : List ℕ → ℕ → After
 sectionEnd s at = only (ltb at (length s) && leb (byte s at) 32) (entriesEnd (byte s at) s (at + 1))
 
--- the sections principal, resource and env from the first byte on: where the second and the third start, and where that one ends
+-- go on where a section ended
 abbrev pub afterwards : After → (ℕ → Divided) → Divided
 afterwards (At e) next = next e
 afterwards Bad next = Broken
 
+-- the sections principal, resource and env from the first byte on: where the second and the third start, and where that one ends
 unfoldable pub sectionsOf : List ℕ → Divided
 sectionsOf s =
     afterwards (sectionEnd s 0) λ resource.
@@ -71,6 +73,7 @@ pub record Sectioned (s : List ℕ) (p : Sections) : Type 0 where
   pub resource : sectionEnd s (p .resource) ≡ At (p .env)
   pub env : sectionEnd s (p .env) ≡ At (p .end)
 
+-- whether the sections end at a place
 abbrev pub fill : Divided → ℕ → Bool
 fill (In p) n = eqb (p .end) n
 fill Broken n = false
