@@ -60,12 +60,17 @@ abbrev pub afterwards : After → (ℕ → Divided) → Divided
 afterwards (At e) next = next e
 afterwards Bad next = Broken
 
+-- the sections, where the second and the third start at these places
+abbrev pub fromEnv : List ℕ → ℕ → ℕ → Divided
+fromEnv s resource env = afterwards (sectionEnd s env) λ end. In (record { resource = resource; env = env; end = end })
+
+-- the sections, where the second starts at this place
+abbrev pub fromResource : List ℕ → ℕ → Divided
+fromResource s resource = afterwards (sectionEnd s resource) λ env. fromEnv s resource env
+
 -- the sections principal, resource and env from the first byte on: where the second and the third start, and where that one ends
 unfoldable pub sectionsOf : List ℕ → Divided
-sectionsOf s =
-    afterwards (sectionEnd s 0) λ resource.
-    afterwards (sectionEnd s resource) λ env.
-    afterwards (sectionEnd s env) λ end. In (record { resource = resource; env = env; end = end })
+sectionsOf s = afterwards (sectionEnd s 0) λ resource. fromResource s resource
 
 -- what that says of each section
 pub record Sectioned (s : List ℕ) (p : Sections) : Type 0 where
