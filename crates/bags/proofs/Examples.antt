@@ -1,9 +1,9 @@
 -- Worked examples: bags, and bytes that are none, each for one rule. Assumes nothing.
-use Prim.Native.Nat.{ℕ}
+use Prim.Native.Nat.{ℕ, zero, suc}
 use mathlib.Core.Bool.{true, false}
 use mathlib.Core.List.{List, [], _∷_, _++_}
 use mathlib.Core.Path.{_≡_, refl}
-use lib.ListN.{length}
+use lib.ListN.{length, replicate}
 use Prim.Native.String.{String}
 use Rattle.slices.specs.Ascii.{bytes}
 use Rattle.bags.specs.Reading.{each}
@@ -39,7 +39,6 @@ pub bags :
     (isBag (0 ∷ 0 ∷ 0 ∷ []) ≡ true)
     × (isBag (0 ∷ 0 ∷ []) ≡ false)
     × (isBag (0 ∷ 0 ∷ 0 ∷ 0 ∷ []) ≡ false)
-    × (isBag (33 ∷ 0 ∷ 0 ∷ []) ≡ false)
     × (isBag (one "grade" (2 ∷ 0 ∷ 0 ∷ 0 ∷ 0 ∷ 0 ∷ 0 ∷ 8 ∷ 64 ∷ [])) ≡ true)
     × (isBag (one "grade" (2 ∷ 0 ∷ 0 ∷ 0 ∷ 0 ∷ 0 ∷ 0 ∷ 240 ∷ 127 ∷ [])) ≡ false)
     × (isBag (one "grade" (2 ∷ 1 ∷ 0 ∷ 0 ∷ 0 ∷ 0 ∷ 0 ∷ 240 ∷ 255 ∷ [])) ≡ false)
@@ -51,7 +50,6 @@ pub bags :
     × (isBag (one "hired" (1 ∷ 0 ∷ [])) ≡ true)
     × (isBag (one "hired" (1 ∷ 6 ∷ bytes "own")) ≡ false)
     × (isBag (one "tags" (4 ∷ 2 ∷ 1 ∷ 120 ∷ 0 ∷ [])) ≡ true)
-    × (isBag (one "tags" (4 ∷ 17 ∷ 1 ∷ 120 ∷ 0 ∷ [])) ≡ false)
     × (isBag (one "" (3 ∷ 1 ∷ [])) ≡ false)
     × (isBag (one "if" (3 ∷ 1 ∷ [])) ≡ false)
     × (isBag (two "a" "a-b") ≡ true)
@@ -63,5 +61,32 @@ pub bags :
     × (isBag (two "b" "a") ≡ false)
     × (isBag (two "a" "a") ≡ false)
 unfolding bags-opened
-bags =
-    (refl, refl, refl, refl, refl, refl, refl, refl, refl, refl, refl, refl, refl, refl, refl, refl, refl, refl, refl, refl, refl, refl, refl, refl, refl, refl)
+bags = (refl, refl, refl, refl, refl, refl, refl, refl, refl, refl, refl, refl, refl, refl, refl, refl, refl, refl, refl, refl, refl, refl, refl, refl)
+
+-- n flags, whose paths are k times a, once more each time
+abbrev many-flags : ℕ → ℕ → List ℕ
+many-flags zero k = 0 ∷ 0 ∷ []
+many-flags (suc n) k = k ∷ (replicate k 97 ++ (3 ∷ 0 ∷ many-flags n (suc k)))
+
+-- n strings of 127 bytes
+abbrev many-strings : ℕ → List ℕ
+many-strings zero = []
+many-strings (suc n) = 127 ∷ (replicate 127 120 ++ many-strings n)
+
+-- two lists of 16 strings, all of 127 bytes but the last
+abbrev full : ℕ → List ℕ
+full n = 2 ∷ 1 ∷ 97 ∷ 4 ∷ 16 ∷ (many-strings 16 ++ (2 ∷ 97 ∷ 97 ∷ 4 ∷ 16 ∷ (many-strings 15 ++ (n ∷ (replicate n 120 ++ (0 ∷ 0 ∷ []))))))
+
+-- a string, a list, a section and a bag at their limits, and one above
+pub limits :
+    (isBag (one "a" (1 ∷ 127 ∷ replicate 127 120)) ≡ true)
+    × (isBag (one "a" (1 ∷ 128 ∷ replicate 128 120)) ≡ false)
+    × (isBag (one "a" (4 ∷ 16 ∷ replicate 16 0)) ≡ true)
+    × (isBag (one "a" (4 ∷ 17 ∷ replicate 17 0)) ≡ false)
+    × (isBag (32 ∷ many-flags 32 1) ≡ true)
+    × (isBag (33 ∷ many-flags 33 1) ≡ false)
+    × (length (full 115) ≡ 4096)
+    × (isBag (full 115) ≡ true)
+    × (isBag (full 116) ≡ false)
+unfolding bags-opened
+limits = (refl, refl, refl, refl, refl, refl, refl, refl, refl)

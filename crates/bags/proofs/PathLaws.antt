@@ -121,22 +121,19 @@ piece-spoilt (b ∷ rest) h d = go (is WordBytes b) refl (piece-spoilt rest) h d
 
 -- ---- whether the pieces are names, by the first run of word bytes
 
--- what is left to ask of a run of word bytes
-abbrev pub starts : List ℕ → Bool
-starts w = is Letters (getD w 0 0) && eqb (wordKind w) name
+-- a run of word bytes is a name if it begins with a letter and is not reserved
+pub name-run : (w : List ℕ) → every (is WordBytes) w ≡ true → (is Letters (getD w 0 0) && eqb (wordKind w) name) ≡ isName w
+unfolding isName
+name-run w h = simp (h, and-true (is Letters (getD w 0 0)))
 
-pub starts-none : (w : List ℕ) → length w ≡ 0 → false ≡ starts w
-unfolding classOf
-starts-none [] h = refl
-starts-none (b ∷ rest) h = absurd (omega arith)
+pub no-name : (w : List ℕ) → length w ≡ 0 → false ≡ isName w
+unfolding isName every classOf
+no-name [] h = refl
+no-name (b ∷ rest) h = absurd (omega arith)
 
 module _ (l : List ℕ) where
   word : List ℕ
   word = take (run WordBytes l) l
-
-  named : (r : Bool) → starts word ≡ r → isName word ≡ r
-  unfolding isName word
-  named r h = rw (run-words l, and-true (is Letters (getD word 0 0))) h
 
   lone : run WordBytes l ≡ length l → pieces l ≡ word ∷ []
   unfolding word
@@ -148,37 +145,40 @@ module _ (l : List ℕ) where
       let s = piece-spoilt l h d in
       rw (s .are, s .bad, and-false (is Letters (getD (s .first) 0 0)))
 
-  nameless : run WordBytes l ≤ length l → starts word ≡ false → every isName (pieces l) ≡ false
+  nameless : run WordBytes l ≤ length l → isName word ≡ false → every isName (pieces l) ≡ false
   unfolding every word
   nameless m h =
       ⊎-elim
-      (λ (e : run WordBytes l ≡ length l). rw (lone e) (simp (named false h)))
+      (λ (e : run WordBytes l ≡ length l). rw (lone e) (simp h))
       (λ (i : run WordBytes l < length l). go i (eqb (getD l (run WordBytes l) 0) 46) refl)
       (eq-or-lt-of-le m)
     where
       go : run WordBytes l < length l → (t : Bool) → eqb (getD l (run WordBytes l) 0) 46 ≡ t → every isName (pieces l) ≡ false
-      go i true e = rw (piece-dot l i (eqb-true _ 46 e)) (simp (named false h))
+      go i true e = rw (piece-dot l i (eqb-true _ 46 e)) (simp h)
       go i false e = spoilt i (eqb-false _ 46 e)
 
-  lone-name : run WordBytes l ≡ length l → starts word ≡ true → every isName (pieces l) ≡ true
+  lone-name : run WordBytes l ≡ length l → isName word ≡ true → every isName (pieces l) ≡ true
   unfolding every
-  lone-name e h = rw (lone e) (simp (named true h))
+  lone-name e h = rw (lone e) (simp h)
 
-  name-and-dot : run WordBytes l < length l → getD l (run WordBytes l) 0 ≡ 46 → starts word ≡ true
+  name-and-dot : run WordBytes l < length l → getD l (run WordBytes l) 0 ≡ 46 → isName word ≡ true
       → every isName (pieces l) ≡ every isName (pieces (drop (suc (run WordBytes l)) l))
   unfolding every word
-  name-and-dot i d h = rw (piece-dot l i d) (simp (named true h))
+  name-and-dot i d h = rw (piece-dot l i d) (simp h)
 
 -- the same, by places of a path
 module _ (path : List ℕ) (at end : ℕ) (is-end : end ≡ runEnd WordBytes path at) (high : end ≤ length path) where
   size : end - at ≡ run WordBytes (drop at path)
   size = omega arith
 
-  pub not-a-name : starts (take (end - at) (drop at path)) ≡ false → every isName (pieces (drop at path)) ≡ false
+  pub word-bytes-run : every (is WordBytes) (take (end - at) (drop at path)) ≡ true
+  word-bytes-run = rw size (run-words (drop at path))
+
+  pub not-a-name : isName (take (end - at) (drop at path)) ≡ false → every isName (pieces (drop at path)) ≡ false
   unfolding word
   not-a-name h = nameless (drop at path) (omega (arith, length-drop at path)) (rw size at h)
 
-  pub last-name : starts (take (end - at) (drop at path)) ≡ true → end ≡ length path → every isName (pieces (drop at path)) ≡ true
+  pub last-name : isName (take (end - at) (drop at path)) ≡ true → end ≡ length path → every isName (pieces (drop at path)) ≡ true
   unfolding word
   last-name h e = lone-name (drop at path) (omega (arith, length-drop at path)) (rw size at h)
 
@@ -188,7 +188,7 @@ module _ (path : List ℕ) (at end : ℕ) (is-end : end ≡ runEnd WordBytes pat
   pub no-dot : end < length path → (getD path end 0 ≡ 46 → ⊥) → every isName (pieces (drop at path)) ≡ false
   no-dot i d = spoilt (drop at path) (omega (arith, length-drop at path)) (λ e. d (sym byte-at ∙ e))
 
-  pub dot-then : starts (take (end - at) (drop at path)) ≡ true → end < length path → getD path end 0 ≡ 46
+  pub dot-then : isName (take (end - at) (drop at path)) ≡ true → end < length path → getD path end 0 ≡ 46
       → every isName (pieces (drop at path)) ≡ every isName (pieces (drop (end + 1) path))
   unfolding word
   dot-then h i d =

@@ -14,7 +14,7 @@ use Rattle.slices.specs.Parts.{part}
 use Rattle.bags.specs.Reading.{byte, only, many}
 use Rattle.bags.specs.Paths.{isPath}
 use Rattle.bags.specs.Values.{valueEnd}
-use Rattle.bags.specs.Sections.{pathAt, kindAt, entryEnd, ascends, ascending, pathsOf, entriesEnd, sectionEnd, sectionsOf, Sectioned, isBag}
+use Rattle.bags.specs.Sections.{pathAt, kindAt, entryEnd, ascends, ascending, pathsOf, entriesEnd, sectionEnd, afterwards, fromEnv, fromResource, sectionsOf, Sectioned, isBag}
 use Rattle.bags.specs.declared.After.{After}
 use Rattle.bags.specs.declared.After.the-variants.{At, Bad}
 use Rattle.bags.specs.declared.sections.Sections.{Sections}
@@ -139,45 +139,35 @@ section-at s at e h =
     let p = only-at (ascending (pathsOf (byte s at) s (at + 1))) (many (byte s at) (entryEnd s) (at + 1)) e (o .1) in
     record { counted = ltb-true _ _ (t .0); few = leb-true _ _ (t .1); ascend = p .0; entries = p .1 }
 
-module _ (s : List ℕ) where
-  pub first-broken : sectionEnd s 0 ≡ Bad → Broken ≡ sectionsOf s
-  unfolding sectionsOf
-  first-broken h = simp h
+-- a section that is broken breaks all; after one that ends the next follows
+module _ (a : After) (next : ℕ → Divided) where
+  pub broken-there : a ≡ Bad → Broken ≡ afterwards a next
+  broken-there h = rw h
 
-  module _ (a : ℕ) (p : sectionEnd s 0 ≡ At a) where
-    pub second-broken : sectionEnd s a ≡ Bad → Broken ≡ sectionsOf s
-    unfolding sectionsOf
-    second-broken h = simp (p, h)
+  pub goes-on : (e : ℕ) → a ≡ At e → next e ≡ afterwards a next
+  goes-on e h = rw h
 
-    module _ (b : ℕ) (q : sectionEnd s a ≡ At b) where
-      pub third-broken : sectionEnd s b ≡ Bad → Broken ≡ sectionsOf s
-      unfolding sectionsOf
-      third-broken h = simp (p, q, h)
+  record Followed (p : Sections) : Type 0 where
+    stop : ℕ
+    ends : a ≡ At stop
+    rest : next stop ≡ In p
 
-      pub all-whole : (e : ℕ) → sectionEnd s b ≡ At e → In (record { resource = a; env = b; end = e }) ≡ sectionsOf s
-      unfolding sectionsOf
-      all-whole e h = simp (p, q, h)
+  followed : (p : Sections) → afterwards a next ≡ In p → Followed p
+  followed p h = go a refl
+    where
+      go : (x : After) → a ≡ x → Followed p
+      go Bad q = absurd (let z : _≡_ {A = ℕ} 0 1 = cc (broken-there q) in omega arith)
+      go (At e) q = record { stop = e; ends = q; rest = goes-on e q ∙ h }
 
 pub sections-at : (s : List ℕ) (p : Sections) → sectionsOf s ≡ In p → Sectioned s p
-sections-at s p h = first (sectionEnd s 0) refl
-  where
-    clash : {x : Divided} → Broken ≡ x → x ≡ In p → ⊥
-    clash a b = let z : _≡_ {A = ℕ} 0 1 = cc in omega arith
-
-    third : (a b : ℕ) → sectionEnd s 0 ≡ At a → sectionEnd s a ≡ At b → (x : After) → sectionEnd s b ≡ x → Sectioned s p
-    third a b i j Bad k = absurd (clash (third-broken s a i b j k) h)
-    third a b i j (At e) k =
-        let z : In (record { resource = a; env = b; end = e }) ≡ In p = all-whole s a i b j e k ∙ h in
-        let is : record { resource = a; env = b; end = e } ≡ p = cc in
-        rw (← is) (record { principal = i; resource = j; env = k })
-
-    second : (a : ℕ) → sectionEnd s 0 ≡ At a → (x : After) → sectionEnd s a ≡ x → Sectioned s p
-    second a i Bad j = absurd (clash (second-broken s a i j) h)
-    second a i (At b) j = third a b i j (sectionEnd s b) refl
-
-    first : (x : After) → sectionEnd s 0 ≡ x → Sectioned s p
-    first Bad i = absurd (clash (first-broken s i) h)
-    first (At a) i = second a i (sectionEnd s a) refl
+unfolding sectionsOf
+sections-at s p h =
+    let a = followed (sectionEnd s 0) (fromResource s) p h in
+    let b = followed (sectionEnd s (a .stop)) (fromEnv s (a .stop)) p (a .rest) in
+    let c = followed (sectionEnd s (b .stop)) (λ end. In (record { resource = a .stop; env = b .stop; end = end })) p (b .rest) in
+    let w = c .rest in
+    let is : record { resource = a .stop; env = b .stop; end = c .stop } ≡ p = cc in
+    rw (← is) (record { principal = a .ends; resource = b .ends; env = c .ends })
 
 -- ---- sections that are told where a test holds, and Broken where it does not
 

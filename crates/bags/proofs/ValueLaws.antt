@@ -1,9 +1,9 @@
 -- The cases of a value's end, as the code's tests tell them apart, and what a value that ends tells. Assumes nothing.
-use Prim.Native.Nat.{ℕ, _+_, _-_, _<_, _≤_}
+use Prim.Native.Nat.{ℕ, _+_, _<_, _≤_}
 use mathlib.Core.List.{List}
-use mathlib.Core.Bool.{Bool, true, false, _&&_, _||_, and-eq-true-iff}
+use mathlib.Core.Bool.{Bool, true, false, _&&_, and-eq-true-iff}
 use mathlib.Core.Path.{_≡_, refl, _∙_}
-use borrow.Author.Tests.{le-leb, lt-leb, lt-ltb, le-ltb, ne-eqb, ltb-true, ltb-false, leb-true, leb-false, eqb-true, eqb-false}
+use borrow.Author.Tests.{le-leb, lt-leb, lt-ltb, le-ltb, ne-eqb, ltb-true, leb-true, eqb-true, eqb-false}
 use native.Mathlib.Omega.{arith}
 use lib.Dec.{ltb, leb, eqb}
 use lib.Ieee.Scale.{finite}
@@ -21,36 +21,13 @@ module _ (s : List ℕ) (at : ℕ) where
   unfolding stringEnd
   string-cut h = simp (lt-leb _ _ h)
 
-  pub string-bad : at < length s → (leb (length s - at) (byte s at) || ltb 127 (byte s at)) ≡ true → Bad ≡ stringEnd s at
+  pub string-long : at + 1 + byte s at ≤ length s → 127 < byte s at → Bad ≡ stringEnd s at
   unfolding stringEnd
-  string-bad h t = go (leb (length s - at) (byte s at)) refl t
-    where
-      go : (b : Bool) → leb (length s - at) (byte s at) ≡ b → (b || ltb 127 (byte s at)) ≡ true → Bad ≡ stringEnd s at
-      go true e t = let m : length s - at ≤ byte s at = leb-true _ _ e in string-cut (omega arith)
-      go false e t =
-          let m : byte s at < length s - at = leb-false _ _ e in
-          let f : at + 1 + byte s at ≤ length s = omega arith in
-          let l : 127 < byte s at = ltb-true _ _ t in
-          simp (le-leb _ _ f, lt-leb _ _ l)
+  string-long h n = simp (le-leb _ _ h, lt-leb _ _ n)
 
-  pub string-fits : (leb (length s - at) (byte s at) || ltb 127 (byte s at)) ≡ false → at + 1 + byte s at ≤ length s
-  string-fits t = go (leb (length s - at) (byte s at)) refl t
-    where
-      go : (b : Bool) → leb (length s - at) (byte s at) ≡ b → (b || ltb 127 (byte s at)) ≡ false → at + 1 + byte s at ≤ length s
-      go true e t = absurd (let z : _≡_ {A = ℕ} 0 1 = cc in omega arith)
-      go false e t = let m : byte s at < length s - at = leb-false _ _ e in omega arith
-
-  pub string-whole : (leb (length s - at) (byte s at) || ltb 127 (byte s at)) ≡ false → At (at + 1 + byte s at) ≡ stringEnd s at
+  pub string-whole : at + 1 + byte s at ≤ length s → byte s at ≤ 127 → At (at + 1 + byte s at) ≡ stringEnd s at
   unfolding stringEnd
-  string-whole t = go (leb (length s - at) (byte s at)) refl t
-    where
-      go : (b : Bool) → leb (length s - at) (byte s at) ≡ b → (b || ltb 127 (byte s at)) ≡ false → At (at + 1 + byte s at) ≡ stringEnd s at
-      go true e t = absurd (let z : _≡_ {A = ℕ} 0 1 = cc in omega arith)
-      go false e t =
-          let m : byte s at < length s - at = leb-false _ _ e in
-          let f : at + 1 + byte s at ≤ length s = omega arith in
-          let l : byte s at ≤ 127 = ltb-false _ _ t in
-          simp (le-leb _ _ f, le-leb _ _ l)
+  string-whole h n = simp (le-leb _ _ h, le-leb _ _ n)
 
   pub number-cut : length s < at + 8 → Bad ≡ numberEnd s at
   unfolding numberEnd

@@ -23,7 +23,7 @@ abbrev pub endsAt : After → ℕ → Bool
 endsAt (At e) n = eqb e n
 endsAt Bad n = false
 
--- the place where it ended
+-- the place where it ended, and 0 where it is Bad
 abbrev pub place : After → ℕ
 place (At e) = e
 place Bad = 0
@@ -33,6 +33,7 @@ unfoldable pub many : ℕ → (ℕ → After) → ℕ → After
 many zero next at = At at
 many (suc n) next at = next at then many n next
 
+-- what stands from the end of the first thing on; nothing after a Bad one
 abbrev pub following : {A : Type 0} → After → (ℕ → List A) → List A
 following (At e) rest = rest e
 following Bad rest = []

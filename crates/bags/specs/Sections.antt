@@ -27,11 +27,12 @@ kindAt s at = at + 1 + byte s at
 unfoldable pub entryEnd : List ℕ → ℕ → After
 entryEnd s at = only (ltb (kindAt s at) (length s) && isPath (pathAt s at)) (valueEnd (byte s (kindAt s at)) s (kindAt s at + 1))
 
--- each path stands before the next; `ascends p` is for those after p
+-- the paths that follow p: each stands after the one before it, the first after p
 unfoldable pub ascends : List ℕ → List (List ℕ) → Bool
 ascends p [] = true
 ascends p (q ∷ qs) = before p q && ascends q qs
 
+-- each path stands before the next
 unfoldable pub ascending : List (List ℕ) → Bool
 ascending [] = true
 ascending (p ∷ ps) = ascends p ps
@@ -54,16 +55,22 @@ entriesEnd n s at = only (ascending (pathsOf n s at)) (many n (entryEnd s) at)
 unfoldable pub sectionEnd : List ℕ → ℕ → After
 sectionEnd s at = only (ltb at (length s) && leb (byte s at) 32) (entriesEnd (byte s at) s (at + 1))
 
--- the sections principal, resource and env from the first byte on: where the second and the third start, and where that one ends
+-- go on where a section ended
 abbrev pub afterwards : After → (ℕ → Divided) → Divided
 afterwards (At e) next = next e
 afterwards Bad next = Broken
 
+-- the sections, where the second and the third start at these places
+abbrev pub fromEnv : List ℕ → ℕ → ℕ → Divided
+fromEnv s resource env = afterwards (sectionEnd s env) λ end. In (record { resource = resource; env = env; end = end })
+
+-- the sections, where the second starts at this place
+abbrev pub fromResource : List ℕ → ℕ → Divided
+fromResource s resource = afterwards (sectionEnd s resource) λ env. fromEnv s resource env
+
+-- the sections principal, resource and env from the first byte on: where the second and the third start, and where that one ends
 unfoldable pub sectionsOf : List ℕ → Divided
-sectionsOf s =
-    afterwards (sectionEnd s 0) λ resource.
-    afterwards (sectionEnd s resource) λ env.
-    afterwards (sectionEnd s env) λ end. In (record { resource = resource; env = env; end = end })
+sectionsOf s = afterwards (sectionEnd s 0) λ resource. fromResource s resource
 
 -- what that says of each section
 pub record Sectioned (s : List ℕ) (p : Sections) : Type 0 where
@@ -71,6 +78,7 @@ pub record Sectioned (s : List ℕ) (p : Sections) : Type 0 where
   pub resource : sectionEnd s (p .resource) ≡ At (p .env)
   pub env : sectionEnd s (p .env) ≡ At (p .end)
 
+-- whether the sections end at a place
 abbrev pub fill : Divided → ℕ → Bool
 fill (In p) n = eqb (p .end) n
 fill Broken n = false

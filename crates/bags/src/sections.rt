@@ -2,7 +2,7 @@
 ghost use mathlib.Core.Path.{_≡_};
 ghost use mathlib.Core.Bool.{cond};
 ghost use Rattle.tokens.specs.Table.{classTable};
-ghost use Rattle.bags.specs.Sections.{entryEnd, entriesEnd, sectionEnd, sectionsOf, isBag};
+ghost use Rattle.bags.specs.Sections.{entryEnd, entriesEnd, sectionEnd, fromEnv, fromResource, sectionsOf, isBag};
 ghost use Rattle.bags.specs.declared.sections.Divided.the-variants.{Broken};
 use crate::After;
 use crate::paths::is_path;
@@ -85,6 +85,28 @@ pub fn section_end(classes: &[u8; 256], s: &[u8], at: usize) -> After
     entries_end(classes, n, s, at + 1)
 }
 
+// The sections from env on, where the last two start at these places.
+fn from_env(classes: &[u8; 256], s: &[u8], resource: usize, env: usize) -> Divided
+    requires { ⌜ now classes ≡ classTable ⌝ }
+    ensures { λ r. ⌜ r ≡ fromEnv (now (s .entry)) resource env ⌝ }
+{
+    match section_end(classes, s, env) {
+        After::Bad => Divided::Broken,
+        After::At(end) => Divided::In(Sections { resource, env, end }),
+    }
+}
+
+// The sections from resource on, which starts at this place.
+fn from_resource(classes: &[u8; 256], s: &[u8], resource: usize) -> Divided
+    requires { ⌜ now classes ≡ classTable ⌝ }
+    ensures { λ r. ⌜ r ≡ fromResource (now (s .entry)) resource ⌝ }
+{
+    match section_end(classes, s, resource) {
+        After::Bad => Divided::Broken,
+        After::At(env) => from_env(classes, s, resource, env),
+    }
+}
+
 // The three sections that `s` begins with.
 pub fn sections_of(classes: &[u8; 256], s: &[u8]) -> Divided
     requires { ⌜ now classes ≡ classTable ⌝ }
@@ -92,13 +114,7 @@ pub fn sections_of(classes: &[u8; 256], s: &[u8]) -> Divided
 {
     match section_end(classes, s, 0) {
         After::Bad => Divided::Broken,
-        After::At(resource) => match section_end(classes, s, resource) {
-            After::Bad => Divided::Broken,
-            After::At(env) => match section_end(classes, s, env) {
-                After::Bad => Divided::Broken,
-                After::At(end) => Divided::In(Sections { resource, env, end }),
-            },
-        },
+        After::At(resource) => from_resource(classes, s, resource),
     }
 }
 

@@ -1,9 +1,20 @@
-// Values.
+// Values, by their kinds.
 ghost use mathlib.Core.Path.{_≡_};
 ghost use Rattle.bags.specs.Reading.{many};
 ghost use Rattle.bags.specs.Values.{stringEnd, numberEnd, flagEnd, listEnd, valueEnd};
 use crate::After;
 use numbers::bits::is_number_at;
+
+// The kind of an absent attribute: no entry has it, a column's candidate may.
+pub const ABSENT: u8 = 0;
+
+pub const STRING: u8 = 1;
+
+pub const NUMBER: u8 = 2;
+
+pub const FLAG: u8 = 3;
+
+pub const LIST: u8 = 4;
 
 fn string_end(s: &[u8], at: usize) -> After
     ensures { λ r. ⌜ r ≡ stringEnd (now (s .entry)) at ⌝ }
@@ -12,7 +23,10 @@ fn string_end(s: &[u8], at: usize) -> After
         return After::Bad;
     }
     let n = s[at] as usize;
-    if (s.len() - at <= n) | (127 < n) {
+    if s.len() - at <= n {
+        return After::Bad;
+    }
+    if 127 < n {
         return After::Bad;
     }
     After::At(at + 1 + n)
@@ -81,16 +95,16 @@ fn list_end(s: &[u8], at: usize) -> After
 pub fn value_end(kind: u8, s: &[u8], at: usize) -> After
     ensures { λ r. ⌜ r ≡ valueEnd kind (now (s .entry)) at ⌝ }
 {
-    if kind == 1 {
+    if kind == STRING {
         return string_end(s, at);
     }
-    if kind == 2 {
+    if kind == NUMBER {
         return number_end(s, at);
     }
-    if kind == 3 {
+    if kind == FLAG {
         return flag_end(s, at);
     }
-    if kind == 4 {
+    if kind == LIST {
         return list_end(s, at);
     }
     After::Bad

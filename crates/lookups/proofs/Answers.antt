@@ -43,28 +43,25 @@ module _ (s : List ℕ) (root : ℕ) (path : List ℕ) where
     pub found-nowhere : (v : Value) → isPath path ≡ false → v ≡ absent → Found v ≡ lookupOf s root path
     found-nowhere v t e = ap Found (e ∙ sym (impossible-path s path t root)) ∙ found
 
+  -- what is found is what the bag has
+  found-is : (v : Value) → lookupOf s root path ≡ Found v → lookIn absent (bagOf s root) path ≡ v
+  unfolding lookupOf
+  found-is v h = go (isBag s) h
+    where
+      go : (b : Bool) → cond b (Found (lookIn absent (bagOf s root) path)) (Refused 24) ≡ Found v → lookIn absent (bagOf s root) path ≡ v
+      go false q = absurd (let z : _≡_ {A = ℕ} 0 1 = cc in omega arith)
+      go true q = cc
+
   -- a string that is found lies in the bag
   pub string-inside : (v : Value) → lookupOf s root path ≡ Found v → v .kind ≡ 1 → v .place + 1 + byte s (v .place) ≤ length s
-  unfolding lookupOf
-  string-inside v h k = go (isBag s) h
-    where
-      go : (b : Bool) → cond b (Found (lookIn absent (bagOf s root) path)) (Refused 24) ≡ Found v → v .place + 1 + byte s (v .place) ≤ length s
-      go false q = absurd (let z : _≡_ {A = ℕ} 0 1 = cc in omega arith)
-      go true q =
-          let is : lookIn absent (bagOf s root) path ≡ v = cc in
-          let w = bag-whole s path root in
-          let u = rw is at w in
-          let e = u (λ z. omega arith) in
-          as-string (v .kind) s (v .place) (e .0) (e .1) k .fits
+  string-inside v h k =
+      let w = rw (found-is v h) at (bag-whole s path root) in
+      let e = w (λ z. omega arith) in
+      as-string (v .kind) s (v .place) (e .0) (e .1) k .fits
 
   -- a number that is found is finite
   pub found-finite : (v : Value) → lookupOf s root path ≡ Found v → T (finite (v .number))
-  unfolding lookupOf
-  found-finite v h = go (isBag s) h
-    where
-      go : (b : Bool) → cond b (Found (lookIn absent (bagOf s root) path)) (Refused 24) ≡ Found v → T (finite (v .number))
-      go false q = absurd (let z : _≡_ {A = ℕ} 0 1 = cc in omega arith)
-      go true q = let is : lookIn absent (bagOf s root) path ≡ v = cc in rw is at (bag-finite s path root)
+  found-finite v h = rw (found-is v h) at (bag-finite s path root)
 
 -- ---- where a string's bytes lie, and how many they are
 

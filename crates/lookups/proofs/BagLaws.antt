@@ -31,7 +31,7 @@ use Rattle.lookups.specs.Values.{nought, unit, absent, numberOf, valueAt
 use Rattle.lookups.specs.Lookups.{lookIn, entryAt, sectionAt, baseOf, bagOf}
 use Rattle.lookups.specs.declared.values.Value.{Value}
 use Rattle.lookups.proofs.StepLaws.{as-number, told}
-use Rattle.lookups.proofs.FindLaws.{look-done, look-here, look-on, base-1, base-2, base-3, base-none, bag-is-base}
+use Rattle.lookups.proofs.FindLaws.{look-done, look-here, look-on, base-none, base-cases, bag-is-base}
 
 -- ---- a path has no blanks
 
@@ -131,13 +131,9 @@ module _ (s path : List ℕ) (P : Value → Type 0) (none : P absent)
 
   base-has : (p : Sections) (root : ℕ) → Sectioned s p → P (lookIn absent (baseOf s p root) path)
   unfolding lookIn
-  base-has p root w = go (eqb root 1) (eqb root 2) (eqb root 3) refl refl refl
-    where
-      go : (a b c : Bool) → eqb root 1 ≡ a → eqb root 2 ≡ b → eqb root 3 ≡ c → P (lookIn absent (baseOf s p root) path)
-      go true b c i j k = rw (← base-1 s p root (eqb-true root 1 i)) (section-has 0 (p .resource) (w .principal))
-      go false true c i j k = rw (← base-2 s p root (eqb-true root 2 j)) (section-has (p .resource) (p .env) (w .resource))
-      go false false true i j k = rw (← base-3 s p root (eqb-true root 3 k)) (section-has (p .env) (p .end) (w .env))
-      go false false false i j k = rw (← base-none s p root (eqb-false root 1 i) (eqb-false root 2 j) (eqb-false root 3 k)) none
+  base-has p root w =
+      base-cases s p root (λ es. P (lookIn absent es path))
+      (section-has 0 (p .resource) (w .principal)) (section-has (p .resource) (p .env) (w .resource)) (section-has (p .env) (p .end) (w .env)) none
 
   bag-has : (root : ℕ) → P (lookIn absent (bagOf s root) path)
   unfolding bagOf lookIn

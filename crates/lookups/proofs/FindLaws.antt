@@ -1,7 +1,7 @@
 -- Laws of paths with blanks, and of the search for an entry. Assumes nothing.
 use Prim.Native.Nat.{ℕ, zero, suc, _+_, _-_, _<_, _≤_}
 use mathlib.Core.List.{List, [], _∷_}
-use mathlib.Core.Bool.{Bool, true, false, _||_}
+use mathlib.Core.Bool.{Bool, true, false, _||_, cond}
 use mathlib.Core.Path.{_≡_, refl, sym, _∙_, ap}
 use borrow.Author.Tests.{eq-eqb, ne-eqb, eqb-true, eqb-false}
 use native.Mathlib.Numerals.{add-one}
@@ -136,6 +136,17 @@ module _ (s : List ℕ) (p : Sections) (root : ℕ) where
   pub base-none : (root ≡ 1 → ⊥) → (root ≡ 2 → ⊥) → (root ≡ 3 → ⊥) → [] ≡ baseOf s p root
   unfolding baseOf
   base-none a b c = simp (ne-eqb _ _ a, ne-eqb _ _ b, ne-eqb _ _ c)
+
+  -- what the three sections have, and no entries, the section of any root byte has
+  pub base-cases : (P : List (Entry Value) → Type 0) → P (sectionAt s 0) → P (sectionAt s (p .resource)) → P (sectionAt s (p .env)) → P [] → P (baseOf s p root)
+  unfolding baseOf
+  base-cases P principal resource env none = go (eqb root 1) (eqb root 2) (eqb root 3)
+    where
+      go : (a b c : Bool) → P (cond a (sectionAt s 0) (cond b (sectionAt s (p .resource)) (cond c (sectionAt s (p .env)) [])))
+      go true b c = principal
+      go false true c = resource
+      go false false true = env
+      go false false false = none
 
   pub look-base : {es : List (Entry Value)} → es ≡ baseOf s p root → (path : List ℕ) → lookIn absent es path ≡ lookIn absent (baseOf s p root) path
   look-base e path = ap (λ (l : List (Entry Value)). lookIn absent l path) e

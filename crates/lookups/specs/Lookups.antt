@@ -26,10 +26,11 @@ unfoldable pub lookIn : {A : Type 0} → A → List (Entry A) → List ℕ → A
 lookIn none [] path = none
 lookIn none (e ∷ es) path = cond (same (e .path) path) (e .value) (lookIn none es path)
 
--- the entries of the section whose count byte stands at b
+-- the entry from a place to its end: its path, and the value after it
 abbrev pub entryAt : List ℕ → ℕ → ℕ → Entry Value
 entryAt s at e = record { path = pathAt s at; value = valueAt s (kindAt s at) }
 
+-- the entries of the section whose count byte stands at b
 unfoldable pub sectionAt : List ℕ → ℕ → List (Entry Value)
 sectionAt s b = each (byte s b) (entryEnd s) (entryAt s) (b + 1)
 
@@ -38,10 +39,12 @@ unfoldable pub baseOf : List ℕ → Sections → ℕ → List (Entry Value)
 baseOf s p root =
     cond (eqb root 1) (sectionAt s 0) (cond (eqb root 2) (sectionAt s (p .resource)) (cond (eqb root 3) (sectionAt s (p .env)) []))
 
+-- what bytes in three sections have; other bytes have no entry
 abbrev pub divided : Divided → (Sections → List (Entry Value)) → List (Entry Value)
 divided (In p) f = f p
 divided Broken f = []
 
+-- the entries of a root byte, in bytes that begin with three sections
 unfoldable pub bagOf : List ℕ → ℕ → List (Entry Value)
 bagOf s root = divided (sectionsOf s) λ p. baseOf s p root
 
@@ -49,13 +52,14 @@ bagOf s root = divided (sectionsOf s) λ p. baseOf s p root
 unfoldable pub lookupOf : List ℕ → ℕ → List ℕ → Answer
 lookupOf s root path = cond (isBag s) (Found (lookIn absent (bagOf s root) path)) (Refused 24)
 
--- what each answer says: the refusal's number, or 0; the kind, the number and the place
+-- what an answer says in document 01's numbers: the refusal's, or 0; the kind, the number and the place
 pub record Said : Type 0 where
   pub refusal : ℕ
   pub kind : ℕ
   pub number : Float
   pub place : ℕ
 
+-- what each answer says; a refusal has zeros elsewhere
 abbrev pub said : Answer → Said
 said (Refused n) = record { refusal = n; kind = 0; number = nought; place = 0 }
 said (Found v) = record { refusal = 0; kind = v .kind; number = v .number; place = v .place }

@@ -12,6 +12,7 @@ use Rattle.bags.specs.Values.{valueEnd}
 use Rattle.bags.specs.declared.After.the-variants.{At}
 use Rattle.lookups.specs.declared.values.Value.{Value}
 
+-- the numbers 0 and 1
 abbrev pub nought : Float
 nought = ofBits binary64 0
 

@@ -2,12 +2,12 @@
 use Prim.Native.Nat.{ℕ, _-_, _<_, _≤_}
 use mathlib.Core.List.{List}
 use mathlib.Core.Bool.{Bool, true, false}
-use mathlib.Core.Path.{_≡_, refl}
+use mathlib.Core.Path.{_≡_, sym}
 use Rattle.slices.specs.Same.{same}
 use Rattle.bags.specs.Reading.{only, each}
 use Rattle.bags.specs.declared.After.{After}
 use Rattle.bags.specs.declared.After.the-variants.{At, Bad}
-use Rattle.bags.proofs.ReadLaws.{each-done, each-more}
+use Rattle.bags.proofs.ReadLaws.{only-bad, each-done, each-more}
 use Rattle.questions.specs.Distinct.{among, distinct}
 
 module _ (next : ℕ → After) (name : ℕ → ℕ → List ℕ) (n at : ℕ) where
@@ -39,11 +39,7 @@ module _ (next : ℕ → After) (name : ℕ → ℕ → List ℕ) (n at : ℕ) w
 -- things that end, with different names
 module _ (d : Bool) (m : After) where
   pub none-ends : m ≡ Bad → Bad ≡ only d m
-  none-ends h = rw h (bad d)
-    where
-      bad : (b : Bool) → Bad ≡ only b Bad
-      bad true = refl
-      bad false = refl
+  none-ends h = rw h (sym (only-bad d))
 
   pub all-end : (e : ℕ) → m ≡ At e → d ≡ true → At e ≡ only d m
   all-end e h t = simp (h, t)

@@ -1,11 +1,13 @@
 -- Worked examples of questions. Assumes nothing.
-use Prim.Native.Nat.{ℕ}
+use Prim.Native.Nat.{ℕ, zero, suc}
 use Prim.Native.String.{String}
 use mathlib.Core.Bool.{true, false}
 use mathlib.Core.List.{List, [], _∷_, _++_}
 use mathlib.Core.Path.{_≡_, refl}
-use lib.ListN.{length}
+use lib.ListN.{length, replicate}
 use Rattle.slices.specs.Ascii.{bytes}
+use Rattle.slices.specs.Order.{before}
+use Rattle.bags.specs.Reading.{each}
 use Rattle.bags.specs.Sections.{isBag}
 use Rattle.questions.specs.Questions.{isQuestion, headOf, cell, rowsOf}
 use Rattle.questions.proofs.Opened.{questions-opened}
@@ -40,9 +42,27 @@ pub questions :
     × (isQuestion (asked 1 (column 1 "grade" (2 ∷ 0 ∷ 0 ∷ []))) ≡ false)
     × (isQuestion (asked 2 (column 1 "hired" hired ++ column 2 "hired" hired)) ≡ true)
     × (isQuestion (asked 2 (column 1 "hired" hired ++ column 1 "hired" (1 ∷ 0 ∷ []))) ≡ false)
-    × (isQuestion (asked 7 []) ≡ false)
 unfolding questions-opened
-questions = (refl, refl, refl, refl, refl, refl, refl, refl, refl, refl, refl, refl)
+questions = (refl, refl, refl, refl, refl, refl, refl, refl, refl, refl, refl)
+
+-- n columns of one candidate, whose paths are k times a, once more each time
+abbrev many-columns : ℕ → ℕ → List ℕ
+many-columns zero k = []
+many-columns (suc n) k = 1 ∷ k ∷ (replicate k 97 ++ (1 ∷ 0 ∷ many-columns n (suc k)))
+
+-- n strings of one byte, each one higher than the one before it
+abbrev many-strings : ℕ → ℕ → List ℕ
+many-strings zero b = []
+many-strings (suc n) b = 1 ∷ 1 ∷ b ∷ many-strings n (suc b)
+
+-- columns and candidates at their limits, and one above
+pub limits :
+    (isQuestion (asked 6 (many-columns 6 1)) ≡ true)
+    × (isQuestion (asked 7 (many-columns 7 1)) ≡ false)
+    × (isQuestion (asked 1 (column 1 "a" (8 ∷ many-strings 8 0))) ≡ true)
+    × (isQuestion (asked 1 (column 1 "a" (9 ∷ many-strings 9 0))) ≡ false)
+unfolding questions-opened
+limits = (refl, refl, refl, refl)
 
 -- the places of `both` by column and choice, and its rows
 pub places :

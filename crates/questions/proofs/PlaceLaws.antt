@@ -76,9 +76,9 @@ module _ (s : List ℕ) (at : ℕ) where
       → ((i j : ℕ) → i < 6 → j < 8 → getD (getD grid i []) j 0 ≡ cell s at n i j)
       → (i j : ℕ) → i < 6 → j < 8 → getD (getD (set grid n cells) i []) j 0 ≡ cell s at (n + 1) i j
   unfolding cell choiceOf
-  grid-more grid n next cells fits is row-is grid-is i j hi hj =
+  grid-more grid n next cells fits is cells-are grid-is i j hi hj =
       set-cases grid n cells [] fits (λ x. getD x j 0 ≡ cell s at (n + 1) i j) i
-      (λ e. row-is j hj ∙ ap (λ (a : After). choiceOf s (place a) j) (sym is) ∙ ap (λ (i : ℕ). choiceOf s (headOf s at i) j) (sym e) ∙ first-here (λ i. choiceOf s (headOf s at i) j) i n e)
+      (λ e. cells-are j hj ∙ ap (λ (a : After). choiceOf s (place a) j) (sym is) ∙ ap (λ (i : ℕ). choiceOf s (headOf s at i) j) (sym e) ∙ first-here (λ i. choiceOf s (headOf s at i) j) i n e)
       (λ d. grid-is i j hi hj ∙ first-before (λ i. choiceOf s (headOf s at i) j) i n d)
 
 -- ---- rows

@@ -26,12 +26,12 @@ columnPath s at = part s (at + 2) (byte s (at + 1))
 abbrev pub countAt : List ℕ → ℕ → ℕ
 countAt s at = at + 2 + byte s (at + 1)
 
--- a candidate's bytes; a column's root byte, path length and path
+-- what tells an element from the others: a candidate's bytes; a column's root byte, path length and path
 unfoldable pub nameOf : Element → List ℕ → ℕ → ℕ → List ℕ
 nameOf Candidate s at e = part s at (e - at)
 nameOf Column s at e = part s at (2 + byte s (at + 1))
 
--- the candidates of a column
+-- n candidates with different bytes
 unfoldable pub candidatesEnd : ℕ → List ℕ → ℕ → After
 candidatesEnd n s at = only (distinct (each n (candidateEnd s) (nameOf Candidate s) at)) (many n (candidateEnd s) at)
 
@@ -39,7 +39,7 @@ candidatesEnd n s at = only (distinct (each n (candidateEnd s) (nameOf Candidate
 unfoldable pub headOk : ℕ → ℕ → Bool
 headOk root count = leb 1 root && leb root 3 && leb 1 count && leb count 8
 
--- a column: a root byte, a path length, the path, a count byte, and that many candidates with different bytes
+-- a column: a root byte, a path length, the path, a count byte, and that many candidates
 unfoldable pub columnEnd : List ℕ → ℕ → After
 columnEnd s at =
     only (ltb (countAt s at) (length s) && headOk (byte s at) (byte s (countAt s at)) && isPath (columnPath s at))

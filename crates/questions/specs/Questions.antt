@@ -18,6 +18,7 @@ use Rattle.questions.specs.Columns.{candidateEnd, countAt, columnEnd, co
 unfoldable pub fourthEnd : List ℕ → ℕ → After
 fourthEnd s at = only (ltb at (length s) && leb (byte s at) 6) (columnsEnd (byte s at) s (at + 1))
 
+-- whether the columns follow the three sections, with nothing after them
 abbrev pub follows : List ℕ → Divided → Bool
 follows s (In p) = endsAt (fourthEnd s (p .end)) (length s)
 follows s Broken = false
@@ -26,7 +27,7 @@ follows s Broken = false
 unfoldable pub isQuestion : List ℕ → Bool
 isQuestion s = leb (length s) 4096 && follows s (sectionsOf s)
 
--- what a question whose sections are p says
+-- of a question whose sections are p: these are whole, and after their end stand at most 6 columns, which end at `last`
 pub record Question (s : List ℕ) (p : Sections) : Type 0 where
   pub sections : Sectioned s p
   pub counted : p .end < length s
@@ -54,6 +55,7 @@ cell s at n i j = cond (ltb i n) (choiceOf s (headOf s at i) j) 0
 
 -- ---- rows
 
+-- the product of numbers, 1 where there are none
 abbrev pub product : List ℕ → ℕ
 product [] = 1
 product (n ∷ ns) = n * product ns

@@ -8,6 +8,7 @@ use crate::elements::Element;
 use crate::elements::all_differ;
 use bags::After;
 use bags::paths::is_path;
+use bags::values::ABSENT;
 use bags::values::value_end;
 
 fn candidate_end(s: &[u8], at: usize) -> After
@@ -17,7 +18,7 @@ fn candidate_end(s: &[u8], at: usize) -> After
         return After::Bad;
     }
     let kind = s[at];
-    if kind == 0 {
+    if kind == ABSENT {
         return After::At(at + 1);
     }
     value_end(kind, s, at + 1)
@@ -57,6 +58,7 @@ fn candidates_end(n: usize, s: &[u8], at: usize) -> After
     }
 }
 
+// A root byte of 1 to 3, and a count byte of 1 to 8.
 fn head_ok(root: u8, count: u8) -> bool
     ensures { λ r. ⌜ r ≡ headOk root count ⌝ }
 {

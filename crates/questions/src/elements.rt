@@ -5,6 +5,7 @@ ghost use Rattle.bags.specs.Reading.{many, each};
 ghost use Rattle.bags.specs.declared.After.the-variants.{At};
 ghost use Rattle.questions.specs.Distinct.{among, distinct};
 ghost use Rattle.questions.specs.Columns.{candidateEnd, columnEnd, nameOf, endOf, NameEnd};
+use bags::values::ABSENT;
 use lookups::steps::value_next;
 use slices::same;
 
@@ -20,7 +21,7 @@ pub fn candidate_next(s: &[u8], at: usize) -> usize
     ensures { λ r. ⌜ candidateEnd (now (s .entry)) at ≡ At r ⌝ }
 {
     let kind = s[at];
-    if kind == 0 {
+    if kind == ABSENT {
         return at + 1;
     }
     value_next(kind, s, at + 1)

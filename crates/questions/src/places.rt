@@ -1,4 +1,4 @@
-// The places of a question's columns and candidates, as six rows of eight by value, and the number of its rows.
+// The places of a question's columns and candidates, six by eight by value, and the number of its rows.
 ghost use mathlib.Core.Path.{_≡_};
 ghost use mathlib.Core.Bool.{cond};
 ghost use mathlib.Core.List.{[]};
@@ -13,7 +13,7 @@ use crate::elements::candidate_next;
 use crate::elements::column_next;
 
 // The places of the `n` candidates from `at`, and 0 past the last.
-fn row(s: &[u8], at: usize, n: usize) -> [usize; 8]
+fn candidate_places(s: &[u8], at: usize, n: usize) -> [usize; 8]
     requires { ⌜ n ≤ 8 ⌝ }
     requires { ⌜ ((e : ℕ) × (many n (candidateEnd (now s)) at ≡ At e)) ⌝ }
     ensures { λ r. ⌜ ((j : ℕ) → j < 8 → getD r j 0 ≡ cond (ltb j n) (place (many j (candidateEnd (now (s .entry))) at)) 0) ⌝ }
@@ -40,7 +40,7 @@ pub fn places(s: &[u8], at: usize, n: usize) -> [[usize; 8]; 6]
     let mut i = 0;
     while i < n {
         let count_at = next + 2 + s[next + 1] as usize;
-        let cells = row(s, count_at + 1, s[count_at] as usize);
+        let cells = candidate_places(s, count_at + 1, s[count_at] as usize);
         grid[i] = cells;
         next = column_next(s, next);
         i += 1;

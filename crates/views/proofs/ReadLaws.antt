@@ -19,7 +19,7 @@ use Rattle.bags.proofs.SectionLaws.{entry-at, section-at}
 use Rattle.lookups.specs.Values.{nought, unit, absent as absentValue, numberOf, valueAt, Valued}
 use Rattle.lookups.specs.Lookups.{Entry, lookIn, entryAt, sectionAt, baseOf}
 use Rattle.lookups.specs.declared.values.Value.{Value}
-use Rattle.lookups.proofs.FindLaws.{base-1, base-2, base-3, base-none}
+use Rattle.lookups.proofs.FindLaws.{base-cases}
 use Rattle.views.specs.Meaning.{Datum, flag as switch, absent, present, Chosen, columnsFirst}
 use Rattle.views.specs.Values.{datumAt, datumOf, datumIn, meant, baseBag, chosenMeant}
 use Rattle.views.proofs.RowBag.{filled}
@@ -96,10 +96,6 @@ section-filled s b e h = entries-filled (byte s b) s (b + 1) e (section-at s b e
 
 pub base-filled : (s : List ℕ) (p : Sections) (root : ℕ) → Sectioned s p → filled (baseBag s p root) ≡ true
 unfolding baseBag every
-base-filled s p root w = go (eqb root 1) (eqb root 2) (eqb root 3) refl refl refl
-  where
-    go : (a b c : Bool) → eqb root 1 ≡ a → eqb root 2 ≡ b → eqb root 3 ≡ c → filled (map (meant s) (baseOf s p root)) ≡ true
-    go true b c i j k = rw (← base-1 s p root (eqb-true root 1 i)) (section-filled s 0 (p .resource) (w .principal))
-    go false true c i j k = rw (← base-2 s p root (eqb-true root 2 j)) (section-filled s (p .resource) (p .env) (w .resource))
-    go false false true i j k = rw (← base-3 s p root (eqb-true root 3 k)) (section-filled s (p .env) (p .end) (w .env))
-    go false false false i j k = rw (← base-none s p root (eqb-false root 1 i) (eqb-false root 2 j) (eqb-false root 3 k))
+base-filled s p root w =
+    base-cases s p root (λ es. filled (map (meant s) es) ≡ true)
+    (section-filled s 0 (p .resource) (w .principal)) (section-filled s (p .resource) (p .env) (w .resource)) (section-filled s (p .env) (p .end) (w .env)) refl

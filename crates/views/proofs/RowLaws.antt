@@ -12,8 +12,8 @@ use Rattle.bags.specs.Sections.{Sectioned}
 use Rattle.bags.specs.declared.After.the-variants.{At}
 use Rattle.bags.specs.declared.sections.Sections.{Sections}
 use Rattle.bags.proofs.ReadLaws.{nth}
-use Rattle.lookups.specs.Values.{absent as absentValue, valueAt, Valued, Whole}
-use Rattle.lookups.specs.Lookups.{lookIn, baseOf}
+use Rattle.lookups.specs.Values.{valueAt, Valued, Whole}
+use Rattle.lookups.specs.Lookups.{baseOf}
 use Rattle.lookups.specs.declared.values.Value.{Value}
 use Rattle.lookups.proofs.BagLaws.{value-whole, value-finite, base-whole, base-finite}
 use Rattle.questions.specs.Columns.{candidateEnd, countAt, columnEnd}
@@ -111,17 +111,8 @@ has-is-presence s p n at choices root path w =
 
 -- ---- a bag: the row without columns
 
-module _ (s : List ℕ) (p : Sections) (heads values : List ℕ) where
-  pub plain-stands : Sectioned s p → Stands s p 0 heads values
-  plain-stands w = record { sections = w; few = omega arith; named = λ i l. absurd (omega arith); valued = λ i l. absurd (omega arith) }
-
-  pub plain-value : (root : ℕ) (path : List ℕ) → rowValue s p 0 heads values root path ≡ lookIn absentValue (baseOf s p root) path
-  unfolding rowValue chosenOf columnsFirst
-  plain-value root path = refl
-
-  pub plain-shows : (root : ℕ) (path : List ℕ) → rowView s p 0 heads values root path ≡ look (baseBag s p) root path
-  unfolding rowView chosenOf columnsFirst
-  plain-shows root path = refl
+pub plain-stands : (s : List ℕ) (p : Sections) (heads values : List ℕ) → Sectioned s p → Stands s p 0 heads values
+plain-stands s p heads values w = record { sections = w; few = omega arith; named = λ i l. absurd (omega arith); valued = λ i l. absurd (omega arith) }
 
 -- the row without columns has the base for its bag
 pub plain-bag : (s : List ℕ) (p : Sections) (at : ℕ) (choices : List ℕ) → bagOfRow s p 0 at choices ≡ baseBag s p

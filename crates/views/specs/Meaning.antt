@@ -7,7 +7,7 @@ use lib.Ieee.{Float}
 use Rattle.slices.specs.Same.{same}
 use Rattle.lookups.specs.Lookups.{Entry, lookIn}
 
--- what an attribute or a literal is
+-- what an attribute or a literal is: a string, a number, a flag, a list of strings, or absent
 pub data Datum : Type 0 where
   text : List ℕ → Datum
   number : Float → Datum
@@ -15,6 +15,7 @@ pub data Datum : Type 0 where
   texts : List (List ℕ) → Datum
   absent : Datum
 
+-- whether there is a value
 abbrev pub present : Datum → Bool
 present (text b) = true
 present (number x) = true
@@ -30,6 +31,7 @@ View = ℕ → List ℕ → Datum
 abbrev pub Bag : Type 0
 Bag = ℕ → List (Entry Datum)
 
+-- an attribute of a bag: the value of the entry with its path, or absent
 abbrev pub look : Bag → View
 look bag root path = lookIn absent (bag root) path
 
@@ -46,23 +48,27 @@ pub record Chosen (A : Type 0) : Type 0 where
   pub path : List ℕ
   pub value : A
 
+-- the entries with other paths
 unfoldable pub without : List ℕ → List (Entry Datum) → List (Entry Datum)
 without path [] = []
 without path (e ∷ es) = cond (same (e .path) path) (without path es) (e ∷ without path es)
 
--- an absent value removes the entry
+-- the entries, with the value under the path; an absent value removes what stands there
 unfoldable pub setIn : List ℕ → Datum → List (Entry Datum) → List (Entry Datum)
 setIn path v es = cond (present v) (record { path = path; value = v } ∷ without path es) (without path es)
 
+-- the bag with one column's attribute set to its choice, or removed
 unfoldable pub setTo : Chosen Datum → Bag → Bag
 setTo c bag root = cond (eqb (c .root) root) (setIn (c .path) (c .value) (bag root)) (bag root)
 
+-- the same for each column
 unfoldable pub rowBag : Bag → List (Chosen Datum) → Bag
 rowBag base [] = base
 rowBag base (c ∷ cs) = setTo c (rowBag base cs)
 
 -- ---- the same by looking at the columns first
 
+-- what is chosen for the attribute, where a column names it; else what the view has
 unfoldable pub columnsFirst : {A : Type 0} → List (Chosen A) → (ℕ → List ℕ → A) → ℕ → List ℕ → A
 columnsFirst [] view root path = view root path
 columnsFirst (c ∷ cs) view root path = cond (eqb (c .root) root && same (c .path) path) (c .value) (columnsFirst cs view root path)

@@ -20,17 +20,19 @@ chosenAt s c k = record { root = byte s c; path = columnPath s c; value = valueA
 
 -- ---- by the places that code holds: those of n columns, and those of what is chosen for them
 
+-- each column with what is chosen for it
 unfoldable pub chosenOf : ℕ → List ℕ → List ℕ → List ℕ → List (Chosen Value)
 chosenOf n s heads values = listed (λ i. chosenAt s (getD heads i 0) (getD values i 0)) 0 n
 
--- the attribute in the row: its columns, then the base
+-- the attribute in the base
 abbrev pub baseValue : List ℕ → Sections → ℕ → List ℕ → Value
 baseValue s p root path = lookIn absentValue (baseOf s p root) path
 
+-- the attribute in the row: its columns, then the base
 unfoldable pub rowValue : List ℕ → Sections → ℕ → List ℕ → List ℕ → ℕ → List ℕ → Value
 rowValue s p n heads values = columnsFirst (chosenOf n s heads values) (baseValue s p)
 
--- what each attribute of the row is
+-- what each attribute of the row stands for
 unfoldable pub rowView : List ℕ → Sections → ℕ → List ℕ → List ℕ → View
 rowView s p n heads values = columnsFirst (map (chosenMeant s) (chosenOf n s heads values)) (look (baseBag s p))
 
@@ -43,6 +45,7 @@ pub record Stands (s : List ℕ) (p : Sections) (n : ℕ) (heads values : List �
 
 -- ---- by the question's bytes: the row in which column i, of the n columns from a place on, has choice `choices i`
 
+-- each column with its choice
 unfoldable pub columnsOf : ℕ → List ℕ → ℕ → List ℕ → List (Chosen Value)
 columnsOf n s at choices = listed (λ i. chosenAt s (headOf s at i) (choiceOf s (headOf s at i) (getD choices i 0))) 0 n
 

@@ -22,7 +22,7 @@ stringAt s at = part s (at + 1) (byte s at)
 unfoldable pub listAt : List ℕ → ℕ → List (List ℕ)
 listAt s at = each (byte s at) (stringEnd s) (λ at e. stringAt s at) (at + 1)
 
--- what the bytes after a kind byte say
+-- what the kind byte at k and the bytes after it say
 unfoldable pub datumAt : List ℕ → ℕ → Datum
 datumAt s k =
     cond (eqb (byte s k) 1) (text (stringAt s (k + 1)))
@@ -36,7 +36,7 @@ datumOf v x l =
     (cond (eqb (v .kind) 2) (number (v .number))
     (cond (eqb (v .kind) 3) (flag (eq (v .number) unit)) (cond (eqb (v .kind) 4) (texts l) absent)))
 
--- of the bytes s
+-- what a value read from s stands for
 abbrev pub datumIn : List ℕ → Value → Datum
 datumIn s v = datumOf v (stringAt s (v .place)) (listAt s (v .place))
 
@@ -47,11 +47,14 @@ pub record Reads (s : List ℕ) (v : Value) (d : Datum) : Type 0 where
 
 -- ---- the same of entries, of the base, and of what is chosen
 
+-- an entry
 abbrev pub meant : List ℕ → Entry Value → Entry Datum
 meant s e = record { path = e .path; value = datumIn s (e .value) }
 
+-- the three sections as a bag
 unfoldable pub baseBag : List ℕ → Sections → Bag
 baseBag s p root = map (meant s) (baseOf s p root)
 
+-- a column with what is chosen for it
 abbrev pub chosenMeant : List ℕ → Chosen Value → Chosen Datum
 chosenMeant s c = record { root = c .root; path = c .path; value = datumIn s (c .value) }

@@ -1,9 +1,9 @@
--- A choice whose place is not 0 is one of its column's candidates, and what is told of numbers below the next. Assumes nothing.
+-- A choice whose place is not 0 is one of its column's candidates. Assumes nothing.
 use Prim.Native.Nat.{ℕ, _+_, _<_, _≤_}
 use mathlib.Core.List.{List, []}
-use mathlib.Core.Bool.{Bool, true, false, _||_, cond}
+use mathlib.Core.Bool.{Bool, true, false, _||_, cond, false≢true}
 use mathlib.Core.Path.{_≡_, refl}
-use borrow.Author.Tests.{eqb-true, eqb-false, ltb-true}
+use borrow.Author.Tests.{ltb-true}
 use native.Mathlib.Omega.{arith}
 use lib.Dec.{eqb, ltb}
 use lib.ListN.{getD}
@@ -11,16 +11,6 @@ use Rattle.bags.specs.Reading.{place, many}
 use Rattle.questions.specs.Columns.{candidateEnd, countAt}
 use Rattle.questions.specs.Questions.{headOf, countOf, choiceOf, cell}
 use Rattle.views.specs.Rows.{Chooses}
-
-pub never : {A : Type 0} → false ≡ true → A
-never h = absurd (let z : _≡_ {A = ℕ} 0 1 = cc in omega arith)
-
-pub below-next : (P : ℕ → Type 0) (i : ℕ) → ((k : ℕ) → k < i → P k) → P i → (k : ℕ) → k < i + 1 → P k
-below-next P i h p k l = go (eqb k i) refl
-  where
-    go : (b : Bool) → eqb k i ≡ b → P k
-    go true e = rw (eqb-true k i e) p
-    go false e = h k (omega (arith, eqb-false k i e))
 
 a-candidate : (s : List ℕ) (at n i j : ℕ) → 0 < cell s at n i j → j < countOf s (headOf s at i)
 unfolding cell choiceOf
@@ -42,4 +32,4 @@ all-candidates s n at choices grid few is h i l =
 
 -- a string or a list is not absent
 pub not-absent : (kind : ℕ) → (eqb kind 1 || eqb kind 4) ≡ true → kind ≡ 0 → ⊥
-not-absent kind h e = never (rw e at h)
+not-absent kind h e = false≢true (rw e at h)

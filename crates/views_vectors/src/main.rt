@@ -12,6 +12,8 @@ ghost use Rattle.lookups.specs.Values.{Whole};
 ghost use Rattle.questions.specs.Questions.{Question};
 use bags::sections::Divided;
 use bags::sections::Sections;
+use bags::values::LIST;
+use bags::values::STRING;
 use libc::STDOUT_FILENO;
 use lookups::steps::value_next;
 use lookups::values::Value;
@@ -30,7 +32,7 @@ fn report(s: &[u8], v: Value)
     let kind = v.kind;
     let place = v.place;
     vectors::print_number(kind as u64, b' ');
-    if (kind == 1) | (kind == 4) {
+    if (kind == STRING) | (kind == LIST) {
         vectors::print_bits(v.number, b' ');
         let end = value_next(kind, s, place);
         vectors::print_number(vectors::sum_of(&s[place..end]), b'\n');

@@ -1,4 +1,4 @@
--- `questions::places::places` meets its contract: the first `i` rows have their places, and the others 0. Assumes nothing.
+-- `questions::places::places` meets its contract: the first `i` columns have their places, and the others 0. Assumes nothing.
 use Prim.Native.Nat.{ℕ, _<_, _≤_, _-_}
 use borrow.Author.Needs.{needs}
 use lib.ListN.{length, getD, replicate, getD-replicate, length-set}
@@ -52,17 +52,17 @@ cast-count-at c = omega (arith, column (c .before) .counted)
 add-count-at-3 : tie.Need-add-count-at-3 Inv-loop μ-loop
 add-count-at-3 c = omega (arith, column (c .before) .counted)
 
-add-row : tie.Need-add-row Inv-loop μ-loop
-add-row c = omega (arith, column (c .before) .counted)
+add-candidate-places : tie.Need-add-candidate-places Inv-loop μ-loop
+add-candidate-places c = omega (arith, column (c .before) .counted)
 
-shared-slice-read-row : tie.Need-shared-slice-read-row Inv-loop μ-loop
-shared-slice-read-row c = omega (arith, column (c .before .before) .counted)
+shared-slice-read-candidate-places : tie.Need-shared-slice-read-candidate-places Inv-loop μ-loop
+shared-slice-read-candidate-places c = omega (arith, column (c .before .before) .counted)
 
-cast-row : tie.Need-cast-row Inv-loop μ-loop
-cast-row c = omega (arith, column (c .before .before) .few)
+cast-candidate-places : tie.Need-cast-candidate-places Inv-loop μ-loop
+cast-candidate-places c = omega (arith, column (c .before .before) .few)
 
-row-requires : tie.Need-row-requires Inv-loop μ-loop
-row-requires c κs = (column (c .before .before) .few, (this (c .before .before) .0, column (c .before .before) .candidates))
+candidate-places-requires : tie.Need-candidate-places-requires Inv-loop μ-loop
+candidate-places-requires c κs = (column (c .before .before) .few, (this (c .before .before) .0, column (c .before .before) .candidates))
 
 column-next-requires : tie.Need-column-next-requires Inv-loop μ-loop
 column-next-requires c κs = this (c .before .before .before)
@@ -71,7 +71,7 @@ loop-again : tie.Need-loop-again Inv-loop μ-loop
 loop-again c = (
   many-last _ _ _ _ (c .before .before .before .before .before .loop .inv .0) ∙ c .column-next .ensures,
   simp length-set (c .before .before .before .before .before .loop .inv .1),
-  grid-more (c .before .before .before .before .before .before .before .args .s .now) (c .before .before .before .before .before .before .before .args .at) (c .before .before .before .before .before .loop .grid) (c .before .before .before .before .before .loop .i) (c .before .before .before .before .before .loop .next) (c .before .row .result) (omega arith) (c .before .before .before .before .before .loop .inv .0) (c .before .row .ensures) (c .before .before .before .before .before .loop .inv .2),
+  grid-more (c .before .before .before .before .before .before .before .args .s .now) (c .before .before .before .before .before .before .before .args .at) (c .before .before .before .before .before .loop .grid) (c .before .before .before .before .before .loop .i) (c .before .before .before .before .before .loop .next) (c .before .candidate-places .result) (omega arith) (c .before .before .before .before .before .loop .inv .0) (c .before .candidate-places .ensures) (c .before .before .before .before .before .loop .inv .2),
   omega arith,
 )
 
@@ -92,10 +92,10 @@ places-spec =
     shared-slice-read-count-at
     cast-count-at
     add-count-at-3
-    add-row
-    shared-slice-read-row
-    cast-row
-    row-requires
+    add-candidate-places
+    shared-slice-read-candidate-places
+    cast-candidate-places
+    candidate-places-requires
     (λ c. search needs)
     (λ c. search needs)
     column-next-requires

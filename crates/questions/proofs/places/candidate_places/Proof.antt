@@ -1,4 +1,4 @@
--- `questions::places::row` meets its contract: the first `j` cells have their places, and the others 0. Assumes nothing.
+-- `questions::places::candidate_places` meets its contract: the first `j` cells have their places, and the others 0. Assumes nothing.
 use Prim.Native.Nat.{ℕ, _<_, _≤_, _-_}
 use lib.ListN.{length, getD, getD-replicate, length-set}
 use mathlib.Core.Path.{_≡_, refl, sym, _∙_, ap}
@@ -8,8 +8,8 @@ use Rattle.bags.specs.Reading.{many, place}
 use Rattle.bags.specs.declared.After.the-variants.{At}
 use Rattle.questions.proofs.PlaceLaws.{firstOf, first-none, fill-more, at-number}
 use Rattle.questions.specs.Columns.{candidateEnd}
-use Rattle.questions.proofs.places.row.Statement.{statement}
-use Rattle.questions.proofs.places.row.Tie as tie
+use Rattle.questions.proofs.places.candidate_places.Statement.{statement}
+use Rattle.questions.proofs.places.candidate_places.Tie as tie
 
 abbrev Inv-loop : tie.InvT-loop
 Inv-loop s at n cells₀ next₀ j₀ cells next j =
@@ -40,8 +40,8 @@ returns c =
     let e : c .before .loop .j ≡ c .before .before .before .args .n = omega arith in
     λ k h. c .before .loop .inv .2 k h ∙ ap (λ (n : ℕ). firstOf n (λ j. place (many j (candidateEnd (c .before .before .before .args .s .now)) (c .before .before .before .args .at))) k) e
 
-pub row-spec : {M : Type 1} → statement M
-row-spec =
+pub candidate-places-spec : {M : Type 1} → statement M
+candidate-places-spec =
     tie.close
     (tie.spec
     Inv-loop
