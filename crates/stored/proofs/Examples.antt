@@ -5,20 +5,16 @@ use mathlib.Core.List.{List, [], _∷_}
 use mathlib.Core.Option.{some}
 use Prim.Native.Nat.{ℕ}
 use Rattle.slices.specs.Ascii.{bytes}
-use Rattle.slices.specs.Same.{same}
-use Rattle.tokens.specs.Bytes.{classOf}
-use Rattle.tokens.specs.Runs.{run}
-use Rattle.tokens.specs.Words.{reserved, kindAmong}
-use Rattle.tokens.specs.Tokens.{sized, wordAt, stringAt, numberAt, markOf, markAt, tokenAt}
-use Rattle.reading.specs.Lexemes.{choose, following, tokensUpTo, tokensFrom, tokensOf}
-use Rattle.reading.specs.Reader.{took, numbered, refuseBy, bind, on, need, before, mapped, upTo, onwards, chain}
+use Rattle.reading.specs.Lexemes.{tokensOf}
+use Rattle.reading.specs.Reader.{took}
 use Rattle.grammar.specs.Policies.{span, Root.Principal, Comparator.AtLeast, text, number, attribute, literal, compare, has, not, brackets, both, typed, oneOf, Policy}
-use Rattle.grammar.specs.Rules as rules
-use Rattle.grammar.specs.Parser.{fits, read-first-name, goesOn, read-next-name, read-way, spannedBy, read-path, read-attribute, read-operand, isElement, read-element, read-list, read-bare, read-in, isLike, read-pattern, read-operator, read-call, read-rest, read-rooted, read-simple, read-joined, read-conjunction, read-disjunction, read-negated, read-bracketed, read-conditional, read-deeper, read-condition, read-conditions, read-type, read-principal, read-action, read-resource, read-when, read-policy, begins, read-next-policy, atEnd, read-text}
+use Rattle.grammar.specs.Parser.{read-text}
 use Rattle.table.specs.declared.Entry.{Entry}
-use Rattle.table.specs.Entries.{entry, literalEntry, operandEntry, treeEntries, partEntry, actionEntries, conditionEntries, effectKind, targetEntries, policyEntries, policiesEntries}
-use Rattle.table.specs.Layout.{entryBytes, bytesOf, entryAt}
+use Rattle.table.specs.Entries.{entry, policiesEntries}
+use Rattle.table.specs.Layout.{bytesOf}
 use Rattle.stored.specs.ReadBack.{rootOf, literalOf, operandOf, comparatorOf, literalsAt, treeOf, treeIn, partOf, actionsOf, conditionBetween, policyOf, policiesIn, policiesAt}
+use Rattle.grammar.proofs.Opened.{grammar-opened}
+use Rattle.table.proofs.Opened.{table-opened}
 
 abbrev rule : List ℕ
 rule = bytes "permit(principal is person, action in [\"teach\"], resource is shaft)\n  when { principal.grade >= 3 && !(principal has loan) };"
@@ -37,13 +33,13 @@ policy = record {
 }
 
 pub rule-says : read-text (tokensOf rule) ≡ took (policy ∷ []) []
-unfolding classOf run same reserved kindAmong sized wordAt stringAt numberAt markOf markAt tokenAt choose following tokensUpTo tokensFrom numbered refuseBy bind on need before mapped upTo onwards chain rules.rootOf rules.literalOf rules.comparatorOf rules.principalTypes rules.resourceTypes rules.typeAmong rules.admitted fits read-first-name goesOn read-next-name read-way spannedBy read-path read-attribute read-operand isElement read-element read-list read-bare read-in isLike read-pattern read-operator read-call read-rest read-rooted read-simple read-joined read-conjunction read-disjunction read-negated read-bracketed read-conditional read-deeper read-condition read-conditions read-type read-principal read-action read-resource read-when read-policy begins read-next-policy atEnd read-text
+unfolding grammar-opened
 rule-says = refl
 
 pub table-written : policiesEntries 0 (policy ∷ []) ≡ entries
-unfolding literalEntry operandEntry treeEntries partEntry actionEntries conditionEntries effectKind targetEntries policyEntries policiesEntries
+unfolding table-opened
 table-written = refl
 
 pub table-read : policiesAt (bytesOf entries) 12 ≡ policy ∷ []
-unfolding bytesOf entryBytes entryAt rootOf literalOf operandOf comparatorOf literalsAt treeOf treeIn partOf actionsOf conditionBetween policyOf policiesIn
+unfolding table-opened rootOf literalOf operandOf comparatorOf literalsAt treeOf treeIn partOf actionsOf conditionBetween policyOf policiesIn
 table-read = refl
