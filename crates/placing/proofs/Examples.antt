@@ -15,13 +15,13 @@ use Rattle.placing.specs.Placed.{bytesAt, quotedAt, pathAt, depth}
 use Rattle.grammar.proofs.Opened.{grammar-opened}
 
 -- the worked example of docs/TABLE.md
-abbrev rule : List ℕ
+abbrev pub rule : List ℕ
 rule = bytes "permit(principal is person, action in [\"teach\"], resource is shaft)\n  when { principal.grade >= 3 && !(principal has loan) };"
 
-abbrev condition : Tree
+abbrev pub condition : Tree
 condition = both (compare AtLeast (attribute Principal (span 87 92)) (literal (number (span 96 97)))) (not (brackets (has Principal (span 117 121))))
 
-abbrev policy : Policy
+abbrev pub policy : Policy
 policy = record { permits = true; principal = typed 1; action = oneOf (text (span 39 46) ∷ []); resource = typed 2; condition = some condition }
 
 pub rule-read : read-text (tokensOf rule) ≡ took (policy ∷ []) []
