@@ -16,7 +16,6 @@ use Rattle.reading.specs.Reader as reader
 use Rattle.reading.specs.Reader.{took, refuse, refuseBy, bind}
 use Rattle.grammar.specs.Policies.{Policy}
 use Rattle.grammar.specs.Parser.{atEnd, read-text}
-use Rattle.grammar.specs.Grammar.{sizes}
 use Rattle.grammar.specs.Promise as grammar
 use Rattle.grammar.specs.Lowest as lowest
 use Rattle.grammar.proofs.Exactly.{accepted-exactly}
@@ -26,7 +25,7 @@ use Rattle.table.specs.Layout.{entrySize, bytesOf, held, startsWith}
 use Rattle.table.proofs.Holding.{length-bytesOf, starts-itself, starts-decides, held-starts}
 use Rattle.parts.specs.Answers.{refusalAt}
 use Rattle.compiling.specs.Outcome.{saidOf, mostBytes, roomFor, said, compiledBytes, foundBy, foundOf, toldOf, compiledOf, tableBy, tableAfter, beginsBy, beginsOf, heldBy, heldOf}
-use Rattle.compiling.specs.Promise.{ZerosElsewhere, AcceptedExactly, UnfitExactly, startOf, RefusedThere, RefusedExactly, bytesSaid, bytesFor, TextAlone, NothingChanged, NoPoliciesNoBytes, OneResult, Begun, BeginsExactly, CompiledBegins, EnoughRoom, Holds, HeldRightly}
+use Rattle.compiling.specs.Promise.{ZerosElsewhere, AcceptedExactly, UnfitExactly, startOf, RefusedThere, RefusedExactly, bytesSaid, bytesFor, BytesOfPolicies, TextAlone, NothingChanged, NoPoliciesNoBytes, OneResult, Begun, BeginsExactly, CompiledBegins, EnoughRoom, Holds, HeldRightly}
 use Rattle.compiling.specs.declared.Found.{Found}
 use Rattle.compiling.specs.declared.Found.the-variants.{Accepted, Unfit, Turned}
 use Rattle.compiling.specs.declared.Compiled.the-variants.{Policies, Refused}
@@ -199,6 +198,10 @@ table-said text old ps l h e = rw (le-ltb _ _ l, le-ltb _ _ h, e)
 bytes-said : (text : List ℕ) (ps : List Policy) → said text ≡ took ps [] → bytesFor text ≡ compiledBytes ps
 unfolding bytesSaid
 bytes-said text ps e = rw e
+
+pub bytes-of-policies : BytesOfPolicies
+unfolding BytesOfPolicies grammar.AcceptedExactly said
+bytes-of-policies text ps b = bytes-said text ps (accepted-exactly (tokensOf text) ps .1 b)
 
 parted : (xs old : List ℕ) (n : ℕ) → n ≡ length xs → (take n (xs ++ drop (length xs) old) ≡ xs) × (drop n (xs ++ drop (length xs) old) ≡ drop n old)
 parted xs old n e = (take-at xs _ n (sym e), drop-at xs _ n (sym e) ∙ rw e)
