@@ -93,7 +93,7 @@ pub goes-need : {A : Type 0} (P : A → List Lexeme → Type 0) (Q : ℕ → Lis
 unfolding need
 goes-need P Q k f i q h = goes-on P Q (is k) (λ _. f) (refuseBy ten) i (λ x r e t. h x r e (eqb-true _ _ t)) (goes-ten i q)
 
-need-bind : {A B : Type 0} (k : ℕ) (p : Reader A) (f : A → Reader B) (i : List Lexeme) → need k (λ j. bind (p j) f) i ≡ bind (need k p i) f
+pub need-bind : {A B : Type 0} (k : ℕ) (p : Reader A) (f : A → Reader B) (i : List Lexeme) → need k (λ j. bind (p j) f) i ≡ bind (need k p i) f
 unfolding need on choose refuseBy bind
 need-bind k p f [] = refl
 need-bind k p f (x ∷ i) = go (is k x)
