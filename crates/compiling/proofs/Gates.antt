@@ -29,6 +29,7 @@ use Rattle.parts.proofs.Writing.{kept-none, kept-append, done-as, settled, weak
 
 -- ---- what must stand before a part
 
+-- what a reader says that only takes tokens: no value, which has no entries
 abbrev Nothing : Type 0
 Nothing = Unit {0}
 
@@ -41,7 +42,7 @@ unfolding bind
 gate k f (took u i) = need-bind k (took u) (λ u. f) i
 gate k f (refuse n r) = refl
 
--- the first that must stand
+-- the same for the first such token
 pub gate-first : {A : Type 0} (k : ℕ) (f : Reader A) (i : List Lexeme) → need k f i ≡ bind (need k (took (tt {0})) i) (λ u. f)
 unfolding bind
 gate-first k f i = need-bind k (took (tt {0})) (λ u. f) i
@@ -94,6 +95,7 @@ opened {seen = seen} {first} {same} {T} {t} kind pos l c =
 
 -- ---- the parts of a policy
 
+-- a policy, and what reads its four parts behind its effect
 abbrev pub policyOf : Bool → Part → Actions → Part → Option Tree → Policy
 policyOf permits p a s c = record { permits = permits; principal = p; action = a; resource = s; condition = c }
 
@@ -109,6 +111,7 @@ thirdPart = need kinds.resourceWord (before kinds.rightRound read-resource)
 abbrev pub lastPart : Reader (Option Tree)
 lastPart = before kinds.semicolon read-when
 
+-- what is read from a part's end on
 module _ (permits : Bool) where
   abbrev pub afterThird : Part → Actions → Part → Reader Policy
   afterThird p a s l = bind (lastPart l) (λ c. took (policyOf permits p a s c))

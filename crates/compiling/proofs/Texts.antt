@@ -33,7 +33,7 @@ abbrev onAndOn : List Policy → Reader (List Policy)
 onAndOn = onwards begins read-next-policy
 
 -- where a policy may begin: `total` is the policies so far and all from there on
-pub record Begun (text seen T₀ T : List ℕ) (total : reader.Answer (List Policy)) (t : Token) (policies free : ℕ) (ok : Bool) : Type 0 where
+pub record Underway (text seen T₀ T : List ℕ) (total : reader.Answer (List Policy)) (t : Token) (policies free : ℕ) (ok : Bool) : Type 0 where
   pub value : List Policy
   pub many : policies ≡ length value
   pub few : policies ≤ mostPolicies
@@ -41,7 +41,7 @@ pub record Begun (text seen T₀ T : List ℕ) (total : reader.Answer (List Poli
   pub kept : Kept seen T₀ 0 true (policiesEntries 0 value) free ok T
   pub lies : Reads text free t
 
-pub at-start : {text seen T : List ℕ} (t : Token) → t ≡ tokenAt text 0 → Reads text 0 t → Begun text seen T T (read-text (tokensOf text)) t 0 0 true
+pub at-start : {text seen T : List ℕ} (t : Token) → t ≡ tokenAt text 0 → Reads text 0 t → Underway text seen T T (read-text (tokensOf text)) t 0 0 true
 unfolding read-text policiesEntries
 at-start {text} {seen} {T} t q r = record {
   value = [];
@@ -52,7 +52,7 @@ at-start {text} {seen} {T} t q r = record {
   lies = r;
 }
 
-module _ {text seen T₀ T : List ℕ} {total : reader.Answer (List Policy)} {t : Token} {policies free : ℕ} {ok : Bool} (b : Begun text seen T₀ T total t policies free ok) where
+module _ {text seen T₀ T : List ℕ} {total : reader.Answer (List Policy)} {t : Token} {policies free : ℕ} {ok : Bool} (b : Underway text seen T₀ T total t policies free ok) where
   begins-is : (effect : Bool) → isEffect (lexeme text t) && ltb policies mostPolicies ≡ effect → begins (b .value) (lexeme text t) ≡ effect
   unfolding begins
   begins-is effect e = rw (← b .many) e
@@ -102,7 +102,7 @@ module _ {text seen T₀ T : List ℕ} {total : reader.Answer (List Policy)} {t 
     pub further : {from free₂ : ℕ} {ok₂ : Bool} {next : Token} {T₂ : List ℕ} → t .start ≤ from
         → (k : Taken policyEntries text seen from free ok (read-policy (is kinds.permitWord (lexeme text t)) (stream text n)) next free₂ ok₂)
         → Put policyEntries free T T₂ (read-policy (is kinds.permitWord (lexeme text t)) (stream text n))
-        → Begun text seen T₀ T₂ total next (policies + 1) free₂ ok₂
+        → Underway text seen T₀ T₂ total next (policies + 1) free₂ ok₂
     unfolding bind
     further {free₂ = free₂} {ok₂} {next} {T₂} l k w =
         let many = b .many in let room = k .room in let low = b .lies .low in

@@ -3,7 +3,7 @@ use borrow.Author.Needs.{needs}
 use Rattle.parts.proofs.Standing.{past, ready-past}
 use Rattle.grammar.specs.Parser.{noPolicy}
 use Rattle.parts.specs.Answers.{turnedAway}
-use Rattle.compiling.proofs.Texts.{Begun, at-start, effect-some, ended, stopped, broken, further}
+use Rattle.compiling.proofs.Texts.{Underway, at-start, effect-some, ended, stopped, broken, further}
 use Rattle.reading.specs.Lexemes.{tokensOf}
 use Rattle.parts.proofs.Writing.{as-read, as-refused}
 use Rattle.grammar.specs.Parser.{read-text}
@@ -16,7 +16,7 @@ use Rattle.compiling.proofs.policies.read_all.Tie as tie
 
 abbrev Inv-loop : tie.InvT-loop
 Inv-loop classes text table₀ seen t₀ policies₀ free₀ ok₀ table t policies free ok =
-    Begun text seen table₀ table (read-text (tokensOf text)) t policies free ok × (length table ≡ length table₀)
+    Underway text seen table₀ table (read-text (tokensOf text)) t policies free ok × (length table ≡ length table₀)
 
 abbrev μ-loop : tie.MeasureT-loop
 μ-loop classes text table₀ seen t₀ policies₀ free₀ ok₀ table t policies free ok = length text - t .start
