@@ -1,6 +1,7 @@
 // Tells of test texts and tables whether the text compiles and the table begins with its bytes: a line `1` or `0` for each.
 use compiling::begins;
 
+// One vector: a text and a table.
 fn vector() {
     let mut text = [0u8; 8300];
     let n = vectors::read_part(&mut text);

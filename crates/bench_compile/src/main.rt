@@ -22,6 +22,7 @@ fn stamp(table: &mut [u8], sum: u64) {
     }
 }
 
+// Compiles once: the sum, and the bytes used or the refusal's number.
 fn compile_once(text: &[u8], table: &mut [u8], sum: u64) -> u64
     requires { ⌜ sum < 1000003 ⌝ }
     ensures { λ r. ⌜ r < 1000003 ⌝ }
@@ -31,6 +32,7 @@ fn compile_once(text: &[u8], table: &mut [u8], sum: u64) -> u64
     (sum + used(answer) % 1000003) % 1000003
 }
 
+// Compiles so many times.
 fn compile_often(times: u32, text: &[u8], table: &mut [u8]) -> u64 {
     let mut sum: u64 = 0;
     let mut left = times;
@@ -41,6 +43,7 @@ fn compile_often(times: u32, text: &[u8], table: &mut [u8]) -> u64 {
     sum
 }
 
+// Asks once: the sum, and one more where the table begins right.
 fn ask_once(text: &[u8], table: &mut [u8], sum: u64) -> u64
     requires { ⌜ sum < 1000003 ⌝ }
     ensures { λ r. ⌜ r < 1000003 ⌝ }
@@ -50,6 +53,7 @@ fn ask_once(text: &[u8], table: &mut [u8], sum: u64) -> u64
     (sum + vectors::one_if(yes)) % 1000003
 }
 
+// Asks so many times.
 fn ask_often(times: u32, text: &[u8], table: &mut [u8]) -> u64 {
     let mut sum: u64 = 0;
     let mut left = times;
@@ -60,6 +64,7 @@ fn ask_often(times: u32, text: &[u8], table: &mut [u8]) -> u64 {
     sum
 }
 
+// The table has one byte more than the room of the largest text: the one that is stamped.
 fn main() {
     let mut table = [0u8; 65537];
     let mut text = [0u8; 8192];

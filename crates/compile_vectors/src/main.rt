@@ -1,32 +1,20 @@
 // Compiles test texts, each into a table with a given room, and writes a line for each: policies, bytes used and a sum over them, or the refusal's number and place.
-ghost use Prim.Native.Nat.{_<_, _≤_};
+ghost use Prim.Native.Nat.{_≤_};
 ghost use lib.ListN.{length};
 use compiling::Compiled;
 use compiling::compile;
 use libc::STDOUT_FILENO;
 
-// The sum with one byte more.
-fn with(sum: u64, byte: u8) -> u64
-    requires { ⌜ sum < 1000003 ⌝ }
-    ensures { λ r. ⌜ r < 1000003 ⌝ }
-{
-    (sum * 31 + byte as u64) % 1000003
-}
-
 // A sum over the table's first n bytes.
 fn sum(table: &[u8], n: usize) -> u64 {
-    let mut s: u64 = 0;
-    let mut i = 0;
-    while i < table.len() {
-        if n <= i {
-            return s;
-        }
-        s = with(s, table[i]);
-        i += 1;
+    if n < table.len() {
+        vectors::sum_of(&table[..n])
+    } else {
+        vectors::sum_of(table)
     }
-    s
 }
 
+// Writes the line of an answer.
 fn report(answer: Compiled, table: &[u8]) {
     match answer {
         Compiled::Policies(policies, used) => {
@@ -48,7 +36,7 @@ fn report(answer: Compiled, table: &[u8]) {
 fn room(n: usize, low: u8, high: u8) -> usize
     requires { ⌜ n ≤ 8300 ⌝ }
 {
-    let shift = low as usize + 256 * (high as usize);
+    let shift = vectors::two_bytes(low, high);
     let r = 8 * n + shift;
     if shift < 32768 {
         r
@@ -59,6 +47,7 @@ fn room(n: usize, low: u8, high: u8) -> usize
     }
 }
 
+// Compiles a text into the table that it is lent.
 fn run(text: &[u8], table: &mut [u8]) {
     let answer = compile(text, table);
     report(answer, table);
@@ -85,6 +74,7 @@ fn vector(memory: &[u8], at: usize, table: &mut [u8])
     }
 }
 
+// The memory has a vector's room behind each place that two bytes can tell; the table has the largest room of a text of 8,300 bytes.
 fn main() {
     let mut memory = [0u8; 131072];
     let mut table = [0u8; 99200];

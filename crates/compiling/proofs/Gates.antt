@@ -1,5 +1,5 @@
 -- Tokens that must stand before a part, one after the other, and the parts of a policy in order. Assumes nothing.
-use mathlib.Core.Path.{_≡_, refl, _∙_, sym, subst}
+use mathlib.Core.Path.{_≡_, refl, _∙_, sym, ap, subst}
 use mathlib.Core.Bool.{Bool, true, false}
 use mathlib.Core.List.{List, [], _∷_}
 use mathlib.Core.Option.{Option, some}
@@ -11,9 +11,10 @@ use Rattle.tokens.specs.Kinds as kinds
 use Rattle.tokens.specs.declared.reader.Token.{Token}
 use Rattle.tokens.specs.Tokens.{tokenAt, Reads}
 use Rattle.tokens.proofs.ReadLaws.{reads}
-use Rattle.reading.specs.Lexemes.{Lexeme, is, choose, stream}
+use Rattle.reading.specs.Lexemes.{Lexeme, stream}
 use Rattle.reading.specs.Reader as reader
-use Rattle.reading.specs.Reader.{Reader, took, refuse, refuseBy, bind, on, need, ten, before}
+use Rattle.reading.specs.Reader.{Reader, took, refuse, bind, need, before}
+use Rattle.reading.proofs.Readers.{need-bind}
 use Rattle.grammar.specs.Policies.{Part, Actions, Tree, Policy}
 use Rattle.grammar.specs.Parser.{read-principal, read-action, read-resource, read-when, read-policy}
 use Rattle.table.specs.declared.Entry.{Entry}
@@ -23,40 +24,28 @@ use Rattle.table.proofs.Holding.{and-true}
 use Rattle.parts.specs.Answers.{Taken, Says, read, refused, Put, Done, closedOf, EntryPut, expectedOf}
 use Rattle.parts.specs.declared.answers.Answer.{Answer}
 use Rattle.parts.specs.declared.answers.Answer.the-variants.{Read, Refused}
-use Rattle.parts.proofs.Standing.{lowered, turned-as, turned-bind, need-on, need-off}
-use Rattle.parts.proofs.Writing.{kept-none, kept-append, done-as, settled, turned-done, as-kept, closing}
-use Rattle.conditions.proofs.Earlier.{weaker}
+use Rattle.parts.proofs.Standing.{standing, lowered, turned-as, turned-bind, need-on, need-off}
+use Rattle.parts.proofs.Writing.{kept-none, kept-append, done-as, settled, weaker, turned-done, as-kept, closing}
 
 -- ---- what must stand before a part
 
+-- what a reader says that only takes tokens: no value, which has no entries
 abbrev Nothing : Type 0
 Nothing = Unit {0}
 
 abbrev pub none-put : ℕ → Nothing → List Entry
 none-put e u = []
 
-need-bound : {A B : Type 0} (k : ℕ) (f : Reader B) (p : Reader A) (g : A → Reader B) → ((j : List Lexeme) → f j ≡ bind (p j) g) → (i : List Lexeme) → need k f i ≡ bind (need k p i) g
-unfolding need on choose refuseBy bind
-need-bound k f p g h [] = refl
-need-bound k f p g h (x ∷ i) = go (is k x)
-  where
-    go : (o : Bool) → choose o (λ _. f i) (λ _. refuseBy ten (x ∷ i)) ≡ bind (choose o (λ _. p i) (λ _. refuseBy ten (x ∷ i))) g
-    go true = h i
-    go false = refl
-
 -- a token that must stand after what p reads of no value
 pub gate : {A : Type 0} (k : ℕ) (f : Reader A) (p : reader.Answer Nothing) → bind p (λ u. need k f) ≡ bind (bind p (λ u. need k (took u))) (λ u. f)
 unfolding bind
-gate k f (took u i) = need-bound k f (took u) (λ u. f) (λ j. refl) i
+gate k f (took u i) = need-bind k f (took u) (λ u. f) (λ j. refl) i
 gate k f (refuse n r) = refl
 
-pub gate-first : {A : Type 0} (k : ℕ) (f : Reader A) (i : List Lexeme) → need k f i ≡ bind (bind (took (tt {0}) i) (λ u. need k (took u))) (λ u. f)
+-- the same for the first such token
+pub gate-first : {A : Type 0} (k : ℕ) (f : Reader A) (i : List Lexeme) → need k f i ≡ bind (need k (took (tt {0})) i) (λ u. f)
 unfolding bind
-gate-first k f i = gate k f (took (tt {0}) i)
-
--- nothing is read yet
-pub standing : {text : List ℕ} {first : ℕ} {same : Bool} {from : ℕ} (seen T : List ℕ) (t : Token) → Reads text (from + 1) t → Done none-put text seen from first same T T (took (tt {0}) (stream text t)) (Read t first same)
-standing {first = first} {same} seen T t r = settled (tt {0}) refl r (let l = r .low in omega arith) (kept-none seen T first same)
+gate-first k f i = need-bind k f (took (tt {0})) (λ u. f) (λ j. refl) i
 
 module _ {text seen : List ℕ} {first : ℕ} {same : Bool} {T : List ℕ} where
   module _ {from : ℕ} {p : reader.Answer Nothing} where
@@ -96,8 +85,17 @@ module _ {text seen : List ℕ} {first : ℕ} {same : Bool} {T : List ℕ} where
         let same-ok : ok ≡ same = k .counted .ok-is ∙ and-true same in
         done-as (e ∙ rw (k .is)) (weaker l (rw (same-free, same-ok) at d))
 
+-- the first token: nothing is read before it
+pub opened : {text seen : List ℕ} {first : ℕ} {same : Bool} {T : List ℕ} {t : Token} {r : Answer} (kind : ℕ) → 0 < kind → Reads text (first + 1) t
+    → r ≡ expectedOf text kind (Read t first same) → Done none-put text seen (t .start) first same T T (need kind (took (tt {0})) (stream text t)) r
+unfolding bind
+opened {seen = seen} {first} {same} {T} {t} kind pos l c =
+    let low = l .low in
+    weaker (omega arith) (gate-done {from = t .start - 1} kind pos (settled (tt {0}) refl (standing t (omega arith) l) (omega arith) (kept-none seen T first same)) c)
+
 -- ---- the parts of a policy
 
+-- a policy, and what reads its four parts behind its effect
 abbrev pub policyOf : Bool → Part → Actions → Part → Option Tree → Policy
 policyOf permits p a s c = record { permits = permits; principal = p; action = a; resource = s; condition = c }
 
@@ -113,6 +111,7 @@ thirdPart = need kinds.resourceWord (before kinds.rightRound read-resource)
 abbrev pub lastPart : Reader (Option Tree)
 lastPart = before kinds.semicolon read-when
 
+-- what is read from a part's end on
 module _ (permits : Bool) where
   abbrev pub afterThird : Part → Actions → Part → Reader Policy
   afterThird p a s l = bind (lastPart l) (λ c. took (policyOf permits p a s c))
@@ -126,18 +125,18 @@ module _ (permits : Bool) where
   pub policy-first : (i : List Lexeme) → read-policy permits i ≡ bind (firstPart i) afterFirst
   unfolding read-policy
   policy-first i =
-      need-bound kinds.leftRound _ (need kinds.principalWord (before kinds.comma read-principal)) afterFirst
-      (need-bound kinds.principalWord _ (before kinds.comma read-principal) afterFirst (λ j. refl)) i
+      need-bind kinds.leftRound _ (need kinds.principalWord (before kinds.comma read-principal)) afterFirst
+      (need-bind kinds.principalWord _ (before kinds.comma read-principal) afterFirst (λ j. refl)) i
 
   module _ (i : List Lexeme) {j : List Lexeme} {p : Part} (e₁ : firstPart i ≡ took p j) where
     pub policy-second : read-policy permits i ≡ bind (secondPart j) (afterSecond p)
     unfolding bind
-    policy-second = policy-first i ∙ rw e₁ (need-bound kinds.actionWord _ (before kinds.comma read-action) (afterSecond p) (λ k. refl) j)
+    policy-second = policy-first i ∙ rw e₁ (need-bind kinds.actionWord _ (before kinds.comma read-action) (afterSecond p) (λ k. refl) j)
 
     module _ {k : List Lexeme} {a : Actions} (e₂ : secondPart j ≡ took a k) where
       pub policy-third : read-policy permits i ≡ bind (thirdPart k) (afterThird p a)
       unfolding bind
-      policy-third = policy-second ∙ rw e₂ (need-bound kinds.resourceWord _ (before kinds.rightRound read-resource) (afterThird p a) (λ l. refl) k)
+      policy-third = policy-second ∙ rw e₂ (need-bind kinds.resourceWord _ (before kinds.rightRound read-resource) (afterThird p a) (λ l. refl) k)
 
       pub policy-last : {l : List Lexeme} {s : Part} → thirdPart k ≡ took s l → read-policy permits i ≡ bind (lastPart l) (λ c. took (policyOf permits p a s c))
       unfolding bind

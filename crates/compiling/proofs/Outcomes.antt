@@ -27,6 +27,7 @@ use Rattle.compiling.specs.declared.policies.Whole.the-variants.{All, Lo
 use Rattle.compiling.specs.declared.Found.{Found}
 use Rattle.compiling.specs.declared.Found.the-variants as found
 use Rattle.compiling.specs.declared.Found.the-variants.{Accepted, Unfit}
+use Rattle.compiling.specs.declared.Held.{Held}
 use Rattle.compiling.specs.declared.Held.the-variants.{Right, Wrong}
 
 -- ---- what is told of a whole text
@@ -195,29 +196,27 @@ module _ {text table old new : List ℕ} {p : reader.Answer (List Policy)} {poli
   unfolding heldBy choose
   wrong-held e = rw (k .is, ← starts-is, e)
 
-module _ (text table : List ℕ) where
-  pub right-begins : {policies entries : ℕ} → Right policies entries ≡ heldOf text table → true ≡ beginsOf text table
-  unfolding heldOf heldBy beginsOf beginsBy choose
-  right-begins {policies} {entries} e = go (ltb mostBytes (length text)) (said text) e
-    where
-      at-bytes : (ps : List Policy) (b : Bool) → Right policies entries ≡ choose b (λ _. Right (length ps) (length (policiesEntries 0 ps))) (λ _. Wrong) → true ≡ b
-      at-bytes ps true e = refl
-      at-bytes ps false e = absurd (let z : _≡_ {A = ℕ} 0 1 = cc in omega arith)
+abbrev isRight : Held → Bool
+isRight (Right policies entries) = true
+isRight Wrong = false
 
-      go : (a : Bool) (p : reader.Answer (List Policy)) → Right policies entries ≡ choose a (λ _. Wrong) (λ _. heldBy table p) → true ≡ choose a (λ _. false) (λ _. beginsBy table p)
-      go true p e = absurd (let z : _≡_ {A = ℕ} 0 1 = cc in omega arith)
-      go false (took ps r) e = at-bytes ps (startsWith (compiledBytes ps) table) e
-      go false (refuse n r) e = absurd (let z : _≡_ {A = ℕ} 0 1 = cc in omega arith)
+-- a table is held exactly where it begins right
+module _ (text table : List ℕ) where
+  held-begins : isRight (heldOf text table) ≡ beginsOf text table
+  unfolding heldOf heldBy beginsOf beginsBy choose
+  held-begins = go (ltb mostBytes (length text)) (said text)
+    where
+      at-bytes : (ps : List Policy) (b : Bool) → isRight (choose b (λ _. Right (length ps) (length (policiesEntries 0 ps))) (λ _. Wrong)) ≡ b
+      at-bytes ps true = refl
+      at-bytes ps false = refl
+
+      go : (a : Bool) (p : reader.Answer (List Policy)) → isRight (choose a (λ _. Wrong) (λ _. heldBy table p)) ≡ choose a (λ _. false) (λ _. beginsBy table p)
+      go true p = refl
+      go false (took ps r) = at-bytes ps (startsWith (compiledBytes ps) table)
+      go false (refuse n r) = refl
+
+  pub right-begins : {policies entries : ℕ} → Right policies entries ≡ heldOf text table → true ≡ beginsOf text table
+  right-begins e = ap isRight e ∙ held-begins
 
   pub wrong-begins : Wrong ≡ heldOf text table → false ≡ beginsOf text table
-  unfolding heldOf heldBy beginsOf beginsBy choose
-  wrong-begins e = go (ltb mostBytes (length text)) (said text) e
-    where
-      at-bytes : (ps : List Policy) (b : Bool) → Wrong ≡ choose b (λ _. Right (length ps) (length (policiesEntries 0 ps))) (λ _. Wrong) → false ≡ b
-      at-bytes ps true e = absurd (let z : _≡_ {A = ℕ} 0 1 = cc in omega arith)
-      at-bytes ps false e = refl
-
-      go : (a : Bool) (p : reader.Answer (List Policy)) → Wrong ≡ choose a (λ _. Wrong) (λ _. heldBy table p) → false ≡ choose a (λ _. false) (λ _. beginsBy table p)
-      go true p e = refl
-      go false (took ps r) e = at-bytes ps (startsWith (compiledBytes ps) table) e
-      go false (refuse n r) e = refl
+  wrong-begins e = ap isRight e ∙ held-begins

@@ -16,7 +16,6 @@ use Rattle.reading.specs.Reader as reader
 use Rattle.reading.specs.Reader.{took, refuse, refuseBy, bind}
 use Rattle.grammar.specs.Policies.{Policy}
 use Rattle.grammar.specs.Parser.{atEnd, read-text}
-use Rattle.grammar.specs.Grammar.{sizes}
 use Rattle.grammar.specs.Promise as grammar
 use Rattle.grammar.specs.Lowest as lowest
 use Rattle.grammar.proofs.Exactly.{accepted-exactly}
@@ -26,7 +25,7 @@ use Rattle.table.specs.Layout.{entrySize, bytesOf, held, startsWith}
 use Rattle.table.proofs.Holding.{length-bytesOf, starts-itself, starts-decides, held-starts}
 use Rattle.parts.specs.Answers.{refusalAt}
 use Rattle.compiling.specs.Outcome.{saidOf, mostBytes, roomFor, said, compiledBytes, foundBy, foundOf, toldOf, compiledOf, tableBy, tableAfter, beginsBy, beginsOf, heldBy, heldOf}
-use Rattle.compiling.specs.Promise.{ZerosElsewhere, AcceptedExactly, UnfitExactly, startOf, RefusedThere, RefusedExactly, bytesSaid, bytesFor, TextAlone, NothingChanged, NoPoliciesNoBytes, OneResult, Begun, BeginsExactly, CompiledBegins, EnoughRoom, Holds, HeldRightly}
+use Rattle.compiling.specs.Promise.{ZerosElsewhere, AcceptedExactly, UnfitExactly, startOf, RefusedThere, RefusedExactly, bytesSaid, bytesFor, BytesOfPolicies, TextAlone, NothingChanged, NoPoliciesNoBytes, OneResult, Begun, BeginsExactly, CompiledBegins, EnoughRoom, Holds, HeldRightly}
 use Rattle.compiling.specs.declared.Found.{Found}
 use Rattle.compiling.specs.declared.Found.the-variants.{Accepted, Unfit, Turned}
 use Rattle.compiling.specs.declared.Compiled.the-variants.{Policies, Refused}
@@ -36,6 +35,7 @@ use Rattle.compiling.specs.declared.Held.the-variants.{Right, Wrong}
 
 -- ---- what an answer says of what is found
 
+-- how many entries were found for the bytes that are told
 record FoundAs (text : List ℕ) (room policies bytes : ℕ) : Type 0 where
   entries : ℕ
   is : Accepted policies entries ≡ foundOf text room
@@ -65,7 +65,8 @@ length-compiled : (ps : List Policy) → length (compiledBytes ps) ≡ entrySize
 unfolding compiledBytes
 length-compiled ps = length-bytesOf (policiesEntries 0 ps)
 
-record Taken (text : List ℕ) (room policies bytes : ℕ) : Type 0 where
+-- what an accepted text has
+record Compiles (text : List ℕ) (room policies bytes : ℕ) : Type 0 where
   short : length text ≤ mostBytes
   roomy : roomFor text ≤ room
   value : List Policy
@@ -73,8 +74,8 @@ record Taken (text : List ℕ) (room policies bytes : ℕ) : Type 0 where
   many : policies ≡ length value
   used : bytes ≡ length (compiledBytes value)
 
-taken : (text : List ℕ) (room policies bytes : ℕ) → compiledOf text room ≡ Policies policies bytes → Taken text room policies bytes
-taken text room policies bytes e =
+compiles : (text : List ℕ) (room policies bytes : ℕ) → compiledOf text room ≡ Policies policies bytes → Compiles text room policies bytes
+compiles text room policies bytes e =
     let f = found-as text room policies bytes e in
     let h = accepts text room policies (f .entries) (f .is) in
     let n = nothing-left text (h .value) (h .rest) (h .is) in
@@ -97,7 +98,7 @@ took-answer text room ps r l h e = rw (fitting text room l h, e, length-compiled
 pub accepted : AcceptedExactly
 unfolding AcceptedExactly grammar.AcceptedExactly said
 accepted text room policies bytes l h = (
-  λ e. let k = taken text room policies bytes e in
+  λ e. let k = compiles text room policies bytes e in
       record { value = k .value; belongs = accepted-exactly (tokensOf text) (k .value) .0 (k .is); many = k .many; used = k .used },
   λ b. took-answer text room (b .value) [] l h (accepted-exactly (tokensOf text) (b .value) .1 (b .belongs)) ∙ rw (b .many, b .used),
 )
@@ -200,13 +201,17 @@ bytes-said : (text : List ℕ) (ps : List Policy) → said text ≡ took ps [] �
 unfolding bytesSaid
 bytes-said text ps e = rw e
 
+pub bytes-of-policies : BytesOfPolicies
+unfolding BytesOfPolicies grammar.AcceptedExactly said
+bytes-of-policies text ps b = bytes-said text ps (accepted-exactly (tokensOf text) ps .1 b)
+
 parted : (xs old : List ℕ) (n : ℕ) → n ≡ length xs → (take n (xs ++ drop (length xs) old) ≡ xs) × (drop n (xs ++ drop (length xs) old) ≡ drop n old)
 parted xs old n e = (take-at xs _ n (sym e), drop-at xs _ n (sym e) ∙ rw e)
 
 pub text-alone : TextAlone
 unfolding TextAlone
 text-alone text old policies bytes e =
-    let k = taken text (length old) policies bytes e in
+    let k = compiles text (length old) policies bytes e in
     let t = table-said text old (k .value) (k .short) (k .roomy) (k .is) in
     let p = parted (compiledBytes (k .value)) old bytes (k .used) in
     (ap (take bytes) t ∙ p .0 ∙ sym (bytes-said text (k .value) (k .is)), ap (drop bytes) t ∙ p .1)
@@ -228,7 +233,7 @@ entries-few text ps e = entries-below text ps e
 pub enough-room : EnoughRoom
 unfolding EnoughRoom
 enough-room text room policies bytes e =
-    let k = taken text room policies bytes e in
+    let k = compiles text room policies bytes e in
     let x = entries-few text (k .value) (k .is) in let y = length-compiled (k .value) in let z = k .used in omega arith
 
 no-entries : (ps : List Policy) → 0 ≡ length ps → length (compiledBytes ps) ≡ 0
@@ -238,7 +243,7 @@ no-entries (p ∷ ps) e = absurd (omega arith)
 
 pub no-policies-no-bytes : NoPoliciesNoBytes
 unfolding NoPoliciesNoBytes
-no-policies-no-bytes text room bytes e = let k = taken text room 0 bytes e in k .used ∙ no-entries (k .value) (k .many)
+no-policies-no-bytes text room bytes e = let k = compiles text room 0 bytes e in k .used ∙ no-entries (k .value) (k .many)
 
 pub one-result : OneResult
 unfolding OneResult
@@ -249,7 +254,7 @@ one-result text old new new′ r r′ c d = (c .answered ∙ sym (d .answered), 
 pub compiled-begins : CompiledBegins
 unfolding CompiledBegins tableAfter tableBy beginsOf beginsBy choose
 compiled-begins text old policies bytes e =
-    let k = taken text (length old) policies bytes e in
+    let k = compiles text (length old) policies bytes e in
     rw (le-ltb _ _ (k .short), le-ltb _ _ (k .roomy), k .is) (starts-itself (compiledBytes (k .value)) _)
 
 begun-said : (text table : List ℕ) → beginsOf text table ≡ true → Begun text table

@@ -6,7 +6,7 @@ use Prim.Native.Nat.{ℕ, _+_, _≤_}
 use native.Mathlib.Omega.{arith}
 use lib.Dec.{ltb}
 use lib.ListN.{length, length-append}
-use borrow.Author.Tests.{ltb-true}
+use borrow.Author.Tests.{ltb-true, not-true, not-false}
 use Rattle.tokens.proofs.TokenLaws.{and-right}
 use Rattle.tokens.specs.Kinds as kinds
 use Rattle.tokens.specs.declared.reader.Token.{Token}
@@ -25,25 +25,15 @@ use Rattle.table.specs.Entries.{policyEntries, policiesEntries}
 use Rattle.parts.specs.Answers.{Turned, turnedAway, Taken, Put}
 use Rattle.compiling.specs.Whole.{Told, complete, lost}
 use Rattle.parts.specs.declared.answers.Refusal.{Refusal}
-use Rattle.parts.specs.declared.answers.Answer.{Answer}
 use Rattle.compiling.specs.declared.policies.Whole.the-variants.{All, Lost}
-use Rattle.parts.proofs.Standing.{turned, turned-as, turned-bind}
+use Rattle.parts.proofs.Standing.{standing, turned, turned-as, turned-bind}
 use Rattle.parts.proofs.Writing.{Kept, kept-none, kept-append, as-kept}
-use Rattle.conditions.proofs.Earlier.{lying}
-
-un-not : (b : Bool) → not b ≡ true → b ≡ false
-un-not true e = sym e
-un-not false e = refl
-
-un-not-false : (b : Bool) → not b ≡ false → b ≡ true
-un-not-false true e = refl
-un-not-false false e = sym e
 
 abbrev onAndOn : List Policy → Reader (List Policy)
 onAndOn = onwards begins read-next-policy
 
 -- where a policy may begin: `total` is the policies so far and all from there on
-pub record Begun (text seen T₀ T : List ℕ) (total : reader.Answer (List Policy)) (t : Token) (policies free : ℕ) (ok : Bool) : Type 0 where
+pub record Underway (text seen T₀ T : List ℕ) (total : reader.Answer (List Policy)) (t : Token) (policies free : ℕ) (ok : Bool) : Type 0 where
   pub value : List Policy
   pub many : policies ≡ length value
   pub few : policies ≤ mostPolicies
@@ -51,7 +41,7 @@ pub record Begun (text seen T₀ T : List ℕ) (total : reader.Answer (List Poli
   pub kept : Kept seen T₀ 0 true (policiesEntries 0 value) free ok T
   pub lies : Reads text free t
 
-pub at-start : {text seen T : List ℕ} (t : Token) → t ≡ tokenAt text 0 → Reads text 0 t → Begun text seen T T (read-text (tokensOf text)) t 0 0 true
+pub at-start : {text seen T : List ℕ} (t : Token) → t ≡ tokenAt text 0 → Reads text 0 t → Underway text seen T T (read-text (tokensOf text)) t 0 0 true
 unfolding read-text policiesEntries
 at-start {text} {seen} {T} t q r = record {
   value = [];
@@ -62,7 +52,7 @@ at-start {text} {seen} {T} t q r = record {
   lies = r;
 }
 
-module _ {text seen T₀ T : List ℕ} {total : reader.Answer (List Policy)} {t : Token} {policies free : ℕ} {ok : Bool} (b : Begun text seen T₀ T total t policies free ok) where
+module _ {text seen T₀ T : List ℕ} {total : reader.Answer (List Policy)} {t : Token} {policies free : ℕ} {ok : Bool} (b : Underway text seen T₀ T total t policies free ok) where
   begins-is : (effect : Bool) → isEffect (lexeme text t) && ltb policies mostPolicies ≡ effect → begins (b .value) (lexeme text t) ≡ effect
   unfolding begins
   begins-is effect e = rw (← b .many) e
@@ -79,7 +69,7 @@ module _ {text seen T₀ T : List ℕ} {total : reader.Answer (List Policy)} {t 
       let l = b .lies .low in let o = b .lies .order in let h = b .lies .high in
       complete {policies = policies} {free = free} {ok = ok} (record {
         value = b .value;
-        is = at-end (un-not (isEffect (lexeme text t) && ltb policies mostPolicies) e) ∙ rw (stream-end text t z);
+        is = at-end (not-true (isEffect (lexeme text t) && ltb policies mostPolicies) e) ∙ rw (stream-end text t z);
         many = b .many;
         few = b .few;
         room = omega arith;
@@ -92,17 +82,17 @@ module _ {text seen T₀ T : List ℕ} {total : reader.Answer (List Policy)} {t 
       → f ≡ turnedAway (length text) (noPolicy (lexeme text t)) t → Told text seen T₀ T total (Lost f)
   unfolding atEnd
   stopped e z q =
-      lost (turned-as {p = refuseBy noPolicy (stream text t)} (at-end (un-not (isEffect (lexeme text t) && ltb policies mostPolicies) e) ∙ rw (stream-token text t z)) (turned text t noPolicy q))
+      lost (turned-as {p = refuseBy noPolicy (stream text t)} (at-end (not-true (isEffect (lexeme text t) && ltb policies mostPolicies) e) ∙ rw (stream-token text t z)) (turned text t noPolicy q))
 
   pub effect-some : not (isEffect (lexeme text t) && ltb policies mostPolicies) ≡ false → t .kind ≡ 0 → ⊥
-  effect-some e z = let y : false ≡ true = rw z at (un-not-false (isEffect (lexeme text t) && ltb policies mostPolicies) e) in let x : _≡_ {A = ℕ} 0 1 = cc in omega arith
+  effect-some e z = let y : false ≡ true = rw z at (not-false (isEffect (lexeme text t) && ltb policies mostPolicies) e) in let x : _≡_ {A = ℕ} 0 1 = cc in omega arith
 
   module _ (n : Token) (e : not (isEffect (lexeme text t) && ltb policies mostPolicies) ≡ false) (q : n ≡ tokenAt text (t .end)) where
     next-policy : total ≡ bind (bind (bind (read-policy (is kinds.permitWord (lexeme text t)) (stream text n)) (λ p. took (b .value ++ p ∷ []))) onAndOn) atEnd
     unfolding read-next-policy mapped
     next-policy =
         b .rest ∙ ap (λ (p : reader.Answer (List Policy)). bind p atEnd)
-        (policies-step (b .value) (stream text t) ∙ next-on text t (begins (b .value)) _ _ n (effect-some e) (b .lies .high) q (begins-is true (un-not-false (isEffect (lexeme text t) && ltb policies mostPolicies) e)))
+        (policies-step (b .value) (stream text t) ∙ next-on text t (begins (b .value)) _ _ n (effect-some e) (b .lies .high) q (begins-is true (not-false (isEffect (lexeme text t) && ltb policies mostPolicies) e)))
 
     -- a policy begins, and is refused
     pub broken : {f : Refusal} {T₂ : List ℕ} → Turned text (read-policy (is kinds.permitWord (lexeme text t)) (stream text n)) f → Told text seen T₀ T₂ total (Lost f)
@@ -112,7 +102,7 @@ module _ {text seen T₀ T : List ℕ} {total : reader.Answer (List Policy)} {t 
     pub further : {from free₂ : ℕ} {ok₂ : Bool} {next : Token} {T₂ : List ℕ} → t .start ≤ from
         → (k : Taken policyEntries text seen from free ok (read-policy (is kinds.permitWord (lexeme text t)) (stream text n)) next free₂ ok₂)
         → Put policyEntries free T T₂ (read-policy (is kinds.permitWord (lexeme text t)) (stream text n))
-        → Begun text seen T₀ T₂ total next (policies + 1) free₂ ok₂
+        → Underway text seen T₀ T₂ total next (policies + 1) free₂ ok₂
     unfolding bind
     further {free₂ = free₂} {ok₂} {next} {T₂} l k w =
         let many = b .many in let room = k .room in let low = b .lies .low in
@@ -120,8 +110,8 @@ module _ {text seen T₀ T : List ℕ} {total : reader.Answer (List Policy)} {t 
         record {
           value = b .value ++ k .value ∷ [];
           many = let x = length-append (b .value) (k .value ∷ []) in omega arith;
-          few = let x = ltb-true policies mostPolicies (and-right (isEffect (lexeme text t)) (ltb policies mostPolicies) (un-not-false (isEffect (lexeme text t) && ltb policies mostPolicies) e)) in omega arith;
+          few = let x = ltb-true policies mostPolicies (and-right (isEffect (lexeme text t)) (ltb policies mostPolicies) (not-false (isEffect (lexeme text t) && ltb policies mostPolicies) e)) in omega arith;
           rest = next-policy ∙ rw (k .is);
           kept = subst (λ (es : List Entry). Kept seen T₀ 0 true es free₂ ok₂ T₂) (sym (policies-append 0 (b .value) (k .value) ∙ rw z)) (kept-append (b .kept) (as-kept k w));
-          lies = lying free₂ (k .lies) (omega arith);
+          lies = standing next (omega arith) (k .lies);
         }

@@ -1,4 +1,4 @@
--- What compiling answers and leaves in the table, as functions of the text, the table's length and the old table. Definitions only.
+-- What compiling answers and leaves in the table, and whether a table begins right, as functions of the text and the table that is lent. Promise.antt says what these functions promise. Definitions only.
 use mathlib.Core.Path.{_≡_}
 use mathlib.Core.Bool.{Bool, false}
 use mathlib.Core.List.{List, _++_}
@@ -30,7 +30,7 @@ mostBytes = 8192
 abbrev pub roomFor : List ℕ → ℕ
 roomFor text = 8 * length text
 
--- what the text's tokens say
+-- what the text's tokens say: the policies, or the number of a refusal and the tokens from the refused one on
 unfoldable pub said : List ℕ → reader.Answer (List Policy)
 said text = read-text (tokensOf text)
 
@@ -38,30 +38,32 @@ said text = read-text (tokensOf text)
 unfoldable pub compiledBytes : List Policy → List ℕ
 compiledBytes ps = bytesOf (policiesEntries 0 ps)
 
+-- what is found by what the tokens say: how many policies and entries, or the refusal with its place
 unfoldable pub foundBy : List ℕ → reader.Answer (List Policy) → Found
 foundBy text (took ps r) = Accepted (length ps) (length (policiesEntries 0 ps))
 foundBy text (refuse n r) = Turned (refusalAt text n r)
 
--- 1: the text is too long; 2: the table has under 8 bytes for a byte of text; else what the tokens say
+-- what is found where so many bytes of table are lent. 1: the text is too long; 2: the table has under 8 bytes for a byte of text; else by what the tokens say
 unfoldable pub foundOf : List ℕ → ℕ → Found
 foundOf text room =
     choose (ltb mostBytes (length text)) (λ _. Unfit 1)
     (λ _. choose (ltb room (roomFor text)) (λ _. Unfit 2) (λ _. foundBy text (said text)))
 
+-- a refusal that has a line and a column
 abbrev pub refusedIn : ℕ → Place → Compiled
 refusedIn number p = Refused number (p .line) (p .column)
 
--- policies and bytes used; or the refusal's number, and the line and column of the token that is refused; 1 and 2 have the place 0, 0
+-- what is told of what is found: policies and bytes used; or the refusal's number, and the line and column of the token that is refused; 1 and 2 have the place 0, 0
 unfoldable pub toldOf : List ℕ → Found → Compiled
 toldOf text (Accepted policies entries) = Policies policies (entrySize * entries)
 toldOf text (Unfit number) = Refused number 0 0
 toldOf text (Turned f) = refusedIn (f .number) (placeOf text (f .start))
 
--- what compiling answers
+-- what compiling answers where so many bytes of table are lent
 unfoldable pub compiledOf : List ℕ → ℕ → Compiled
 compiledOf text room = toldOf text (foundOf text room)
 
--- what each answer says: the refusal's number, or 0, with its line and column; the policies and the bytes used
+-- document 01's numbers for an answer: the refusal's, with its line and column, and the policies and the bytes used
 pub record Said : Type 0 where
   pub refusal : ℕ
   pub line : ℕ
@@ -69,10 +71,12 @@ pub record Said : Type 0 where
   pub policies : ℕ
   pub bytes : ℕ
 
+-- what each answer says: zeros where there is nothing to say
 unfoldable pub saidOf : Compiled → Said
 saidOf (Policies policies bytes) = record { refusal = 0; line = 0; column = 0; policies = policies; bytes = bytes }
 saidOf (Refused number line column) = record { refusal = number; line = line; column = column; policies = 0; bytes = 0 }
 
+-- the table afterwards, by what the tokens say
 unfoldable pub tableBy : reader.Answer (List Policy) → List ℕ → List ℕ
 tableBy (took ps r) old = compiledBytes ps ++ drop (length (compiledBytes ps)) old
 tableBy (refuse n r) old = old
@@ -82,23 +86,25 @@ unfoldable pub tableAfter : List ℕ → List ℕ → List ℕ
 tableAfter text old =
     choose (ltb mostBytes (length text)) (λ _. old) (λ _. choose (ltb (length old) (roomFor text)) (λ _. old) (λ _. tableBy (said text) old))
 
--- what compile promises
+-- what `compile` promises: its answer, and what is in the table afterwards
 pub record CompiledInto (text old new : List ℕ) (r : Compiled) : Type 0 where
   pub answered : r ≡ compiledOf text (length old)
   pub table : new ≡ tableAfter text old
 
+-- what a table holds of what the tokens say
 unfoldable pub heldBy : List ℕ → reader.Answer (List Policy) → Held
 heldBy table (took ps r) = choose (startsWith (compiledBytes ps) table) (λ _. Right (length ps) (length (policiesEntries 0 ps))) (λ _. Wrong)
 heldBy table (refuse n r) = Wrong
 
--- the policies and entries of a text that compiles, where the table begins with its bytes; the table's room is not asked for
+-- how many policies and entries a text has that compiles and whose table begins with its bytes; the table's room is not asked for
 unfoldable pub heldOf : List ℕ → List ℕ → Held
 heldOf text table = choose (ltb mostBytes (length text)) (λ _. Wrong) (λ _. heldBy table (said text))
 
+-- whether a table begins with the bytes of what the tokens say
 unfoldable pub beginsBy : List ℕ → reader.Answer (List Policy) → Bool
 beginsBy table (took ps r) = startsWith (compiledBytes ps) table
 beginsBy table (refuse n r) = false
 
--- whether a text compiles and the table begins with its bytes
+-- whether a text compiles and the table begins with its bytes; the table's room is not asked for
 unfoldable pub beginsOf : List ℕ → List ℕ → Bool
 beginsOf text table = choose (ltb mostBytes (length text)) (λ _. false) (λ _. beginsBy table (said text))

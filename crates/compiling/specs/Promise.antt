@@ -1,4 +1,5 @@
--- What is promised of compiling. Definitions only.
+-- What is promised of compiling: demand 1 and the first half of demand 2, and what a table is that begins right. proofs/Promised.antt proves each statement. Definitions only.
+-- `compiledOf` and `tableAfter` are what `compile` answers and leaves in the table by its contract, `beginsOf` and `heldOf` what `begins` and `held_policies` answer (Outcome.antt).
 use mathlib.Core.Path.{_≡_}
 use mathlib.Core.Logic.{_↔_}
 use mathlib.Core.Bool.{true}
@@ -21,19 +22,19 @@ use Rattle.compiling.specs.declared.Held.the-variants.{Right}
 
 -- ---- acceptance
 
--- the text's tokens are a rule text that says so many policies, which compile to so many bytes
+-- the text's tokens are a rule text within document 01's limits; it says so many policies, which compile to so many bytes
 pub record Belongs (text : List ℕ) (policies bytes : ℕ) : Type 0 where
   pub value : List Policy
   pub belongs : RuleText sizes (tokensOf text) value
   pub many : policies ≡ length value
   pub used : bytes ≡ length (compiledBytes value)
 
--- A text within the sizes is accepted exactly when its tokens belong to the grammar.
+-- A text that is not too long and is lent table enough is accepted exactly when its tokens belong to the grammar; it gets the number of its policies and of their bytes.
 unfoldable pub AcceptedExactly : Type 0
 AcceptedExactly = (text : List ℕ) (room policies bytes : ℕ) → length text ≤ mostBytes → roomFor text ≤ room
     → (compiledOf text room ≡ Policies policies bytes) ↔ Belongs text policies bytes
 
--- Refusals 1 and 2 go by the sizes alone, 1 first; they have no place.
+-- Refusals 1 and 2 go by the lengths of text and table alone, and come first, 1 before 2; their place is 0, 0.
 unfoldable pub UnfitExactly : Type 0
 UnfitExactly = (text : List ℕ) (room : ℕ)
     → ((compiledOf text room ≡ Refused 1 0 0) ↔ (¬ (length text ≤ mostBytes)))
@@ -41,7 +42,7 @@ UnfitExactly = (text : List ℕ) (room : ℕ)
 
 -- ---- refusal
 
--- where the first of the tokens r stands; [] is the end of the text
+-- where the first of the tokens r starts; [] is the end of the text, one past the last byte
 unfoldable pub startOf : List ℕ → List Lexeme → ℕ
 startOf text [] = length text
 startOf text (x ∷ r) = x .start
@@ -52,31 +53,36 @@ pub record RefusedThere (text : List ℕ) (number line column : ℕ) : Type 0 wh
   pub refused : RefusedBy (tokensOf text) rest number
   pub place-is : placeOf text (startOf text rest) ≡ place line column
 
--- A text within the sizes is refused by a number, with a line and a column, exactly when that holds.
+-- A text that is not too long and is lent table enough is refused by a number, with a line and a column, exactly when that holds.
 unfoldable pub RefusedExactly : Type 0
 RefusedExactly = (text : List ℕ) (room number line column : ℕ) → length text ≤ mostBytes → roomFor text ≤ room
     → (compiledOf text room ≡ Refused number line column) ↔ RefusedThere text number line column
 
--- A refusal gives its number and place, and zeros elsewhere.
+-- A refusal gives its number and place, and zeros for policies and bytes.
 unfoldable pub ZerosElsewhere : Type 0
 ZerosElsewhere = (r : Compiled) → (saidOf r .refusal ≡ 0 → ⊥) → (saidOf r .policies ≡ 0) × (saidOf r .bytes ≡ 0)
 
 -- ---- the table
 
--- the bytes that a text compiles to, none where it is refused
+-- the bytes of the policies that the tokens say, none where they are refused
 unfoldable pub bytesSaid : reader.Answer (List Policy) → List ℕ
 bytesSaid (took ps r) = compiledBytes ps
 bytesSaid (refuse n r) = []
 
+-- the bytes that a text compiles to
 abbrev pub bytesFor : List ℕ → List ℕ
 bytesFor text = bytesSaid (said text)
 
--- The bytes used are a function of the text alone, and the bytes past those stay.
+-- They are those of the policies that the text says.
+unfoldable pub BytesOfPolicies : Type 0
+BytesOfPolicies = (text : List ℕ) (ps : List Policy) → RuleText sizes (tokensOf text) ps → bytesFor text ≡ compiledBytes ps
+
+-- A text that is accepted has these bytes at the table's start, a function of the text alone; the bytes past those stay.
 unfoldable pub TextAlone : Type 0
 TextAlone = (text old : List ℕ) (policies bytes : ℕ) → compiledOf text (length old) ≡ Policies policies bytes
     → (take bytes (tableAfter text old) ≡ bytesFor text) × (drop bytes (tableAfter text old) ≡ drop bytes old)
 
--- A refusal changes nothing.
+-- A refusal changes no byte of the table.
 unfoldable pub NothingChanged : Type 0
 NothingChanged = (text old : List ℕ) (number line column : ℕ) → compiledOf text (length old) ≡ Refused number line column → tableAfter text old ≡ old
 
@@ -90,17 +96,18 @@ NoPoliciesNoBytes = (text : List ℕ) (room bytes : ℕ) → compiledOf text roo
 
 -- ---- one result, and a table that begins right
 
--- Any two allowed results coincide, and so do the tables.
+-- Any two results that the contract of `compile` allows coincide, and so do the tables.
 unfoldable pub OneResult : Type 0
 OneResult = (text old new new′ : List ℕ) (r r′ : Compiled) → CompiledInto text old new r → CompiledInto text old new′ r′ → (r ≡ r′) × (new ≡ new′)
 
--- the text is a rule text within the size, and the table begins with the bytes that it compiles to
+-- the text is a rule text of at most 8,192 bytes, and the table begins with the bytes that it compiles to
 pub record Begun (text table : List ℕ) : Type 0 where
   pub short : length text ≤ mostBytes
   pub value : List Policy
   pub belongs : RuleText sizes (tokensOf text) value
   pub begins : Begins (compiledBytes value) table
 
+-- A table begins right exactly then.
 unfoldable pub BeginsExactly : Type 0
 BeginsExactly = (text table : List ℕ) → (beginsOf text table ≡ true) ↔ Begun text table
 
@@ -108,7 +115,7 @@ BeginsExactly = (text table : List ℕ) → (beginsOf text table ≡ true) ↔ B
 unfoldable pub CompiledBegins : Type 0
 CompiledBegins = (text old : List ℕ) (policies bytes : ℕ) → compiledOf text (length old) ≡ Policies policies bytes → beginsOf text (tableAfter text old) ≡ true
 
--- the text is a rule text within the size that says so many policies, and the table has their entries from its beginning on, no more of them than the text has bytes
+-- the text is a rule text of at most 8,192 bytes that says so many policies, and the table has their entries from its beginning on, no more of them than the text has bytes
 pub record Holds (text table : List ℕ) (policies entries : ℕ) : Type 0 where
   pub short : length text ≤ mostBytes
   pub value : List Policy
@@ -119,6 +126,6 @@ pub record Holds (text table : List ℕ) (policies entries : ℕ) : Type 0 where
   pub few : entries ≤ length text
   pub held-all : held table 0 (policiesEntries 0 value) ≡ true
 
--- What a reader of a table that begins right may count on.
+-- What a reader of a table may count on that begins right.
 unfoldable pub HeldRightly : Type 0
 HeldRightly = (text table : List ℕ) (policies entries : ℕ) → heldOf text table ≡ Right policies entries → Holds text table policies entries

@@ -1,4 +1,4 @@
--- What the code tells of a whole text. Definitions only.
+-- What `read_all` tells of a whole text, by what the text's tokens say (p). Definitions only.
 use mathlib.Core.Path.{_≡_}
 use mathlib.Core.Bool.{Bool, true}
 use mathlib.Core.List.{List, []}
@@ -25,6 +25,7 @@ pub record Complete (text seen old new : List ℕ) (p : reader.Answer (List Poli
   pub counted : Counted seen (policiesEntries 0 value) 0 true free ok
   pub stored : new ≡ puts old 0 (policiesEntries 0 value)
 
+-- what is told: all the policies, or the refusal of a token
 pub data Told (text seen old new : List ℕ) (p : reader.Answer (List Policy)) : Whole → Type 0 where
   complete : {policies free : ℕ} {ok : Bool} → Complete text seen old new p policies free ok → Told text seen old new p (All policies free ok)
   lost : {f : Refusal} → Turned text p f → Told text seen old new p (Lost f)

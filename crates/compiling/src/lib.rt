@@ -2,7 +2,7 @@
 pub mod policies;
 
 ghost use mathlib.Core.Path.{_≡_};
-ghost use Prim.Native.Nat.{ℕ, _≤_};
+ghost use Prim.Native.Nat.{_≤_};
 ghost use lib.ListN.{length};
 ghost use Rattle.tokens.specs.Table.{classTable};
 ghost use Rattle.compiling.specs.declared.Found.the-variants.{Turned};
@@ -12,6 +12,9 @@ use crate::policies::read_all;
 use parts::answers::Refusal;
 use tokens::classes::class_table;
 use tokens::places::place_of;
+
+// The most bytes of a text.
+const MOST_BYTES: usize = 8192;
 
 // What a text has: so many policies and entries; or its refusal, by its size or the table's, or at a token.
 pub enum Found {
@@ -37,7 +40,7 @@ pub fn recognise(classes: &[u8; 256], text: &[u8], room: usize) -> Found
     requires { ⌜ now classes ≡ classTable ⌝ }
     ensures { λ r. ⌜ r ≡ foundOf (now (text .entry)) room ⌝ }
 {
-    if 8192 < text.len() {
+    if MOST_BYTES < text.len() {
         return Found::Unfit(1);
     }
     if room < 8 * text.len() {
@@ -73,6 +76,7 @@ pub fn compile(text: &[u8], table: &mut [u8]) -> Compiled
         Found::Accepted(policies, entries) => {
             let empty = [0u8; 1];
             read_all(&classes, text, table, &empty);
+            // an entry has 5 bytes
             Compiled::Policies(policies, 5 * entries)
         }
     }
@@ -83,7 +87,7 @@ pub fn held_policies(classes: &[u8; 256], text: &[u8], table: &[u8]) -> Held
     requires { ⌜ now classes ≡ classTable ⌝ }
     ensures { λ r. ⌜ r ≡ heldOf (now (text .entry)) (now (table .entry)) ⌝ }
 {
-    if 8192 < text.len() {
+    if MOST_BYTES < text.len() {
         return Held::Wrong;
     }
     let mut none = [0u8; 1];

@@ -2,12 +2,11 @@
 ghost use mathlib.Core.Path.{_≡_};
 ghost use mathlib.Core.Bool.{true};
 ghost use mathlib.Core.List.{[], _∷_};
-ghost use Prim.Native.Nat.{ℕ, _+_, _-_, _≤_};
+ghost use Prim.Native.Nat.{_+_, _-_, _≤_};
 ghost use lib.ListN.{length};
 ghost use Rattle.tokens.specs.Table.{classTable};
 ghost use Rattle.reading.specs.Lexemes.{lexeme, stream, tokensOf};
 ghost use Rattle.reading.specs.Reader.{need, before};
-ghost use Rattle.grammar.specs.Rules.{isEffect};
 ghost use Rattle.grammar.specs.Parser.{noPolicy, read-principal, read-action, read-resource, read-when, read-policy, read-text};
 ghost use Rattle.table.specs.Entries.{partEntry, actionEntries, conditionEntries, policyEntries, effectKind};
 ghost use Rattle.tokens.specs.Kinds as kinds;
@@ -33,7 +32,7 @@ pub enum Whole {
     Lost(Refusal),
 }
 
-// The number by which a token is refused where a policy may begin.
+// The number by which a token is refused where a policy may begin: the effect of a 65th, or any other token.
 fn no_policy(t: Token) -> u8
     ensures { λ r. ⌜ r ≡ noPolicy (lexeme [] t) ⌝ }
 {
@@ -44,7 +43,7 @@ fn no_policy(t: Token) -> u8
     }
 }
 
-// The kind of a policy's entry.
+// The kind of a policy's entry (docs/TABLE.md).
 fn effect_kind(permits: bool) -> u8
     ensures { λ r. ⌜ r ≡ effectKind permits ⌝ }
 {
@@ -144,6 +143,7 @@ fn read_when(
     if next.kind != b'{' {
         return Answer::Refused(turned_away(text, next, 10));
     }
+    // the braces are the first of 32 levels
     let inside = read_whole(classes, text, table, seen, next.end, 31, number, same);
     expected(classes, text, inside, b'}')
 }

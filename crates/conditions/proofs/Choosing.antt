@@ -73,6 +73,16 @@ module _ {text seen : List ℕ} {from first : ℕ} {same : Bool} {inner : Reader
   unfolding awaited remaining lastFirst entriesOf
   start {T} l h = record { parts = none; word-is = refl; last-is = refl; rest = refl; kept = kept-none seen T first same; high = h; room = omega arith }
 
+  -- the part before begins no later than the next one
+  pub last-few : {total : reader.Answer Tree} {T₀ T : List ℕ} {at last free : ℕ} {ok : Bool} {word : ℕ} → Choosing text seen from first same inner total T₀ T at last free ok word → last ≤ free
+  unfolding lastFirst entriesOf
+  last-few {last = last} {free} g = go (g .parts) (g .last-is) (g .kept .counted .free-is)
+    where
+      go : (parts : Parts) → last ≡ lastFirst first parts → free ≡ first + length (entriesOf first parts) → last ≤ free
+      go none l e = omega arith
+      go (one a) l e = omega arith
+      go (two a b) l e = let x = length-append (treeEntries first a) (treeEntries (first + length (treeEntries first a)) b) in omega arith
+
   module _ {total : reader.Answer Tree} {T₀ T : List ℕ} {at last free : ℕ} {ok : Bool} {word : ℕ} (g : Choosing text seen from first same inner total T₀ T at last free ok word)
       {T₁ : List ℕ} {r : Answer} (d : Done treeEntries text seen at free ok T T₁ (inner (stream text (tokenAt text at))) r) where
     -- the refusal of a part is the refusal of all

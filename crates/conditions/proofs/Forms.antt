@@ -10,8 +10,7 @@ use lib.ListN.{length}
 use borrow.Author.Tests.{eq-eqb, ne-eqb, eqb-true, eqb-false}
 use Rattle.tokens.specs.Kinds as kinds
 use Rattle.tokens.specs.declared.reader.Token.{Token}
-use Rattle.tokens.specs.Tokens.{tokenAt, Reads}
-use Rattle.tokens.proofs.ReadLaws.{reads}
+use Rattle.tokens.specs.Tokens.{tokenAt}
 use Rattle.reading.specs.Lexemes.{Lexeme, lexeme, is, choose, stream}
 use Rattle.reading.specs.Reader.{Reader, took, numbered, refuseBy, bind, on, ten, before, mapped}
 use Rattle.reading.proofs.Stream.{stream-end, stream-token, next-on, next-off}
@@ -19,18 +18,9 @@ use Rattle.grammar.specs.Policies.{Tree, literal, choice}
 use Rattle.grammar.specs.Rules.{isLiteral, literalOf, isRoot, rootOf}
 use Rattle.grammar.specs.Parser.{noLevel, read-operator, read-rooted, read-simple, read-negated, read-bracketed, read-conditional, read-deeper, read-condition}
 use Rattle.parts.specs.Names.{rootFrom}
-
--- the token after a token stands past its first byte
-pub past-start : (text : List ℕ) (t n : Token) {from : ℕ} → Reads text from t → n ≡ tokenAt text (t .end) → (t .kind ≡ 0 → ⊥) → t .start ≤ n .start - 1
-past-start text t n r q e = rw q (let s = reads text (t .end) (r .high) .low in let x = r .some e in omega arith)
+use Rattle.parts.proofs.Sorts.{literal-some, root-some}
 
 -- ---- by the first token
-
-pub literal-some : (t : Token) → isLiteral (lexeme [] t) ≡ true → t .kind ≡ 0 → ⊥
-literal-some t h e = let z : false ≡ true = rw e at h in let y : _≡_ {A = ℕ} 0 1 = cc in omega arith
-
-pub root-some : (t : Token) → isRoot (lexeme [] t) ≡ true → t .kind ≡ 0 → ⊥
-root-some t h e = let z : false ≡ true = rw e at h in let y : _≡_ {A = ℕ} 0 1 = cc in omega arith
 
 on-same : {A : Type 0} (k : Lexeme → Bool) (f : Lexeme → Reader A) (g g′ : Reader A) (i : List Lexeme) → g i ≡ g′ i → on k f g i ≡ on k f g′ i
 unfolding on choose
@@ -66,12 +56,12 @@ module _ (text : List ℕ) (t : Token) where
   module _ (n : Token) (q : n ≡ tokenAt text (t .end)) (high : t .end ≤ length text) where
     pub literal-first : isLiteral (lexeme [] t) ≡ true → read-condition 0 (stream text t) ≡ read-operator (literal (literalOf (lexeme text t))) (stream text n)
     unfolding read-condition read-simple
-    literal-first e = next-on text t isLiteral _ _ n (literal-some t e) high q e
+    literal-first e = next-on text t isLiteral _ _ n (literal-some (lexeme [] t) e) high q e
 
     module _ (n₁ : isLiteral (lexeme [] t) ≡ false) where
       pub root-first : isRoot (lexeme [] t) ≡ true → read-condition 0 (stream text t) ≡ read-rooted (rootFrom (t .kind)) (stream text n)
       unfolding read-condition read-simple rootOf
-      root-first e = next-off text t isLiteral _ _ n₁ ∙ next-on text t isRoot _ _ n (root-some t e) high q e
+      root-first e = next-off text t isLiteral _ _ n₁ ∙ next-on text t isRoot _ _ n (root-some (lexeme [] t) e) high q e
 
       pub none-first : isRoot (lexeme [] t) ≡ false → read-condition 0 (stream text t) ≡ refuseBy noLevel (stream text t)
       unfolding read-condition read-simple

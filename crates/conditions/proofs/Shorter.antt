@@ -1,21 +1,19 @@
--- What a short answer stands for, by whether something was read. Assumes nothing.
+-- What a short answer stands for, by whether something was read, and how large its next free entry is. Assumes nothing.
 use mathlib.Core.Path.{_≡_, refl, sym, ap, _∙_}
 use mathlib.Core.Bool.{Bool, true, false, not}
-use Prim.Native.Nat.{ℕ}
+use mathlib.Core.List.{List}
+use Prim.Native.Nat.{ℕ, _≤_}
 use native.Mathlib.Omega.{arith}
-use Rattle.parts.specs.Answers.{refusal}
+use lib.ListN.{length}
+use borrow.Author.Tests.{not-true, not-false}
+use Rattle.reading.specs.Reader as reader
+use Rattle.table.specs.declared.Entry.{Entry}
+use Rattle.parts.specs.Answers.{refusal, Says, freeOf}
 use Rattle.parts.specs.declared.answers.Answer.{Answer}
 use Rattle.parts.specs.declared.answers.Answer.the-variants.{Read, Refused}
+use Rattle.parts.proofs.Writing.{free-small}
 use Rattle.conditions.specs.declared.Short.{Short}
 use Rattle.conditions.specs.Shortened.{wide, shortOf, token, tokenOf}
-
-not-false : (b : Bool) → not b ≡ false → b ≡ true
-not-false true e = refl
-not-false false e = absurd (let z : _≡_ {A = ℕ} 0 1 = cc in omega arith)
-
-not-true : (b : Bool) → not b ≡ true → b ≡ false
-not-true false e = refl
-not-true true e = absurd (let z : _≡_ {A = ℕ} 0 1 = cc in omega arith)
 
 pub read-is : (a : Short) → not (a .read) ≡ false → wide a ≡ Read (tokenOf a) (a .free) (a .same)
 unfolding wide
@@ -43,3 +41,8 @@ short-is {a = a} e = ap wide e ∙ widely a
 
 pub short-plain : {r : Short} (a : Answer) → r ≡ shortOf a → r ≡ shortOf (wide r)
 short-plain a e = e ∙ ap shortOf (sym (short-is e))
+
+-- where something was read: no more entries than the text has bytes
+pub free-few : {A : Type 0} {es : ℕ → A → List Entry} {text seen : List ℕ} {from first : ℕ} {same : Bool} {p : reader.Answer A} (a : Short) → not (a .read) ≡ false
+    → Says es text seen from first same p (wide a) → first ≤ from → a .free ≤ length text
+free-few a e s l = let x = free-small s l in let y = ap freeOf (read-is a e) in omega arith

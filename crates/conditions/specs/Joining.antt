@@ -1,4 +1,4 @@
--- What a reader of conditions may count on, what joins a part of a chain to those before it, and the words between the parts of a choice. Definitions only.
+-- What a reader of conditions may count on, what closes a condition, what joins a part of a chain to those before it, and the words between the parts of a choice. Definitions only.
 use mathlib.Core.Path.{_≡_}
 use mathlib.Core.Bool.{Bool, true, false, cond, _&&_}
 use mathlib.Core.List.{List}
@@ -9,7 +9,9 @@ use Rattle.tokens.specs.Kinds as kinds
 use Rattle.tokens.specs.Table.{classTable}
 use Rattle.table.specs.declared.Entry.{Entry}
 use Rattle.table.specs.Layout.{putAt, entryIs}
+use Rattle.conditions.specs.declared.Short.{Short}
 use Rattle.conditions.specs.declared.Count.{Count}
+use Rattle.conditions.specs.Shortened.{withEntries}
 
 -- what the readers of conditions may count on: the class table is lent, the place from which they read lies in the text at or after the place `from`, and the text is no longer than any can be
 pub record ReadyAt (classes text : List ℕ) (from at : ℕ) : Type 0 where
@@ -17,6 +19,11 @@ pub record ReadyAt (classes text : List ℕ) (from at : ℕ) : Type 0 where
   pub low : from ≤ at
   pub high : at ≤ length text
   pub small : length text ≤ 8192
+
+-- one entry more after what was read: the same token after it, and the entry put and compared
+pub record Closes (seen : List ℕ) (a : Short) (x : Entry) (old new : List ℕ) (r : Short) : Type 0 where
+  pub answer : r ≡ withEntries a (a .free + 1) (a .same && entryIs seen (a .free) x)
+  pub put : new ≡ putAt old (a .free) x
 
 -- the first part of a chain stands alone; after any other there is one entry more
 pub record Joins (seen : List ℕ) (more : Bool) (x : Entry) (free : ℕ) (same : Bool) (old new : List ℕ) (r : Count) : Type 0 where

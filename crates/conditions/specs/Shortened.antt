@@ -7,6 +7,7 @@ use Rattle.parts.specs.declared.answers.Answer.{Answer}
 use Rattle.parts.specs.declared.answers.Answer.the-variants.{Read, Refused}
 use Rattle.conditions.specs.declared.Short.{Short}
 
+-- a token of these three
 abbrev pub token : ℕ → ℕ → ℕ → Token
 token kind start end = record { kind = kind; start = start; end = end }
 

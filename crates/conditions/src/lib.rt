@@ -1,10 +1,10 @@
 // The readers of conditions. They call each other, at most `depth` levels deep: so many levels may still stand inside what is read. Chains of `&&` and `||` are loops,
 // and so are the three parts of a choice. Each gets the place from which the next token is read, puts the entries of what it reads into one table and compares them
 // with another. Their frames are what nested conditions cost on the stack, so they hold little: the text and the table that is seen are lent by a reference to their
-// slice, of which no level then needs a copy, answers are short, and a token that is handed on is taken apart before.
+// slice, of which no level then needs a copy, answers are short, the entries so far are one value of four bytes, and a token that is handed on is taken apart before.
 ghost use mathlib.Core.Path.{_≡_};
 ghost use mathlib.Core.List.{[]};
-ghost use Prim.Native.Nat.{ℕ, _+_, _-_, _<_, _≤_};
+ghost use Prim.Native.Nat.{_+_, _-_, _<_, _≤_};
 ghost use lib.ListN.{length};
 ghost use Rattle.tokens.specs.Table.{classTable};
 ghost use Rattle.tokens.specs.Tokens.{tokenAt, Reads};
@@ -12,7 +12,7 @@ ghost use Rattle.reading.specs.Lexemes.{lexeme, stream};
 ghost use Rattle.grammar.specs.Parser.{noLevel, read-condition, read-conjunction, read-disjunction, read-negated, read-bracketed, read-conditional};
 ghost use Rattle.table.specs.Entries.{treeEntries};
 ghost use Rattle.parts.specs.Answers.{Ready, Done, freeOf, turnedAway};
-ghost use Rattle.conditions.specs.Joining.{ReadyAt, Joins, wordAfter};
+ghost use Rattle.conditions.specs.Joining.{ReadyAt, Closes, Joins, wordAfter};
 ghost use Rattle.conditions.specs.Shortened.{wide, shortOf, token, tokenOf, withEntries};
 use leaves::read_operator;
 use leaves::read_rooted;
@@ -28,6 +28,17 @@ use tokens::kinds;
 use tokens::reader::Token;
 use tokens::reader::next_token;
 
+// The kinds of the entries that are put here (docs/TABLE.md).
+const NOT: u8 = 24;
+
+const BRACKETS: u8 = 25;
+
+const BOTH: u8 = 26;
+
+const EITHER: u8 = 27;
+
+const CHOICE: u8 = 28;
+
 // An answer in half the bytes. Where something was read: whether the table that is seen has the entries so far, the kind of the token after what was read, the next
 // free entry, and where that token starts and ends. Where nothing was, a refusal: `kind` is its number, `start` the place and `end` the size of the token.
 pub struct Short {
@@ -39,7 +50,7 @@ pub struct Short {
     pub end: usize,
 }
 
-// The next free entry, and whether the table that is seen has the entries so far.
+// The entries so far: the next free one, and whether the table that is seen has all before it.
 pub struct Count {
     pub free: u16,
     pub same: bool,
@@ -143,6 +154,15 @@ fn word_after(word: u8) -> u8
     if word == kinds::THEN { kinds::ELSE } else { 0 }
 }
 
+// One entry more after what was read.
+fn closed(table: &mut [u8], seen: &[u8], a: Short, x: Entry) -> Short
+    requires { ⌜ a .free < 65535 ⌝ }
+    ensures { λ r. ⌜ Closes (now (seen .entry)) a x (now (table .entry)) (now (table .exit)) r ⌝ }
+{
+    let ok = append(table, seen, a.free as usize, a.same, x);
+    with_entries(a, a.free + 1, ok)
+}
+
 // The entries after a part of a chain: where it is not the first, one more joins it to those before.
 fn joined(table: &mut [u8], seen: &[u8], free: u16, same: bool, more: bool, x: Entry) -> Count
     requires { ⌜ free < 65535 ⌝ }
@@ -229,10 +249,15 @@ pub fn read_whole(
     ensures { λ r. ⌜ Done treeEntries (now (text .entry)) (now (seen .entry)) from number same (now (table .entry)) (now (table .exit))
         (read-disjunction (read-condition depth) (stream (now (text .entry)) (tokenAt (now (text .entry)) from))) r ⌝ }
 {
-    let all = read_disjunction(classes, &text, table, &seen, from, depth, number, same);
+    let count = Count {
+        free: number as u16,
+        same,
+    };
+    let all = read_disjunction(classes, &text, table, &seen, from, depth, count);
     widened(all)
 }
 
+// Conjunctions joined by `||`.
 fn read_disjunction(
     classes: &[u8; 256],
     text: &&[u8],
@@ -240,45 +265,43 @@ fn read_disjunction(
     seen: &&[u8],
     from: usize,
     depth: usize,
-    number: usize,
-    same: bool,
+    count: Count,
 ) -> Short
-    requires { ⌜ ReadyAt (now classes) (now (now text)) number from ⌝ }
-    ensures done { λ r. ⌜ Done treeEntries (now (now (text .entry))) (now (now (seen .entry))) from number same (now (table .entry)) (now (table .exit))
+    requires { ⌜ ReadyAt (now classes) (now (now text)) (count .free) from ⌝ }
+    ensures done { λ r. ⌜ Done treeEntries (now (now (text .entry))) (now (now (seen .entry))) from (count .free) (count .same) (now (table .entry)) (now (table .exit))
         (read-disjunction (read-condition depth) (stream (now (now (text .entry))) (tokenAt (now (now (text .entry))) from))) (wide r) ⌝ }
     ensures plain { λ r. ⌜ r ≡ shortOf (wide r) ⌝ }
 {
     let mut at = from;
-    let mut free = number;
-    let mut ok = same;
+    let mut so_far = count;
     let mut more = false;
     loop {
-        let part = read_conjunction(classes, text, table, seen, at, depth, free, ok);
+        let part = read_conjunction(classes, text, table, seen, at, depth, so_far);
         if !part.read {
             return part;
         }
-        let count = joined(
+        let all = joined(
             table,
             *seen,
             part.free,
             part.same,
             more,
             Entry {
-                kind: 27,
-                first: free,
+                kind: EITHER,
+                first: so_far.free as usize,
                 second: 0,
             },
         );
         if part.kind != kinds::OR {
-            return with_entries(part, count.free, count.same);
+            return with_entries(part, all.free, all.same);
         }
         at = part.end;
-        free = count.free as usize;
-        ok = count.same;
+        so_far = all;
         more = true;
     }
 }
 
+// Conditions joined by `&&`.
 fn read_conjunction(
     classes: &[u8; 256],
     text: &&[u8],
@@ -286,45 +309,44 @@ fn read_conjunction(
     seen: &&[u8],
     from: usize,
     depth: usize,
-    number: usize,
-    same: bool,
+    count: Count,
 ) -> Short
-    requires { ⌜ ReadyAt (now classes) (now (now text)) number from ⌝ }
-    ensures done { λ r. ⌜ Done treeEntries (now (now (text .entry))) (now (now (seen .entry))) from number same (now (table .entry)) (now (table .exit))
+    requires { ⌜ ReadyAt (now classes) (now (now text)) (count .free) from ⌝ }
+    ensures done { λ r. ⌜ Done treeEntries (now (now (text .entry))) (now (now (seen .entry))) from (count .free) (count .same) (now (table .entry)) (now (table .exit))
         (read-conjunction (read-condition depth) (stream (now (now (text .entry))) (tokenAt (now (now (text .entry))) from))) (wide r) ⌝ }
     ensures plain { λ r. ⌜ r ≡ shortOf (wide r) ⌝ }
 {
     let mut at = from;
-    let mut free = number;
-    let mut ok = same;
+    let mut so_far = count;
     let mut more = false;
     loop {
-        let part = read_condition(classes, text, table, seen, at, depth, free, ok);
+        let part = read_condition(classes, text, table, seen, at, depth, so_far);
         if !part.read {
             return part;
         }
-        let count = joined(
+        let all = joined(
             table,
             *seen,
             part.free,
             part.same,
             more,
             Entry {
-                kind: 26,
-                first: free,
+                kind: BOTH,
+                first: so_far.free as usize,
                 second: 0,
             },
         );
         if part.kind != kinds::AND {
-            return with_entries(part, count.free, count.same);
+            return with_entries(part, all.free, all.same);
         }
         at = part.end;
-        free = count.free as usize;
-        ok = count.same;
+        so_far = all;
         more = true;
     }
 }
 
+// A condition, by its first token and the levels that are left. The reader of one that holds no other is called from two places: a function that is called once the
+// compiler puts into its caller, and its frame would stand on the stack at every level (docs/BENCH.md).
 fn read_condition(
     classes: &[u8; 256],
     text: &&[u8],
@@ -332,11 +354,10 @@ fn read_condition(
     seen: &&[u8],
     from: usize,
     depth: usize,
-    number: usize,
-    same: bool,
+    count: Count,
 ) -> Short
-    requires { ⌜ ReadyAt (now classes) (now (now text)) number from ⌝ }
-    ensures done { λ r. ⌜ Done treeEntries (now (now (text .entry))) (now (now (seen .entry))) from number same (now (table .entry)) (now (table .exit))
+    requires { ⌜ ReadyAt (now classes) (now (now text)) (count .free) from ⌝ }
+    ensures done { λ r. ⌜ Done treeEntries (now (now (text .entry))) (now (now (seen .entry))) from (count .free) (count .same) (now (table .entry)) (now (table .exit))
         (read-condition depth (stream (now (now (text .entry))) (tokenAt (now (now (text .entry))) from))) (wide r) ⌝ }
     ensures plain { λ r. ⌜ r ≡ shortOf (wide r) ⌝ }
 {
@@ -350,18 +371,18 @@ fn read_condition(
             t.kind,
             t.start,
             t.end,
-            number,
-            same,
+            count.free as usize,
+            count.same,
         );
     }
     if t.kind == b'!' {
-        return read_negation(classes, text, table, seen, t.end, depth - 1, number, same);
+        return read_negation(classes, text, table, seen, t.end, depth - 1, count);
     }
     if t.kind == b'(' {
-        return read_group(classes, text, table, seen, t.end, depth - 1, number, same);
+        return read_group(classes, text, table, seen, t.end, depth - 1, count);
     }
     if t.kind == kinds::IF {
-        return read_choice(classes, text, table, seen, t.end, depth - 1, number, same);
+        return read_choice(classes, text, table, seen, t.end, depth - 1, count);
     }
     read_plain(
         classes,
@@ -371,8 +392,8 @@ fn read_condition(
         t.kind,
         t.start,
         t.end,
-        number,
-        same,
+        count.free as usize,
+        count.same,
     )
 }
 
@@ -384,30 +405,27 @@ fn read_negation(
     seen: &&[u8],
     from: usize,
     depth: usize,
-    number: usize,
-    same: bool,
+    count: Count,
 ) -> Short
-    requires { ⌜ ReadyAt (now classes) (now (now text)) (number + 1) from ⌝ }
-    ensures done { λ r. ⌜ Done treeEntries (now (now (text .entry))) (now (now (seen .entry))) (from - 1) number same (now (table .entry)) (now (table .exit))
+    requires { ⌜ ReadyAt (now classes) (now (now text)) (count .free + 1) from ⌝ }
+    ensures done { λ r. ⌜ Done treeEntries (now (now (text .entry))) (now (now (seen .entry))) (from - 1) (count .free) (count .same) (now (table .entry)) (now (table .exit))
         (read-negated (read-condition depth) (stream (now (now (text .entry))) (tokenAt (now (now (text .entry))) from))) (wide r) ⌝ }
     ensures plain { λ r. ⌜ r ≡ shortOf (wide r) ⌝ }
 {
-    let inside = read_condition(classes, text, table, seen, from, depth, number, same);
+    let inside = read_condition(classes, text, table, seen, from, depth, count);
     if !inside.read {
         return inside;
     }
-    let all = append(
+    closed(
         table,
         *seen,
-        inside.free as usize,
-        inside.same,
+        inside,
         Entry {
-            kind: 24,
+            kind: NOT,
             first: 0,
             second: 0,
         },
-    );
-    with_entries(inside, inside.free + 1, all)
+    )
 }
 
 // After `(`.
@@ -418,15 +436,14 @@ fn read_group(
     seen: &&[u8],
     from: usize,
     depth: usize,
-    number: usize,
-    same: bool,
+    count: Count,
 ) -> Short
-    requires { ⌜ ReadyAt (now classes) (now (now text)) (number + 1) from ⌝ }
-    ensures done { λ r. ⌜ Done treeEntries (now (now (text .entry))) (now (now (seen .entry))) (from - 1) number same (now (table .entry)) (now (table .exit))
+    requires { ⌜ ReadyAt (now classes) (now (now text)) (count .free + 1) from ⌝ }
+    ensures done { λ r. ⌜ Done treeEntries (now (now (text .entry))) (now (now (seen .entry))) (from - 1) (count .free) (count .same) (now (table .entry)) (now (table .exit))
         (read-bracketed (read-condition depth) (stream (now (now (text .entry))) (tokenAt (now (now (text .entry))) from))) (wide r) ⌝ }
     ensures plain { λ r. ⌜ r ≡ shortOf (wide r) ⌝ }
 {
-    let inside = read_disjunction(classes, text, table, seen, from, depth, number, same);
+    let inside = read_disjunction(classes, text, table, seen, from, depth, count);
     if !inside.read {
         return inside;
     }
@@ -434,28 +451,27 @@ fn read_group(
         return stopped(*text, inside);
     }
     let next = token_at(classes, text, inside.end);
-    let all = append(
+    let after = Short {
+        read: true,
+        same: inside.same,
+        kind: next.kind,
+        free: inside.free,
+        start: next.start,
+        end: next.end,
+    };
+    closed(
         table,
         *seen,
-        inside.free as usize,
-        inside.same,
+        after,
         Entry {
-            kind: 25,
+            kind: BRACKETS,
             first: 0,
             second: 0,
         },
-    );
-    Short {
-        read: true,
-        same: all,
-        kind: next.kind,
-        free: inside.free + 1,
-        start: next.start,
-        end: next.end,
-    }
+    )
 }
 
-// After `if`: three parts, of which `word` must follow each but the last. `before` is the first entry of the part before.
+// After `if`: three parts, of which `word` must follow each but the last. `last` is the first entry of the part before.
 fn read_choice(
     classes: &[u8; 256],
     text: &&[u8],
@@ -463,45 +479,43 @@ fn read_choice(
     seen: &&[u8],
     from: usize,
     depth: usize,
-    number: usize,
-    same: bool,
+    count: Count,
 ) -> Short
-    requires { ⌜ ReadyAt (now classes) (now (now text)) (number + 1) from ⌝ }
-    ensures done { λ r. ⌜ Done treeEntries (now (now (text .entry))) (now (now (seen .entry))) (from - 1) number same (now (table .entry)) (now (table .exit))
+    requires { ⌜ ReadyAt (now classes) (now (now text)) (count .free + 1) from ⌝ }
+    ensures done { λ r. ⌜ Done treeEntries (now (now (text .entry))) (now (now (seen .entry))) (from - 1) (count .free) (count .same) (now (table .entry)) (now (table .exit))
         (read-conditional (read-condition depth) (stream (now (now (text .entry))) (tokenAt (now (now (text .entry))) from))) (wide r) ⌝ }
     ensures plain { λ r. ⌜ r ≡ shortOf (wide r) ⌝ }
 {
     let mut at = from;
-    let mut before = number;
-    let mut free = number;
-    let mut ok = same;
+    let mut last = count.free;
+    let mut so_far = count;
     let mut word = kinds::THEN;
     loop {
-        let part = read_condition(classes, text, table, seen, at, depth, free, ok);
+        let part = read_condition(classes, text, table, seen, at, depth, so_far);
         if !part.read {
             return part;
         }
         if word == 0 {
-            let all = append(
+            return closed(
                 table,
                 *seen,
-                part.free as usize,
-                part.same,
+                part,
                 Entry {
-                    kind: 28,
-                    first: before,
-                    second: free,
+                    kind: CHOICE,
+                    first: last as usize,
+                    second: so_far.free as usize,
                 },
             );
-            return with_entries(part, part.free + 1, all);
         }
         if part.kind != word {
             return stopped(*text, part);
         }
         at = part.end;
-        before = free;
-        free = part.free as usize;
-        ok = part.same;
+        last = so_far.free;
+        so_far = Count {
+            free: part.free,
+            same: part.same,
+        };
         word = word_after(word);
     }
 }

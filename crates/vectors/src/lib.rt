@@ -12,7 +12,7 @@ ghost use Rattle.io.specs.Counts.{Counts};
 pub fn vector_count() -> u32 {
     let mut b = [0u8; 4];
     io::read_full(STDIN_FILENO, &mut b);
-    two_bytes(b[0], b[1]) + two_bytes(b[2], b[3]) * 65536
+    (two_bytes(b[0], b[1]) + two_bytes(b[2], b[3]) * 65536) as u32
 }
 
 // Reads the next part into the beginning of buf, and gives how many bytes came. What does not fit is passed over.
@@ -89,13 +89,14 @@ fn part_size() -> usize
 {
     let mut b = [0u8; 2];
     io::read_full(STDIN_FILENO, &mut b);
-    two_bytes(b[0], b[1]) as usize
+    two_bytes(b[0], b[1])
 }
 
-fn two_bytes(low: u8, high: u8) -> u32
+// The number of two bytes.
+pub fn two_bytes(low: u8, high: u8) -> usize
     ensures { λ r. ⌜ r < 65536 ⌝ }
 {
-    low as u32 + high as u32 * 256
+    low as usize + high as usize * 256
 }
 
 // Reads n bytes, and keeps none of them.

@@ -2,10 +2,6 @@
 use borrow.Author.Needs.{needs}
 use Rattle.begins_vectors.proofs.main.Statement.{statement}
 use Rattle.begins_vectors.proofs.main.Tie as tie
-use Rattle.begins_vectors.proofs.main.Reads as reads
-use Rattle.begins_vectors.proofs.main.Lts as lts
-use Rattle.begins_vectors.proofs.vector.Reads as vector-reads
-use Rattle.vectors.proofs.vector_count.Reads as vector-count-reads
 
 abbrev Inv-loop : tie.InvT-loop
 Inv-loop left₀ left = Unit {0}

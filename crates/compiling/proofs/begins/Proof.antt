@@ -1,6 +1,5 @@
 -- `compiling::begins` meets its contract: by whether the table is held. Assumes nothing.
 use Rattle.compiling.proofs.Outcomes.{right-begins, wrong-begins}
-use Rattle.compiling.proofs.Outcomes.{right-begins, wrong-begins}
 use mathlib.Core.Path.{_∙_, sym}
 use borrow.Author.Needs.{needs}
 use Rattle.compiling.proofs.begins.Statement.{statement}

@@ -1,6 +1,5 @@
 -- `compiling::held_policies` meets its contract: by what the readers tell of the table that they compare with. Assumes nothing.
 use Rattle.compiling.proofs.Outcomes.{as-complete, as-lost, too-long-held, fitting-held, lost-held, right-held, wrong-held}
-use Rattle.compiling.proofs.Outcomes.{as-complete, as-lost, too-long-held, fitting-held, lost-held, right-held, wrong-held}
 use Rattle.compiling.specs.Outcome.{said}
 use mathlib.Core.Path.{_∙_, sym}
 use borrow.Author.Needs.{needs}

@@ -1,6 +1,5 @@
 -- `compiling::recognise` meets its contract: by the sizes, and by what the readers tell. Assumes nothing.
 use Rattle.compiling.proofs.Outcomes.{as-complete, as-lost, too-long, no-room, fitting, turned-found, complete-found}
-use Rattle.compiling.proofs.Outcomes.{as-complete, as-lost, too-long, no-room, fitting, turned-found, complete-found}
 use Rattle.compiling.specs.Outcome.{said}
 use mathlib.Core.Path.{_∙_, sym}
 use borrow.Author.Needs.{needs}

@@ -6,9 +6,9 @@ use Rattle.conditions.proofs.Chains.{Going, start, low, so-far, refuses
 use Rattle.conditions.proofs.Choosing as choosing
 use Rattle.conditions.proofs.Choosing.{Choosing}
 use Rattle.conditions.proofs.Apart.{closing-read, follows, fails}
-use Rattle.conditions.proofs.Earlier.{at-place, ready-from, weaker, told-as}
-use Rattle.conditions.proofs.Shorter.{read-is, refused-is, with-is, with-plain, short-is, short-plain}
-use Rattle.parts.proofs.Writing.{done-as, turned-done, as-read, as-refused, kept-none}
+use Rattle.conditions.proofs.Earlier.{at-place, ready-from, told-as}
+use Rattle.conditions.proofs.Shorter.{read-is, refused-is, with-is, with-plain, short-is, short-plain, free-few}
+use Rattle.parts.proofs.Writing.{done-as, weaker, turned-done, as-read, as-refused, kept-none}
 use Rattle.parts.proofs.Standing.{turned-bind}
 use Rattle.table.specs.Entries.{entry, treeEntries}
 use Rattle.grammar.proofs.Steps.{conjunction-step, disjunction-step}
@@ -44,13 +44,13 @@ use Rattle.conditions.proofs.+read_choice+read_condition+read_conjuncti
 use Rattle.conditions.proofs.read_negation.Reads as read-negation
 use Rattle.conditions.proofs.read_negation.Kinds as read-negation-kinds
 use Rattle.conditions.proofs.+read_choice+read_condition+read_conjunction+read_disjunction+read_group+read_negation.Lts-read_negation as read-negation-lts
+use Rattle.conditions.proofs.closed.Reads as closed-reads
 use Rattle.conditions.proofs.joined.Reads as joined-reads
 use Rattle.conditions.proofs.read_plain.Reads as read-plain-reads
 use Rattle.conditions.proofs.stopped.Reads as stopped-reads
 use Rattle.conditions.proofs.token_at.Reads as token-at-reads
 use Rattle.conditions.proofs.with_entries.Reads as with-entries-reads
 use Rattle.conditions.proofs.word_after.Reads as word-after-reads
-use Rattle.table.proofs.append.Reads as append-reads
 use Rattle.conditions.proofs.+read_choice+read_condition+read_conjunction+read_disjunction+read_group+read_negation.{
   statement,
 }
@@ -113,14 +113,14 @@ abbrev read-negation-below : ℕ → In 6 read-negation-kinds.ps
 read-negation-below t = and 6 read-negation-kinds.ps (falls 6 read-negation-kinds.ps _<_ μ-read-negation t) read-negation.Pre
 
 abbrev read-choice-Inv-loop : read-choice-lts.InvT-loop
-read-choice-Inv-loop classes text table₀ seen from depth number same at₀ before₀ free₀ ok₀ word₀ table at before free ok word =
-    Choosing (text .now) (seen .now) (from - 1) number same (read-condition-spec depth) (read-conditional (read-condition-spec depth) (stream (text .now) (tokenAt (text .now) from))) table₀ table at before free ok word × (length table ≡ length table₀)
+read-choice-Inv-loop classes text table₀ seen from depth at₀ last₀ so-far₀ word₀ table at last so-far word =
+    Choosing (text .now) (seen .now) (from - 1) (so-far₀ .free) (so-far₀ .same) (read-condition-spec depth) (read-conditional (read-condition-spec depth) (stream (text .now) (tokenAt (text .now) from))) table₀ table at last (so-far .free) (so-far .same) word × (length table ≡ length table₀)
 
 abbrev read-choice-μ-loop : read-choice-lts.MeasureT-loop
-read-choice-μ-loop classes text table₀ seen from depth number same at₀ before₀ free₀ ok₀ word₀ table at before free ok word = length (text .now) - at
+read-choice-μ-loop classes text table₀ seen from depth at₀ last₀ so-far₀ word₀ table at last so-far word = length (text .now) - at
 
 abbrev read-choice-claims : ℕ → read-choice-lts.Claims
-read-choice-claims t = (read-condition-below t, read-condition.Post, append-reads.Asked, append-reads.Learnt, with-entries-reads.Asked, with-entries-reads.Learnt, stopped-reads.Asked, stopped-reads.Learnt, word-after-reads.Asked, word-after-reads.Learnt)
+read-choice-claims t = (read-condition-below t, read-condition.Post, closed-reads.Asked, closed-reads.Learnt, stopped-reads.Asked, stopped-reads.Learnt, word-after-reads.Asked, word-after-reads.Learnt)
 
 abbrev read-condition-claims : ℕ → read-condition-lts.Claims
 read-condition-claims t = (token-at-reads.Asked, token-at-reads.Learnt, read-plain-reads.Asked, read-plain-reads.Learnt, read-negation-below t, read-negation.Post, read-group-below t, read-group.Post, read-choice-below t, read-choice.Post)
@@ -132,10 +132,10 @@ abbrev read-disjunction-claims : ℕ → read-disjunction-lts.Claims
 read-disjunction-claims t = (read-conjunction-below t, read-conjunction.Post, joined-reads.Asked, joined-reads.Learnt, with-entries-reads.Asked, with-entries-reads.Learnt)
 
 abbrev read-group-claims : ℕ → read-group-lts.Claims
-read-group-claims t = (read-disjunction-below t, read-disjunction.Post, stopped-reads.Asked, stopped-reads.Learnt, token-at-reads.Asked, token-at-reads.Learnt, append-reads.Asked, append-reads.Learnt)
+read-group-claims t = (read-disjunction-below t, read-disjunction.Post, stopped-reads.Asked, stopped-reads.Learnt, token-at-reads.Asked, token-at-reads.Learnt, closed-reads.Asked, closed-reads.Learnt)
 
 abbrev read-negation-claims : ℕ → read-negation-lts.Claims
-read-negation-claims t = (read-condition-below t, read-condition.Post, append-reads.Asked, append-reads.Learnt, with-entries-reads.Asked, with-entries-reads.Learnt)
+read-negation-claims t = (read-condition-below t, read-condition.Post, closed-reads.Asked, closed-reads.Learnt)
 
 read-choice-loop-holds : (t : ℕ) → read-choice-lts.Need-loop-holds (read-choice-claims t) (read-choice-at t) read-choice.Post read-choice-Inv-loop read-choice-μ-loop
 read-choice-loop-holds t c = (choosing.start (omega (arith, c .before .pre .1 .low)) (c .before .pre .1 .high), refl)
@@ -152,31 +152,22 @@ read-choice-returns t c = (
   c .before .before .before .before .read-condition .ensures .1,
 )
 
-read-choice-cast-append : (t : ℕ) → read-choice-lts.Need-cast-append (read-choice-claims t) (read-choice-at t) read-choice.Post read-choice-Inv-loop read-choice-μ-loop
-read-choice-cast-append t c =
-    let k = as-read (read-is _ (c .before .before .before .before .if1 .left)) (c .before .before .before .before .before .before .before .before .read-condition .ensures .0 .says) in
-    omega (arith, k .room, k .lies .order, k .lies .high, c .before .before .before .before .before .before .before .before .before .before .loop .inv .0 .room, c .before .before .before .before .before .before .before .before .before .before .before .before .pre .1 .low, c .before .before .before .before .before .before .before .before .before .before .before .before .pre .1 .small)
+read-choice-cast-t19 : (t : ℕ) → read-choice-lts.Need-cast-t19 (read-choice-claims t) (read-choice-at t) read-choice.Post read-choice-Inv-loop read-choice-μ-loop
+read-choice-cast-t19 t c = let g = c .before .before .before .before .before .before .before .before .before .loop .inv .0 in omega (arith, choosing.last-few g, g .room, g .high, c .before .before .before .before .before .before .before .before .before .before .before .pre .1 .low, c .before .before .before .before .before .before .before .before .before .before .before .pre .1 .small)
 
-read-choice-append-requires : (t : ℕ) → read-choice-lts.Need-append-requires (read-choice-claims t) (read-choice-at t) read-choice.Post read-choice-Inv-loop read-choice-μ-loop
-read-choice-append-requires t c κs =
-    let k = as-read (read-is _ (c .before .before .before .before .if1 .left)) (c .before .before .before .before .before .before .before .before .read-condition .ensures .0 .says) in
-    omega (arith, k .room, k .lies .order, k .lies .high, c .before .before .before .before .before .before .before .before .before .before .loop .inv .0 .room, c .before .before .before .before .before .before .before .before .before .before .before .before .pre .1 .low, c .before .before .before .before .before .before .before .before .before .before .before .before .pre .1 .small)
+read-choice-cast-t20 : (t : ℕ) → read-choice-lts.Need-cast-t20 (read-choice-claims t) (read-choice-at t) read-choice.Post read-choice-Inv-loop read-choice-μ-loop
+read-choice-cast-t20 t c = let g = c .before .before .before .before .before .before .before .before .before .before .loop .inv .0 in omega (arith, g .room, g .high, c .before .before .before .before .before .before .before .before .before .before .before .before .pre .1 .low, c .before .before .before .before .before .before .before .before .before .before .before .before .pre .1 .small)
 
-read-choice-add-with-entries : (t : ℕ) → read-choice-lts.Need-add-with-entries (read-choice-claims t) (read-choice-at t) read-choice.Post read-choice-Inv-loop read-choice-μ-loop
-read-choice-add-with-entries t c =
-    let k = as-read (read-is _ (c .before .before .before .before .before .before .before .before .if1 .left)) (c .before .before .before .before .before .before .before .before .before .before .before .before .read-condition .ensures .0 .says) in
-    omega (arith, k .room, k .lies .order, k .lies .high, c .before .before .before .before .before .before .before .before .before .before .before .before .before .before .loop .inv .0 .room, c .before .before .before .before .before .before .before .before .before .before .before .before .before .before .before .before .pre .1 .low, c .before .before .before .before .before .before .before .before .before .before .before .before .before .before .before .before .pre .1 .small)
-
-read-choice-with-entries-requires : (t : ℕ) → read-choice-lts.Need-with-entries-requires (read-choice-claims t) (read-choice-at t) read-choice.Post read-choice-Inv-loop read-choice-μ-loop
-read-choice-with-entries-requires t c κs = search needs
+read-choice-closed-requires : (t : ℕ) → read-choice-lts.Need-closed-requires (read-choice-claims t) (read-choice-at t) read-choice.Post read-choice-Inv-loop read-choice-μ-loop
+read-choice-closed-requires t c κs = omega (arith, free-few _ (c .before .before .before .before .if1 .left) (c .before .before .before .before .before .before .before .before .read-condition .ensures .0 .says) (omega (arith, c .before .before .before .before .before .before .before .before .before .before .loop .inv .0 .room, c .before .before .before .before .before .before .before .before .before .before .before .before .pre .1 .low)), c .before .before .before .before .before .before .before .before .before .before .before .before .pre .1 .small)
 
 read-choice-same-length-2 : (t : ℕ) → read-choice-lts.Need-same-length-2 (read-choice-claims t) (read-choice-at t) read-choice.Post read-choice-Inv-loop read-choice-μ-loop
-read-choice-same-length-2 t c = omega (arith, c .before .before .before .before .append .kept, c .before .before .before .before .before .before .before .before .before .before .before .before .before .read-condition .kept, c .before .before .before .before .before .before .before .before .before .before .before .before .before .before .before .loop .inv .1)
+read-choice-same-length-2 t c = omega (arith, c .before .before .closed .kept, c .before .before .before .before .before .before .before .before .before .before .before .read-condition .kept, c .before .before .before .before .before .before .before .before .before .before .before .before .before .loop .inv .1)
 
 read-choice-returns-2 : (t : ℕ) → read-choice-lts.Need-returns-2 (read-choice-claims t) (read-choice-at t) read-choice.Post read-choice-Inv-loop read-choice-μ-loop
 read-choice-returns-2 t c = (
-  told-as (with-is (c .with-entries .ensures)) (choosing.ends (c .before .before .before .before .before .before .before .before .before .before .before .before .before .before .before .loop .inv .0) (c .before .before .before .before .before .before .before .before .before .before .before .before .before .read-condition .ensures .0) (read-is _ (c .before .before .before .before .before .before .before .before .before .if1 .left)) (c .before .before .before .before .before .before .before .before .if2 .taken) (c .before .before .before .before .append .ensures)),
-  with-plain (c .with-entries .ensures),
+  told-as (with-is (c .before .before .closed .ensures .answer)) (choosing.ends (c .before .before .before .before .before .before .before .before .before .before .before .before .before .loop .inv .0) (c .before .before .before .before .before .before .before .before .before .before .before .read-condition .ensures .0) (read-is _ (c .before .before .before .before .before .before .before .if1 .left)) (c .before .before .before .before .before .before .if2 .taken) (refl, c .before .before .closed .ensures .put)),
+  with-plain (c .before .before .closed .ensures .answer),
 )
 
 read-choice-stopped-requires : (t : ℕ) → read-choice-lts.Need-stopped-requires (read-choice-claims t) (read-choice-at t) read-choice.Post read-choice-Inv-loop read-choice-μ-loop
@@ -191,37 +182,35 @@ read-choice-returns-3 t c = (
   short-plain _ (c .stopped .ensures),
 )
 
-read-choice-cast-free : (t : ℕ) → read-choice-lts.Need-cast-free (read-choice-claims t) (read-choice-at t) read-choice.Post read-choice-Inv-loop read-choice-μ-loop
-read-choice-cast-free t c =
-    let k = as-read (read-is _ (c .before .before .before .before .if1 .left)) (c .before .before .before .before .before .before .before .before .read-condition .ensures .0 .says) in
-    omega (arith, k .room, k .lies .order, k .lies .high, c .before .before .before .before .before .before .before .before .before .before .loop .inv .0 .room, c .before .before .before .before .before .before .before .before .before .before .before .before .pre .1 .low, c .before .before .before .before .before .before .before .before .before .before .before .before .pre .1 .small)
-
 read-choice-word-after-requires : (t : ℕ) → read-choice-lts.Need-word-after-requires (read-choice-claims t) (read-choice-at t) read-choice.Post read-choice-Inv-loop read-choice-μ-loop
 read-choice-word-after-requires t c κs = search needs
 
 read-choice-loop-less : (t : ℕ) → read-choice-lts.Need-loop-less (read-choice-claims t) (read-choice-at t) read-choice.Post read-choice-Inv-loop read-choice-μ-loop
-read-choice-loop-less t c = let k = as-read (read-is _ (c .before .before .before .before .before .if1 .left)) (c .before .before .before .before .before .before .before .before .before .read-condition .ensures .0 .says) in omega (arith, k .lies .low, k .lies .order, k .lies .high)
+read-choice-loop-less t c = let k = as-read (read-is _ (c .before .before .before .before .if1 .left)) (c .before .before .before .before .before .before .before .before .read-condition .ensures .0 .says) in omega (arith, k .lies .low, k .lies .order, k .lies .high)
 
 read-choice-loop-again : (t : ℕ) → read-choice-lts.Need-loop-again (read-choice-claims t) (read-choice-at t) read-choice.Post read-choice-Inv-loop read-choice-μ-loop
 read-choice-loop-again t c = (
-  rw (c .word-after .ensures) (choosing.turn (c .before .before .before .before .before .before .before .before .before .before .before .loop .inv .0) (c .before .before .before .before .before .before .before .before .before .read-condition .ensures .0) (read-is _ (c .before .before .before .before .before .if1 .left)) (c .before .before .before .before .if2 .left) (c .before .before .if3 .left)),
-  omega (arith, c .before .before .before .before .before .before .before .before .before .read-condition .kept, c .before .before .before .before .before .before .before .before .before .before .before .loop .inv .1),
+  rw (c .word-after .ensures) (choosing.turn (c .before .before .before .before .before .before .before .before .before .before .loop .inv .0) (c .before .before .before .before .before .before .before .before .read-condition .ensures .0) (read-is _ (c .before .before .before .before .if1 .left)) (c .before .before .before .if2 .left) (c .before .if3 .left)),
+  omega (arith, c .before .before .before .before .before .before .before .before .read-condition .kept, c .before .before .before .before .before .before .before .before .before .before .loop .inv .1),
 )
 
 read-condition-token-at-requires : (t : ℕ) → read-condition-lts.Need-token-at-requires (read-condition-claims t) (read-condition-at t) read-condition.Post
 read-condition-token-at-requires t c κs = (c .before .pre .1 .table, c .before .pre .1 .high)
 
+read-condition-cast-read-plain : (t : ℕ) → read-condition-lts.Need-cast-read-plain (read-condition-claims t) (read-condition-at t) read-condition.Post
+read-condition-cast-read-plain t c = omega (arith, c .before .before .before .before .before .pre .1 .low, c .before .before .before .before .before .pre .1 .high, c .before .before .before .before .before .pre .1 .small)
+
 read-condition-read-plain-requires : (t : ℕ) → read-condition-lts.Need-read-plain-requires (read-condition-claims t) (read-condition-at t) read-condition.Post
-read-condition-read-plain-requires t c κs = (ready-from (c .before .before .before .before .pre .1) (c .before .before .token-at .ensures .1), c .before .before .before .before .pre .1 .small)
+read-condition-read-plain-requires t c κs = (ready-from (c .before .before .before .before .before .pre .1) (c .before .before .before .token-at .ensures .1), c .before .before .before .before .before .pre .1 .small)
 
 read-condition-same-length : (t : ℕ) → read-condition-lts.Need-same-length (read-condition-claims t) (read-condition-at t) read-condition.Post
 read-condition-same-length t c = search needs
 
 read-condition-returns : (t : ℕ) → read-condition-lts.Need-returns (read-condition-claims t) (read-condition-at t) read-condition.Post
 read-condition-returns t c =
-    let a = c .before .before .before .before .before .before .before .args in (
-      done-as (ap (λ (d : ℕ). read-condition-spec d (stream (a .text .now .now) (tokenAt (a .text .now .now) (a .from)))) (c .before .before .before .before .if1 .taken) ∙ ap (λ (x : Token). read-condition-spec 0 (stream (a .text .now .now) x)) (sym (c .before .before .before .before .before .token-at .ensures .0)))
-          (weaker (c .before .before .before .before .before .token-at .ensures .1 .low) (c .before .before .read-plain .ensures .0)),
+    let a = c .before .before .before .before .before .before .before .before .args in (
+      done-as (ap (λ (d : ℕ). read-condition-spec d (stream (a .text .now .now) (tokenAt (a .text .now .now) (a .from)))) (c .before .before .before .before .before .if1 .taken) ∙ ap (λ (x : Token). read-condition-spec 0 (stream (a .text .now .now) x)) (sym (c .before .before .before .before .before .before .token-at .ensures .0)))
+          (weaker (c .before .before .before .before .before .before .token-at .ensures .1 .low) (c .before .before .read-plain .ensures .0)),
       c .before .before .read-plain .ensures .1,
     )
 
@@ -282,26 +271,29 @@ read-condition-returns-4 t c =
       c .before .before .read-choice .ensures .1,
     )
 
+read-condition-cast-read-plain-2 : (t : ℕ) → read-condition-lts.Need-cast-read-plain-2 (read-condition-claims t) (read-condition-at t) read-condition.Post
+read-condition-cast-read-plain-2 t c = omega (arith, c .before .before .before .before .before .before .before .before .before .before .before .pre .1 .low, c .before .before .before .before .before .before .before .before .before .before .before .pre .1 .high, c .before .before .before .before .before .before .before .before .before .before .before .pre .1 .small)
+
 read-condition-read-plain-requires-2 : (t : ℕ) → read-condition-lts.Need-read-plain-requires-2 (read-condition-claims t) (read-condition-at t) read-condition.Post
-read-condition-read-plain-requires-2 t c κs = (ready-from (c .before .before .before .before .before .before .before .before .before .before .pre .1) (c .before .before .before .before .before .before .before .before .token-at .ensures .1), c .before .before .before .before .before .before .before .before .before .before .pre .1 .small)
+read-condition-read-plain-requires-2 t c κs = (ready-from (c .before .before .before .before .before .before .before .before .before .before .before .pre .1) (c .before .before .before .before .before .before .before .before .before .token-at .ensures .1), c .before .before .before .before .before .before .before .before .before .before .before .pre .1 .small)
 
 read-condition-same-length-5 : (t : ℕ) → read-condition-lts.Need-same-length-5 (read-condition-claims t) (read-condition-at t) read-condition.Post
 read-condition-same-length-5 t c = search needs
 
 read-condition-returns-5 : (t : ℕ) → read-condition-lts.Need-returns-5 (read-condition-claims t) (read-condition-at t) read-condition.Post
 read-condition-returns-5 t c =
-    let a = c .before .before .before .before .before .before .before .before .before .before .before .before .before .args in let t = c .before .before .before .before .before .before .before .before .before .before .before .token-at .result in let r = c .before .before .before .before .before .before .before .before .before .before .before .token-at .ensures .1 in (
-      done-as (ap (λ (x : Token). read-condition-spec (a .depth) (stream (a .text .now .now) x)) (sym (c .before .before .before .before .before .before .before .before .before .before .before .token-at .ensures .0)) ∙ flat-first (a .text .now .now) t (tokenAt (a .text .now .now) (t .end)) refl (r .high) (a .depth) (c .before .before .before .before .before .before .before .before .before .before .if1 .left) (c .before .before .before .before .before .before .before .before .if2 .left) (c .before .before .before .before .before .before .if3 .left) (c .before .before .before .before .if4 .left))
+    let a = c .before .before .before .before .before .before .before .before .before .before .before .before .before .before .args in let t = c .before .before .before .before .before .before .before .before .before .before .before .before .token-at .result in let r = c .before .before .before .before .before .before .before .before .before .before .before .before .token-at .ensures .1 in (
+      done-as (ap (λ (x : Token). read-condition-spec (a .depth) (stream (a .text .now .now) x)) (sym (c .before .before .before .before .before .before .before .before .before .before .before .before .token-at .ensures .0)) ∙ flat-first (a .text .now .now) t (tokenAt (a .text .now .now) (t .end)) refl (r .high) (a .depth) (c .before .before .before .before .before .before .before .before .before .before .before .if1 .left) (c .before .before .before .before .before .before .before .before .before .if2 .left) (c .before .before .before .before .before .before .before .if3 .left) (c .before .before .before .before .before .if4 .left))
           (weaker (r .low) (c .before .before .read-plain2 .ensures .0)),
       c .before .before .read-plain2 .ensures .1,
     )
 
 abbrev read-conjunction-Inv-loop : read-conjunction-lts.InvT-loop
-read-conjunction-Inv-loop classes text table₀ seen from depth number same at₀ free₀ ok₀ more₀ table at free ok more =
-    Going (text .now) (seen .now) from number same kinds.and both (read-condition-spec depth) (read-conjunction-spec (read-condition-spec depth) (stream (text .now) (tokenAt (text .now) from))) table₀ table at free ok more × (length table ≡ length table₀)
+read-conjunction-Inv-loop classes text table₀ seen from depth at₀ so-far₀ more₀ table at so-far more =
+    Going (text .now) (seen .now) from (so-far₀ .free) (so-far₀ .same) kinds.and both (read-condition-spec depth) (read-conjunction-spec (read-condition-spec depth) (stream (text .now) (tokenAt (text .now) from))) table₀ table at (so-far .free) (so-far .same) more × (length table ≡ length table₀)
 
 abbrev read-conjunction-μ-loop : read-conjunction-lts.MeasureT-loop
-read-conjunction-μ-loop classes text table₀ seen from depth number same at₀ free₀ ok₀ more₀ table at free ok more = length (text .now) - at
+read-conjunction-μ-loop classes text table₀ seen from depth at₀ so-far₀ more₀ table at so-far more = length (text .now) - at
 
 read-conjunction-loop-holds : (t : ℕ) → read-conjunction-lts.Need-loop-holds (read-conjunction-claims t) (read-conjunction-at t) read-conjunction.Post read-conjunction-Inv-loop read-conjunction-μ-loop
 unfolding read-conjunction-spec read-joined chain
@@ -319,29 +311,24 @@ read-conjunction-returns t c = (
   c .before .before .before .before .read-condition .ensures .1,
 )
 
+read-conjunction-cast-t19 : (t : ℕ) → read-conjunction-lts.Need-cast-t19 (read-conjunction-claims t) (read-conjunction-at t) read-conjunction.Post read-conjunction-Inv-loop read-conjunction-μ-loop
+read-conjunction-cast-t19 t c = let g = c .before .before .before .before .before .before .before .before .before .loop .inv .0 in omega (arith, low g (c .before .before .before .before .before .before .before .before .before .before .before .pre .1 .low), g .high, c .before .before .before .before .before .before .before .before .before .before .before .pre .1 .small)
+
 read-conjunction-joined-requires : (t : ℕ) → read-conjunction-lts.Need-joined-requires (read-conjunction-claims t) (read-conjunction-at t) read-conjunction.Post read-conjunction-Inv-loop read-conjunction-μ-loop
-read-conjunction-joined-requires t c κs =
-    let k = as-read (read-is _ (c .before .before .if1 .left)) (c .before .before .before .before .before .before .read-condition .ensures .0 .says) in
-    omega (arith, k .room, k .lies .order, k .lies .high, low (c .before .before .before .before .before .before .before .before .loop .inv .0) (c .before .before .before .before .before .before .before .before .before .before .pre .1 .low), c .before .before .before .before .before .before .before .before .before .before .pre .1 .small)
+read-conjunction-joined-requires t c κs = omega (arith, free-few _ (c .before .before .before .if1 .left) (c .before .before .before .before .before .before .before .read-condition .ensures .0 .says) (low (c .before .before .before .before .before .before .before .before .before .loop .inv .0) (c .before .before .before .before .before .before .before .before .before .before .before .pre .1 .low)), c .before .before .before .before .before .before .before .before .before .before .before .pre .1 .small)
 
 read-conjunction-with-entries-requires : (t : ℕ) → read-conjunction-lts.Need-with-entries-requires (read-conjunction-claims t) (read-conjunction-at t) read-conjunction.Post read-conjunction-Inv-loop read-conjunction-μ-loop
 read-conjunction-with-entries-requires t c κs = search needs
 
 read-conjunction-same-length-2 : (t : ℕ) → read-conjunction-lts.Need-same-length-2 (read-conjunction-claims t) (read-conjunction-at t) read-conjunction.Post read-conjunction-Inv-loop read-conjunction-μ-loop
-read-conjunction-same-length-2 t c = omega (arith, c .before .before .before .before .before .joined .kept, c .before .before .before .before .before .before .before .before .before .before .before .before .read-condition .kept, c .before .before .before .before .before .before .before .before .before .before .before .before .before .before .loop .inv .1)
+read-conjunction-same-length-2 t c = omega (arith, c .before .before .before .before .before .joined .kept, c .before .before .before .before .before .before .before .before .before .before .before .before .before .read-condition .kept, c .before .before .before .before .before .before .before .before .before .before .before .before .before .before .before .loop .inv .1)
 
 read-conjunction-returns-2 : (t : ℕ) → read-conjunction-lts.Need-returns-2 (read-conjunction-claims t) (read-conjunction-at t) read-conjunction.Post read-conjunction-Inv-loop read-conjunction-μ-loop
 unfolding treeEntries
 read-conjunction-returns-2 t c = (
-  told-as (with-is (c .with-entries .ensures)) (stops (so-far (c .before .before .before .before .before .before .before .before .before .before .before .before .before .before .loop .inv .0) (c .before .before .before .before .before .before .before .before .before .before .before .before .read-condition .ensures .0) 26 (λ l u. refl) (read-is _ (c .before .before .before .before .before .before .before .before .if1 .left)) (c .before .before .before .before .before .joined .ensures)) (conjunction-step (c .before .before .before .before .before .before .before .before .before .before .before .before .before .before .before .before .args .depth)) (c .before .if2 .taken)),
+  told-as (with-is (c .with-entries .ensures)) (stops (so-far (c .before .before .before .before .before .before .before .before .before .before .before .before .before .before .before .loop .inv .0) (c .before .before .before .before .before .before .before .before .before .before .before .before .before .read-condition .ensures .0) 26 (λ l u. refl) (read-is _ (c .before .before .before .before .before .before .before .before .before .if1 .left)) (c .before .before .before .before .before .joined .ensures)) (conjunction-step (c .before .before .before .before .before .before .before .before .before .before .before .before .before .before .before .before .before .args .depth)) (c .before .if2 .taken)),
   with-plain (c .with-entries .ensures),
 )
-
-read-conjunction-cast-free : (t : ℕ) → read-conjunction-lts.Need-cast-free (read-conjunction-claims t) (read-conjunction-at t) read-conjunction.Post read-conjunction-Inv-loop read-conjunction-μ-loop
-unfolding treeEntries
-read-conjunction-cast-free t c =
-    let k = as-read refl (so-far (c .before .before .before .before .before .before .before .before .before .before .before .before .before .before .loop .inv .0) (c .before .before .before .before .before .before .before .before .before .before .before .before .read-condition .ensures .0) 26 (λ l u. refl) (read-is _ (c .before .before .before .before .before .before .before .before .if1 .left)) (c .before .before .before .before .before .joined .ensures) .done .says) in
-    omega (arith, k .room, k .lies .order, k .lies .high, c .before .before .before .before .before .before .before .before .before .before .before .before .before .before .before .before .pre .1 .low, c .before .before .before .before .before .before .before .before .before .before .before .before .before .before .before .before .pre .1 .small)
 
 read-conjunction-loop-less : (t : ℕ) → read-conjunction-lts.Need-loop-less (read-conjunction-claims t) (read-conjunction-at t) read-conjunction.Post read-conjunction-Inv-loop read-conjunction-μ-loop
 read-conjunction-loop-less t c = let k = as-read (read-is _ (c .before .before .before .before .before .before .before .before .if1 .left)) (c .before .before .before .before .before .before .before .before .before .before .before .before .read-condition .ensures .0 .says) in omega (arith, k .lies .low, k .lies .order, k .lies .high)
@@ -349,16 +336,16 @@ read-conjunction-loop-less t c = let k = as-read (read-is _ (c .before .before .
 read-conjunction-loop-again : (t : ℕ) → read-conjunction-lts.Need-loop-again (read-conjunction-claims t) (read-conjunction-at t) read-conjunction.Post read-conjunction-Inv-loop read-conjunction-μ-loop
 unfolding treeEntries
 read-conjunction-loop-again t c = (
-  turn (so-far (c .before .before .before .before .before .before .before .before .before .before .before .before .before .before .loop .inv .0) (c .before .before .before .before .before .before .before .before .before .before .before .before .read-condition .ensures .0) 26 (λ l u. refl) (read-is _ (c .before .before .before .before .before .before .before .before .if1 .left)) (c .before .before .before .before .before .joined .ensures)) (conjunction-step (c .before .before .before .before .before .before .before .before .before .before .before .before .before .before .before .before .args .depth)) (omega arith) (c .before .if2 .left),
-  omega (arith, c .before .before .before .before .before .joined .kept, c .before .before .before .before .before .before .before .before .before .before .before .before .read-condition .kept, c .before .before .before .before .before .before .before .before .before .before .before .before .before .before .loop .inv .1),
+  turn (so-far (c .before .before .before .before .before .before .before .before .before .before .before .before .before .before .loop .inv .0) (c .before .before .before .before .before .before .before .before .before .before .before .before .read-condition .ensures .0) 26 (λ l u. refl) (read-is _ (c .before .before .before .before .before .before .before .before .if1 .left)) (c .before .before .before .before .joined .ensures)) (conjunction-step (c .before .before .before .before .before .before .before .before .before .before .before .before .before .before .before .before .args .depth)) (omega arith) (c .if2 .left),
+  omega (arith, c .before .before .before .before .joined .kept, c .before .before .before .before .before .before .before .before .before .before .before .before .read-condition .kept, c .before .before .before .before .before .before .before .before .before .before .before .before .before .before .loop .inv .1),
 )
 
 abbrev read-disjunction-Inv-loop : read-disjunction-lts.InvT-loop
-read-disjunction-Inv-loop classes text table₀ seen from depth number same at₀ free₀ ok₀ more₀ table at free ok more =
-    Going (text .now) (seen .now) from number same kinds.or either (read-conjunction-spec (read-condition-spec depth)) (read-disjunction-spec (read-condition-spec depth) (stream (text .now) (tokenAt (text .now) from))) table₀ table at free ok more × (length table ≡ length table₀)
+read-disjunction-Inv-loop classes text table₀ seen from depth at₀ so-far₀ more₀ table at so-far more =
+    Going (text .now) (seen .now) from (so-far₀ .free) (so-far₀ .same) kinds.or either (read-conjunction-spec (read-condition-spec depth)) (read-disjunction-spec (read-condition-spec depth) (stream (text .now) (tokenAt (text .now) from))) table₀ table at (so-far .free) (so-far .same) more × (length table ≡ length table₀)
 
 abbrev read-disjunction-μ-loop : read-disjunction-lts.MeasureT-loop
-read-disjunction-μ-loop classes text table₀ seen from depth number same at₀ free₀ ok₀ more₀ table at free ok more = length (text .now) - at
+read-disjunction-μ-loop classes text table₀ seen from depth at₀ so-far₀ more₀ table at so-far more = length (text .now) - at
 
 read-disjunction-loop-holds : (t : ℕ) → read-disjunction-lts.Need-loop-holds (read-disjunction-claims t) (read-disjunction-at t) read-disjunction.Post read-disjunction-Inv-loop read-disjunction-μ-loop
 unfolding read-disjunction-spec read-joined chain
@@ -376,29 +363,24 @@ read-disjunction-returns t c = (
   c .before .before .before .before .read-conjunction .ensures .1,
 )
 
+read-disjunction-cast-t19 : (t : ℕ) → read-disjunction-lts.Need-cast-t19 (read-disjunction-claims t) (read-disjunction-at t) read-disjunction.Post read-disjunction-Inv-loop read-disjunction-μ-loop
+read-disjunction-cast-t19 t c = let g = c .before .before .before .before .before .before .before .before .before .loop .inv .0 in omega (arith, low g (c .before .before .before .before .before .before .before .before .before .before .before .pre .1 .low), g .high, c .before .before .before .before .before .before .before .before .before .before .before .pre .1 .small)
+
 read-disjunction-joined-requires : (t : ℕ) → read-disjunction-lts.Need-joined-requires (read-disjunction-claims t) (read-disjunction-at t) read-disjunction.Post read-disjunction-Inv-loop read-disjunction-μ-loop
-read-disjunction-joined-requires t c κs =
-    let k = as-read (read-is _ (c .before .before .if1 .left)) (c .before .before .before .before .before .before .read-conjunction .ensures .0 .says) in
-    omega (arith, k .room, k .lies .order, k .lies .high, low (c .before .before .before .before .before .before .before .before .loop .inv .0) (c .before .before .before .before .before .before .before .before .before .before .pre .1 .low), c .before .before .before .before .before .before .before .before .before .before .pre .1 .small)
+read-disjunction-joined-requires t c κs = omega (arith, free-few _ (c .before .before .before .if1 .left) (c .before .before .before .before .before .before .before .read-conjunction .ensures .0 .says) (low (c .before .before .before .before .before .before .before .before .before .loop .inv .0) (c .before .before .before .before .before .before .before .before .before .before .before .pre .1 .low)), c .before .before .before .before .before .before .before .before .before .before .before .pre .1 .small)
 
 read-disjunction-with-entries-requires : (t : ℕ) → read-disjunction-lts.Need-with-entries-requires (read-disjunction-claims t) (read-disjunction-at t) read-disjunction.Post read-disjunction-Inv-loop read-disjunction-μ-loop
 read-disjunction-with-entries-requires t c κs = search needs
 
 read-disjunction-same-length-2 : (t : ℕ) → read-disjunction-lts.Need-same-length-2 (read-disjunction-claims t) (read-disjunction-at t) read-disjunction.Post read-disjunction-Inv-loop read-disjunction-μ-loop
-read-disjunction-same-length-2 t c = omega (arith, c .before .before .before .before .before .joined .kept, c .before .before .before .before .before .before .before .before .before .before .before .before .read-conjunction .kept, c .before .before .before .before .before .before .before .before .before .before .before .before .before .before .loop .inv .1)
+read-disjunction-same-length-2 t c = omega (arith, c .before .before .before .before .before .joined .kept, c .before .before .before .before .before .before .before .before .before .before .before .before .before .read-conjunction .kept, c .before .before .before .before .before .before .before .before .before .before .before .before .before .before .before .loop .inv .1)
 
 read-disjunction-returns-2 : (t : ℕ) → read-disjunction-lts.Need-returns-2 (read-disjunction-claims t) (read-disjunction-at t) read-disjunction.Post read-disjunction-Inv-loop read-disjunction-μ-loop
 unfolding treeEntries
 read-disjunction-returns-2 t c = (
-  told-as (with-is (c .with-entries .ensures)) (stops (so-far (c .before .before .before .before .before .before .before .before .before .before .before .before .before .before .loop .inv .0) (c .before .before .before .before .before .before .before .before .before .before .before .before .read-conjunction .ensures .0) 27 (λ l u. refl) (read-is _ (c .before .before .before .before .before .before .before .before .if1 .left)) (c .before .before .before .before .before .joined .ensures)) (disjunction-step (c .before .before .before .before .before .before .before .before .before .before .before .before .before .before .before .before .args .depth)) (c .before .if2 .taken)),
+  told-as (with-is (c .with-entries .ensures)) (stops (so-far (c .before .before .before .before .before .before .before .before .before .before .before .before .before .before .before .loop .inv .0) (c .before .before .before .before .before .before .before .before .before .before .before .before .before .read-conjunction .ensures .0) 27 (λ l u. refl) (read-is _ (c .before .before .before .before .before .before .before .before .before .if1 .left)) (c .before .before .before .before .before .joined .ensures)) (disjunction-step (c .before .before .before .before .before .before .before .before .before .before .before .before .before .before .before .before .before .args .depth)) (c .before .if2 .taken)),
   with-plain (c .with-entries .ensures),
 )
-
-read-disjunction-cast-free : (t : ℕ) → read-disjunction-lts.Need-cast-free (read-disjunction-claims t) (read-disjunction-at t) read-disjunction.Post read-disjunction-Inv-loop read-disjunction-μ-loop
-unfolding treeEntries
-read-disjunction-cast-free t c =
-    let k = as-read refl (so-far (c .before .before .before .before .before .before .before .before .before .before .before .before .before .before .loop .inv .0) (c .before .before .before .before .before .before .before .before .before .before .before .before .read-conjunction .ensures .0) 27 (λ l u. refl) (read-is _ (c .before .before .before .before .before .before .before .before .if1 .left)) (c .before .before .before .before .before .joined .ensures) .done .says) in
-    omega (arith, k .room, k .lies .order, k .lies .high, c .before .before .before .before .before .before .before .before .before .before .before .before .before .before .before .before .pre .1 .low, c .before .before .before .before .before .before .before .before .before .before .before .before .before .before .before .before .pre .1 .small)
 
 read-disjunction-loop-less : (t : ℕ) → read-disjunction-lts.Need-loop-less (read-disjunction-claims t) (read-disjunction-at t) read-disjunction.Post read-disjunction-Inv-loop read-disjunction-μ-loop
 read-disjunction-loop-less t c = let k = as-read (read-is _ (c .before .before .before .before .before .before .before .before .if1 .left)) (c .before .before .before .before .before .before .before .before .before .before .before .before .read-conjunction .ensures .0 .says) in omega (arith, k .lies .low, k .lies .order, k .lies .high)
@@ -406,8 +388,8 @@ read-disjunction-loop-less t c = let k = as-read (read-is _ (c .before .before .
 read-disjunction-loop-again : (t : ℕ) → read-disjunction-lts.Need-loop-again (read-disjunction-claims t) (read-disjunction-at t) read-disjunction.Post read-disjunction-Inv-loop read-disjunction-μ-loop
 unfolding treeEntries
 read-disjunction-loop-again t c = (
-  turn (so-far (c .before .before .before .before .before .before .before .before .before .before .before .before .before .before .loop .inv .0) (c .before .before .before .before .before .before .before .before .before .before .before .before .read-conjunction .ensures .0) 27 (λ l u. refl) (read-is _ (c .before .before .before .before .before .before .before .before .if1 .left)) (c .before .before .before .before .before .joined .ensures)) (disjunction-step (c .before .before .before .before .before .before .before .before .before .before .before .before .before .before .before .before .args .depth)) (omega arith) (c .before .if2 .left),
-  omega (arith, c .before .before .before .before .before .joined .kept, c .before .before .before .before .before .before .before .before .before .before .before .before .read-conjunction .kept, c .before .before .before .before .before .before .before .before .before .before .before .before .before .before .loop .inv .1),
+  turn (so-far (c .before .before .before .before .before .before .before .before .before .before .before .before .before .before .loop .inv .0) (c .before .before .before .before .before .before .before .before .before .before .before .before .read-conjunction .ensures .0) 27 (λ l u. refl) (read-is _ (c .before .before .before .before .before .before .before .before .if1 .left)) (c .before .before .before .before .joined .ensures)) (disjunction-step (c .before .before .before .before .before .before .before .before .before .before .before .before .before .before .before .before .args .depth)) (omega arith) (c .if2 .left),
+  omega (arith, c .before .before .before .before .joined .kept, c .before .before .before .before .before .before .before .before .before .before .before .before .read-conjunction .kept, c .before .before .before .before .before .before .before .before .before .before .before .before .before .before .loop .inv .1),
 )
 
 read-group-read-disjunction-requires : (t : ℕ) → read-group-lts.Need-read-disjunction-requires (read-group-claims t) (read-group-at t) read-group.Post
@@ -441,20 +423,8 @@ read-group-returns-2 t c =
 read-group-token-at-requires : (t : ℕ) → read-group-lts.Need-token-at-requires (read-group-claims t) (read-group-at t) read-group.Post
 read-group-token-at-requires t c κs = (c .before .before .before .before .before .before .before .before .before .pre .1 .table, as-read (read-is _ (c .before .before .if1 .left)) (c .before .before .before .before .before .before .read-disjunction .ensures .0 .says) .lies .high)
 
-read-group-cast-append : (t : ℕ) → read-group-lts.Need-cast-append (read-group-claims t) (read-group-at t) read-group.Post
-read-group-cast-append t c =
-    let k = as-read (read-is _ (c .before .before .before .before .before .before .if1 .left)) (c .before .before .before .before .before .before .before .before .before .before .read-disjunction .ensures .0 .says) in
-    omega (arith, k .room, k .lies .order, k .lies .high, c .before .before .before .before .before .before .before .before .before .before .before .before .before .pre .1 .low, c .before .before .before .before .before .before .before .before .before .before .before .before .before .pre .1 .small)
-
-read-group-append-requires : (t : ℕ) → read-group-lts.Need-append-requires (read-group-claims t) (read-group-at t) read-group.Post
-read-group-append-requires t c κs =
-    let k = as-read (read-is _ (c .before .before .before .before .before .before .if1 .left)) (c .before .before .before .before .before .before .before .before .before .before .read-disjunction .ensures .0 .says) in
-    omega (arith, k .room, k .lies .order, k .lies .high, c .before .before .before .before .before .before .before .before .before .before .before .before .before .pre .1 .low, c .before .before .before .before .before .before .before .before .before .before .before .before .before .pre .1 .small)
-
-read-group-add-t21 : (t : ℕ) → read-group-lts.Need-add-t21 (read-group-claims t) (read-group-at t) read-group.Post
-read-group-add-t21 t c =
-    let k = as-read (read-is _ (c .before .before .before .before .before .before .before .before .before .before .if1 .left)) (c .before .before .before .before .before .before .before .before .before .before .before .before .before .before .read-disjunction .ensures .0 .says) in
-    omega (arith, k .room, k .lies .order, k .lies .high, c .before .before .before .before .before .before .before .before .before .before .before .before .before .before .before .before .before .pre .1 .low, c .before .before .before .before .before .before .before .before .before .before .before .before .before .before .before .before .before .pre .1 .small)
+read-group-closed-requires : (t : ℕ) → read-group-lts.Need-closed-requires (read-group-claims t) (read-group-at t) read-group.Post
+read-group-closed-requires t c κs = omega (arith, free-few _ (c .before .before .before .before .before .if1 .left) (c .before .before .before .before .before .before .before .before .before .read-disjunction .ensures .0 .says) (omega (arith, c .before .before .before .before .before .before .before .before .before .before .before .before .pre .1 .low)), c .before .before .before .before .before .before .before .before .before .before .before .before .pre .1 .small)
 
 read-group-same-length-3 : (t : ℕ) → read-group-lts.Need-same-length-3 (read-group-claims t) (read-group-at t) read-group.Post
 read-group-same-length-3 t c = search needs
@@ -462,10 +432,10 @@ read-group-same-length-3 t c = search needs
 read-group-returns-3 : (t : ℕ) → read-group-lts.Need-returns-3 (read-group-claims t) (read-group-at t) read-group.Post
 unfolding read-bracketed before mapped treeEntries
 read-group-returns-3 t c = (
-  told-as (with-is refl)
-      (closing-read [] brackets (kept-none _ _ _ _) (entry 25 0 0) (λ v. refl) (omega (arith, c .before .before .before .before .before .before .before .before .before .before .before .before .before .before .before .before .before .pre .1 .low)) refl
-      (follows 41 (omega arith) (read-is _ (c .before .before .before .before .before .before .before .before .before .before .if1 .left)) (c .before .before .before .before .before .before .before .before .before .before .before .before .before .before .read-disjunction .ensures .0) (c .before .before .before .before .before .before .before .before .if2 .left) (c .before .before .before .before .before .before .before .token-at .ensures .0)) (c .before .before .before .append .ensures)),
-  with-plain refl,
+  told-as (with-is (c .before .before .closed .ensures .answer))
+      (closing-read [] brackets (kept-none _ _ _ _) (entry 25 0 0) (λ v. refl) (omega (arith, c .before .before .before .before .before .before .before .before .before .before .before .before .before .before .before .pre .1 .low)) refl
+      (follows 41 (omega arith) (read-is _ (c .before .before .before .before .before .before .before .before .if1 .left)) (c .before .before .before .before .before .before .before .before .before .before .before .before .read-disjunction .ensures .0) (c .before .before .before .before .before .before .if2 .left) (c .before .before .before .before .before .token-at .ensures .0)) (refl, c .before .before .closed .ensures .put)),
+  with-plain (c .before .before .closed .ensures .answer),
 )
 
 read-negation-read-condition-requires : (t : ℕ) → read-negation-lts.Need-read-condition-requires (read-negation-claims t) (read-negation-at t) read-negation.Post
@@ -482,23 +452,8 @@ read-negation-returns t c =
       c .before .before .before .before .read-condition .ensures .1,
     )
 
-read-negation-cast-append : (t : ℕ) → read-negation-lts.Need-cast-append (read-negation-claims t) (read-negation-at t) read-negation.Post
-read-negation-cast-append t c =
-    let k = as-read (read-is _ (c .before .before .before .if1 .left)) (c .before .before .before .before .before .before .before .read-condition .ensures .0 .says) in
-    omega (arith, k .room, k .lies .order, k .lies .high, c .before .before .before .before .before .before .before .before .before .before .pre .1 .low, c .before .before .before .before .before .before .before .before .before .before .pre .1 .small)
-
-read-negation-append-requires : (t : ℕ) → read-negation-lts.Need-append-requires (read-negation-claims t) (read-negation-at t) read-negation.Post
-read-negation-append-requires t c κs =
-    let k = as-read (read-is _ (c .before .before .before .if1 .left)) (c .before .before .before .before .before .before .before .read-condition .ensures .0 .says) in
-    omega (arith, k .room, k .lies .order, k .lies .high, c .before .before .before .before .before .before .before .before .before .before .pre .1 .low, c .before .before .before .before .before .before .before .before .before .before .pre .1 .small)
-
-read-negation-add-with-entries : (t : ℕ) → read-negation-lts.Need-add-with-entries (read-negation-claims t) (read-negation-at t) read-negation.Post
-read-negation-add-with-entries t c =
-    let k = as-read (read-is _ (c .before .before .before .before .before .before .before .if1 .left)) (c .before .before .before .before .before .before .before .before .before .before .before .read-condition .ensures .0 .says) in
-    omega (arith, k .room, k .lies .order, k .lies .high, c .before .before .before .before .before .before .before .before .before .before .before .before .before .before .pre .1 .low, c .before .before .before .before .before .before .before .before .before .before .before .before .before .before .pre .1 .small)
-
-read-negation-with-entries-requires : (t : ℕ) → read-negation-lts.Need-with-entries-requires (read-negation-claims t) (read-negation-at t) read-negation.Post
-read-negation-with-entries-requires t c κs = search needs
+read-negation-closed-requires : (t : ℕ) → read-negation-lts.Need-closed-requires (read-negation-claims t) (read-negation-at t) read-negation.Post
+read-negation-closed-requires t c κs = omega (arith, free-few _ (c .before .before .if1 .left) (c .before .before .before .before .before .before .read-condition .ensures .0 .says) (omega (arith, c .before .before .before .before .before .before .before .before .before .pre .1 .low)), c .before .before .before .before .before .before .before .before .before .pre .1 .small)
 
 read-negation-same-length-2 : (t : ℕ) → read-negation-lts.Need-same-length-2 (read-negation-claims t) (read-negation-at t) read-negation.Post
 read-negation-same-length-2 t c = search needs
@@ -506,16 +461,16 @@ read-negation-same-length-2 t c = search needs
 read-negation-returns-2 : (t : ℕ) → read-negation-lts.Need-returns-2 (read-negation-claims t) (read-negation-at t) read-negation.Post
 unfolding read-negated mapped treeEntries
 read-negation-returns-2 t c = (
-  told-as (with-is (c .with-entries .ensures))
-      (closing-read [] not (kept-none _ _ _ _) (entry 24 0 0) (λ v. refl) (omega (arith, c .before .before .before .before .before .before .before .before .before .before .before .before .before .before .before .pre .1 .low)) (read-is _ (c .before .before .before .before .before .before .before .before .if1 .left)) (c .before .before .before .before .before .before .before .before .before .before .before .before .read-condition .ensures .0) (c .before .before .before .before .append .ensures)),
-  with-plain (c .with-entries .ensures),
+  told-as (with-is (c .before .before .closed .ensures .answer))
+      (closing-read [] not (kept-none _ _ _ _) (entry 24 0 0) (λ v. refl) (omega (arith, c .before .before .before .before .before .before .before .before .before .before .before .before .pre .1 .low)) (read-is _ (c .before .before .before .before .before .if1 .left)) (c .before .before .before .before .before .before .before .before .before .read-condition .ensures .0) (refl, c .before .before .closed .ensures .put)),
+  with-plain (c .before .before .closed .ensures .answer),
 )
 
 pub +read-choice+read-condition+read-conjunction+read-disjunction+read-group+read-negation-spec : {M : Type 1} → statement M
 +read-choice+read-condition+read-conjunction+read-disjunction+read-group+read-negation-spec = close μ-read-choice μ-read-condition μ-read-conjunction μ-read-disjunction μ-read-group μ-read-negation
-    (λ t. read-choice-lts.spec (read-choice-claims t) (read-choice-at t) read-choice.Post read-choice-Inv-loop read-choice-μ-loop (read-choice-loop-holds t) (read-choice-read-condition-requires t) (read-choice-same-length t) (read-choice-returns t) (read-choice-cast-append t) (read-choice-append-requires t) (read-choice-add-with-entries t) (read-choice-with-entries-requires t) (read-choice-same-length-2 t) (read-choice-returns-2 t) (read-choice-stopped-requires t) (read-choice-same-length-3 t) (read-choice-returns-3 t) (read-choice-cast-free t) (read-choice-word-after-requires t) (read-choice-loop-less t) (read-choice-loop-again t))
-    (λ t. read-condition-lts.spec (read-condition-claims t) (read-condition-at t) read-condition.Post (read-condition-token-at-requires t) (read-condition-read-plain-requires t) (read-condition-same-length t) (read-condition-returns t) (read-condition-sub-read-negation t) (read-condition-read-negation-requires t) (read-condition-same-length-2 t) (read-condition-returns-2 t) (read-condition-sub-read-group t) (read-condition-read-group-requires t) (read-condition-same-length-3 t) (read-condition-returns-3 t) (read-condition-sub-read-choice t) (read-condition-read-choice-requires t) (read-condition-same-length-4 t) (read-condition-returns-4 t) (read-condition-read-plain-requires-2 t) (read-condition-same-length-5 t) (read-condition-returns-5 t))
-    (λ t. read-conjunction-lts.spec (read-conjunction-claims t) (read-conjunction-at t) read-conjunction.Post read-conjunction-Inv-loop read-conjunction-μ-loop (read-conjunction-loop-holds t) (read-conjunction-read-condition-requires t) (read-conjunction-same-length t) (read-conjunction-returns t) (read-conjunction-joined-requires t) (read-conjunction-with-entries-requires t) (read-conjunction-same-length-2 t) (read-conjunction-returns-2 t) (read-conjunction-cast-free t) (read-conjunction-loop-less t) (read-conjunction-loop-again t))
-    (λ t. read-disjunction-lts.spec (read-disjunction-claims t) (read-disjunction-at t) read-disjunction.Post read-disjunction-Inv-loop read-disjunction-μ-loop (read-disjunction-loop-holds t) (read-disjunction-read-conjunction-requires t) (read-disjunction-same-length t) (read-disjunction-returns t) (read-disjunction-joined-requires t) (read-disjunction-with-entries-requires t) (read-disjunction-same-length-2 t) (read-disjunction-returns-2 t) (read-disjunction-cast-free t) (read-disjunction-loop-less t) (read-disjunction-loop-again t))
-    (λ t. read-group-lts.spec (read-group-claims t) (read-group-at t) read-group.Post (read-group-read-disjunction-requires t) (read-group-same-length t) (read-group-returns t) (read-group-stopped-requires t) (read-group-same-length-2 t) (read-group-returns-2 t) (read-group-token-at-requires t) (read-group-cast-append t) (read-group-append-requires t) (read-group-add-t21 t) (read-group-same-length-3 t) (read-group-returns-3 t))
-    λ t. read-negation-lts.spec (read-negation-claims t) (read-negation-at t) read-negation.Post (read-negation-read-condition-requires t) (read-negation-same-length t) (read-negation-returns t) (read-negation-cast-append t) (read-negation-append-requires t) (read-negation-add-with-entries t) (read-negation-with-entries-requires t) (read-negation-same-length-2 t) (read-negation-returns-2 t)
+    (λ t. read-choice-lts.spec (read-choice-claims t) (read-choice-at t) read-choice.Post read-choice-Inv-loop read-choice-μ-loop (read-choice-loop-holds t) (read-choice-read-condition-requires t) (read-choice-same-length t) (read-choice-returns t) (read-choice-cast-t19 t) (read-choice-cast-t20 t) (read-choice-closed-requires t) (read-choice-same-length-2 t) (read-choice-returns-2 t) (read-choice-stopped-requires t) (read-choice-same-length-3 t) (read-choice-returns-3 t) (read-choice-word-after-requires t) (read-choice-loop-less t) (read-choice-loop-again t))
+    (λ t. read-condition-lts.spec (read-condition-claims t) (read-condition-at t) read-condition.Post (read-condition-token-at-requires t) (read-condition-cast-read-plain t) (read-condition-read-plain-requires t) (read-condition-same-length t) (read-condition-returns t) (read-condition-sub-read-negation t) (read-condition-read-negation-requires t) (read-condition-same-length-2 t) (read-condition-returns-2 t) (read-condition-sub-read-group t) (read-condition-read-group-requires t) (read-condition-same-length-3 t) (read-condition-returns-3 t) (read-condition-sub-read-choice t) (read-condition-read-choice-requires t) (read-condition-same-length-4 t) (read-condition-returns-4 t) (read-condition-cast-read-plain-2 t) (read-condition-read-plain-requires-2 t) (read-condition-same-length-5 t) (read-condition-returns-5 t))
+    (λ t. read-conjunction-lts.spec (read-conjunction-claims t) (read-conjunction-at t) read-conjunction.Post read-conjunction-Inv-loop read-conjunction-μ-loop (read-conjunction-loop-holds t) (read-conjunction-read-condition-requires t) (read-conjunction-same-length t) (read-conjunction-returns t) (read-conjunction-cast-t19 t) (read-conjunction-joined-requires t) (read-conjunction-with-entries-requires t) (read-conjunction-same-length-2 t) (read-conjunction-returns-2 t) (read-conjunction-loop-less t) (read-conjunction-loop-again t))
+    (λ t. read-disjunction-lts.spec (read-disjunction-claims t) (read-disjunction-at t) read-disjunction.Post read-disjunction-Inv-loop read-disjunction-μ-loop (read-disjunction-loop-holds t) (read-disjunction-read-conjunction-requires t) (read-disjunction-same-length t) (read-disjunction-returns t) (read-disjunction-cast-t19 t) (read-disjunction-joined-requires t) (read-disjunction-with-entries-requires t) (read-disjunction-same-length-2 t) (read-disjunction-returns-2 t) (read-disjunction-loop-less t) (read-disjunction-loop-again t))
+    (λ t. read-group-lts.spec (read-group-claims t) (read-group-at t) read-group.Post (read-group-read-disjunction-requires t) (read-group-same-length t) (read-group-returns t) (read-group-stopped-requires t) (read-group-same-length-2 t) (read-group-returns-2 t) (read-group-token-at-requires t) (read-group-closed-requires t) (read-group-same-length-3 t) (read-group-returns-3 t))
+    λ t. read-negation-lts.spec (read-negation-claims t) (read-negation-at t) read-negation.Post (read-negation-read-condition-requires t) (read-negation-same-length t) (read-negation-returns t) (read-negation-closed-requires t) (read-negation-same-length-2 t) (read-negation-returns-2 t)

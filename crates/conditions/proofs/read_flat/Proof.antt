@@ -1,5 +1,6 @@
 -- `conditions::read_flat` meets its contract: by the first token. Assumes nothing.
 use mathlib.Core.Path.{_∙_, sym, ap}
+use mathlib.Core.List.{[]}
 use Prim.Native.Nat.{ℕ}
 use lib.ListN.{length}
 use Rattle.reading.specs.Lexemes.{lexeme}
@@ -8,10 +9,10 @@ use Rattle.grammar.specs.Rules.{literalOf}
 use Rattle.grammar.specs.Parser.{noLevel}
 use Rattle.table.specs.Entries.{operandEntry}
 use Rattle.parts.specs.Answers.{turnedAway}
-use Rattle.parts.proofs.Standing.{turned, turned-as, ready-past}
-use Rattle.conditions.proofs.Earlier.{weaker}
-use Rattle.parts.proofs.Writing.{done-as, turned-done}
-use Rattle.conditions.proofs.Forms.{literal-some, root-some, literal-first, root-first, none-first, past-start}
+use Rattle.parts.proofs.Standing.{turned, turned-as, past, ready-past}
+use Rattle.parts.proofs.Writing.{done-as, weaker, turned-done}
+use Rattle.parts.proofs.Sorts.{literal-some, root-some}
+use Rattle.conditions.proofs.Forms.{literal-first, root-first, none-first}
 use native.Mathlib.Omega.{arith}
 use borrow.Author.Needs.{needs}
 use Rattle.conditions.proofs.read_flat.Statement.{statement}
@@ -29,7 +30,7 @@ literal-entry-requires c κs = search needs
 read-operator-requires : tie.Need-read-operator-requires
 read-operator-requires c κs =
     let a = c .before .before .before .before .before .before .before .before .args in let p = c .before .before .before .before .before .before .before .before .pre in
-    ready-past (a .t) p (literal-some (a .t) (sym (c .before .before .before .is-literal .ensures) ∙ c .before .before .if1 .taken)) (c .before .before .before .before .next-token .ensures .1) (omega (arith, p .lies .low))
+    ready-past (a .t) p (literal-some (lexeme [] (a .t)) (sym (c .before .before .before .is-literal .ensures) ∙ c .before .before .if1 .taken)) (c .before .before .before .before .next-token .ensures .1) (omega (arith, p .lies .low))
 
 same-length : tie.Need-same-length
 same-length c = search needs
@@ -40,7 +41,7 @@ returns c =
     let a = c .before .before .before .before .before .before .before .before .before .before .before .args in let p = c .before .before .before .before .before .before .before .before .before .before .before .pre in let n = c .before .before .before .before .before .before .before .next-token .result in let q = c .before .before .before .before .before .before .before .next-token .ensures .0 in
     let e = sym (c .before .before .before .before .before .before .is-literal .ensures) ∙ c .before .before .before .before .before .if1 .taken in
     done-as (literal-first (a .text .now) (a .t) n q (p .lies .high) e)
-    (weaker (past-start (a .text .now) (a .t) n (p .lies) q (literal-some (a .t) e)) (c .before .before .read-operator .ensures (literal (literalOf (lexeme (a .text .now) (a .t)))) (sym (c .before .before .before .literal-entry .ensures))))
+    (weaker (omega (arith, past (a .t) (p .lies) (literal-some (lexeme [] (a .t)) e) (c .before .before .before .before .before .before .before .next-token .ensures .1) .low)) (c .before .before .read-operator .ensures (literal (literalOf (lexeme (a .text .now) (a .t)))) (sym (c .before .before .before .literal-entry .ensures))))
 
 is-root-requires : tie.Need-is-root-requires
 is-root-requires c κs = search needs
@@ -48,7 +49,7 @@ is-root-requires c κs = search needs
 read-rooted-requires : tie.Need-read-rooted-requires
 read-rooted-requires c κs =
     let a = c .before .before .before .before .before .before .before .before .before .args in let p = c .before .before .before .before .before .before .before .before .before .pre in
-    ready-past (a .t) p (root-some (a .t) (sym (c .before .before .is-root .ensures) ∙ c .before .if2 .taken)) (c .before .before .before .before .before .next-token .ensures .1) (omega (arith, p .lies .low))
+    ready-past (a .t) p (root-some (lexeme [] (a .t)) (sym (c .before .before .is-root .ensures) ∙ c .before .if2 .taken)) (c .before .before .before .before .before .next-token .ensures .1) (omega (arith, p .lies .low))
 
 same-length-2 : tie.Need-same-length-2
 same-length-2 c = search needs
@@ -58,7 +59,7 @@ returns-2 c =
     let a = c .before .before .before .before .before .before .before .before .before .before .before .before .args in let p = c .before .before .before .before .before .before .before .before .before .before .before .before .pre in let n = c .before .before .before .before .before .before .before .before .next-token .result in let q = c .before .before .before .before .before .before .before .before .next-token .ensures .0 in
     let e = sym (c .before .before .before .before .before .is-root .ensures) ∙ c .before .before .before .before .if2 .taken in
     done-as (root-first (a .text .now) (a .t) n q (p .lies .high) (sym (c .before .before .before .before .before .before .before .is-literal .ensures) ∙ c .before .before .before .before .before .before .if1 .left) e)
-    (weaker (past-start (a .text .now) (a .t) n (p .lies) q (root-some (a .t) e)) (c .before .before .read-rooted .ensures))
+    (weaker (omega (arith, past (a .t) (p .lies) (root-some (lexeme [] (a .t)) e) (c .before .before .before .before .before .before .before .before .next-token .ensures .1) .low)) (c .before .before .read-rooted .ensures))
 
 no-level-requires : tie.Need-no-level-requires
 no-level-requires c κs = search needs

@@ -1,15 +1,12 @@
 -- `compiling::policies::read_all` meets its contract: the policies so far are read, and the rest is what is read from here on; each policy takes of the text. Assumes nothing.
 use borrow.Author.Needs.{needs}
-use Rattle.parts.proofs.Standing.{ready-past}
+use Rattle.parts.proofs.Standing.{past, ready-past}
 use Rattle.grammar.specs.Parser.{noPolicy}
 use Rattle.parts.specs.Answers.{turnedAway}
-use Rattle.conditions.proofs.Forms.{past-start}
-use Rattle.compiling.proofs.Texts.{Begun, at-start, effect-some, ended, stopped, broken, further}
-use Rattle.compiling.proofs.Texts.{Begun, at-start, ended, stopped, broken, further}
+use Rattle.compiling.proofs.Texts.{Underway, at-start, effect-some, ended, stopped, broken, further}
 use Rattle.reading.specs.Lexemes.{tokensOf}
 use Rattle.parts.proofs.Writing.{as-read, as-refused}
 use Rattle.grammar.specs.Parser.{read-text}
-use Rattle.reading.specs.Reader.{before}
 use lib.ListN.{length}
 use native.Mathlib.Omega.{arith}
 use Prim.Native.Nat.{ℕ, _-_}
@@ -19,7 +16,7 @@ use Rattle.compiling.proofs.policies.read_all.Tie as tie
 
 abbrev Inv-loop : tie.InvT-loop
 Inv-loop classes text table₀ seen t₀ policies₀ free₀ ok₀ table t policies free ok =
-    Begun text seen table₀ table (read-text (tokensOf text)) t policies free ok × (length table ≡ length table₀)
+    Underway text seen table₀ table (read-text (tokensOf text)) t policies free ok × (length table ≡ length table₀)
 
 abbrev μ-loop : tie.MeasureT-loop
 μ-loop classes text table₀ seen t₀ policies₀ free₀ ok₀ table t policies free ok = length text - t .start
@@ -77,14 +74,14 @@ add-policies c = omega (arith, c .before .before .before .before .before .before
 loop-less : tie.Need-loop-less Inv-loop μ-loop
 loop-less c = let b = c .before .before .before .before .before .before .before .before .before .before .before .loop .inv .0 in
     let k = as-read (c .before .one2 .given .1) (c .before .before .before .before .before .read-policy .ensures .says) in
-    let l = past-start (c .before .before .before .before .before .before .before .before .before .before .before .before .before .before .before .before .args .text .now) (c .before .before .before .before .before .before .before .before .before .before .before .loop .t) (c .before .before .before .before .before .before .before .next-token2 .result) (b .lies) (c .before .before .before .before .before .before .before .next-token2 .ensures .0) (effect-some b (c .before .before .before .before .before .before .before .before .if1 .left)) in
-    omega (arith, l, k .lies .low, k .lies .order, k .lies .high)
+    let l = past (c .before .before .before .before .before .before .before .before .before .before .before .loop .t) (b .lies) (effect-some b (c .before .before .before .before .before .before .before .before .if1 .left)) (c .before .before .before .before .before .before .before .next-token2 .ensures .1) in
+    omega (arith, l .low, k .lies .low, k .lies .order, k .lies .high)
 
 loop-again : tie.Need-loop-again Inv-loop μ-loop
 loop-again c = let b = c .before .before .before .before .before .before .before .before .before .before .before .loop .inv .0 in
     let k = as-read (c .before .one2 .given .1) (c .before .before .before .before .before .read-policy .ensures .says) in (
       further b (c .before .before .before .before .before .before .before .next-token2 .result) (c .before .before .before .before .before .before .before .before .if1 .left) (c .before .before .before .before .before .before .before .next-token2 .ensures .0)
-          (past-start (c .before .before .before .before .before .before .before .before .before .before .before .before .before .before .before .before .args .text .now) (c .before .before .before .before .before .before .before .before .before .before .before .loop .t) (c .before .before .before .before .before .before .before .next-token2 .result) (b .lies) (c .before .before .before .before .before .before .before .next-token2 .ensures .0) (effect-some b (c .before .before .before .before .before .before .before .before .if1 .left))) k (c .before .before .before .before .before .read-policy .ensures .wrote),
+          (omega (arith, past (c .before .before .before .before .before .before .before .before .before .before .before .loop .t) (b .lies) (effect-some b (c .before .before .before .before .before .before .before .before .if1 .left)) (c .before .before .before .before .before .before .before .next-token2 .ensures .1) .low)) k (c .before .before .before .before .before .read-policy .ensures .wrote),
       omega (arith, c .before .before .before .before .before .read-policy .kept, c .before .before .before .before .before .before .before .before .before .before .before .loop .inv .1),
     )
 

@@ -1,10 +1,10 @@
 -- `compiling::policies::read_policy` meets its contract: its four parts in order. Assumes nothing.
 use Rattle.compiling.proofs.Gates.{policy-first, policy-second, policy-third, policy-last, policy-done}
-use Rattle.conditions.proofs.Earlier.{lying, ready-at, told-as}
+use Rattle.conditions.proofs.Earlier.{ready-at, told-as}
 use Rattle.parts.proofs.Writing.{done-as, turned-done, as-read, as-refused, free-small, next-lies, expected-done}
-use Rattle.parts.proofs.Standing.{turned-as, turned-bind}
+use Rattle.parts.proofs.Standing.{standing, turned-as, turned-bind}
 use Rattle.reading.specs.Reader.{before}
-use Rattle.reading.specs.Lexemes.{is, stream}
+use Rattle.reading.specs.Lexemes.{stream}
 use native.Mathlib.Omega.{arith}
 use borrow.Author.Needs.{needs}
 use Rattle.compiling.proofs.policies.read_policy.Statement.{statement}
@@ -29,7 +29,7 @@ returns c = let e = c .enum-told .given .1 in
 read-second-requires : tie.Need-read-second-requires
 read-second-requires c κs =
     let k₁ = as-read (c .before .before .first .given .1) (c .before .before .before .before .before .before .read-first .ensures .says) in
-    ready-at (c .before .before .before .before .before .before .before .before .before .before .before .pre .0) (lying _ (k₁ .lies) (omega (arith, k₁ .room, c .before .before .before .before .before .before .before .before .before .before .before .pre .0 .lies .low)))
+    ready-at (c .before .before .before .before .before .before .before .before .before .before .before .pre .0) (standing _ (omega (arith, k₁ .room, c .before .before .before .before .before .before .before .before .before .before .before .pre .0 .lies .low)) (k₁ .lies))
 
 enum-known-second : tie.Need-enum-known-second
 enum-known-second c = search needs
@@ -50,7 +50,7 @@ read-third-requires : tie.Need-read-third-requires
 read-third-requires c κs =
     let k₁ = as-read (c .before .before .before .before .before .before .before .before .before .first .given .1) (c .before .before .before .before .before .before .before .before .before .before .before .before .before .read-first .ensures .says) in
     let k₂ = as-read (c .before .before .second .given .1) (c .before .before .before .before .before .before .read-second .ensures .says) in
-    ready-at (c .before .before .before .before .before .before .before .before .before .before .before .before .before .before .before .before .before .before .pre .0) (lying _ (k₂ .lies) (omega (arith, k₁ .room, k₂ .room, c .before .before .before .before .before .before .before .before .before .before .before .before .before .before .before .before .before .before .pre .0 .lies .low)))
+    ready-at (c .before .before .before .before .before .before .before .before .before .before .before .before .before .before .before .before .before .before .pre .0) (standing _ (omega (arith, k₁ .room, k₂ .room, c .before .before .before .before .before .before .before .before .before .before .before .before .before .before .before .before .before .before .pre .0 .lies .low)) (k₂ .lies))
 
 enum-known-third : tie.Need-enum-known-third
 enum-known-third c = search needs
@@ -73,7 +73,7 @@ read-when-requires c κs =
     let k₁ = as-read (c .before .before .before .before .before .before .before .before .before .before .before .before .before .before .before .before .first .given .1) (c .before .before .before .before .before .before .before .before .before .before .before .before .before .before .before .before .before .before .before .before .read-first .ensures .says) in
     let k₂ = as-read (c .before .before .before .before .before .before .before .before .before .second .given .1) (c .before .before .before .before .before .before .before .before .before .before .before .before .before .read-second .ensures .says) in
     let k₃ = as-read (c .before .before .third .given .1) (c .before .before .before .before .before .before .read-third .ensures .says) in
-    (ready-at (c .before .before .before .before .before .before .before .before .before .before .before .before .before .before .before .before .before .before .before .before .before .before .before .before .before .pre .0) (lying _ (k₃ .lies) (omega (arith, k₁ .room, k₂ .room, k₃ .room, c .before .before .before .before .before .before .before .before .before .before .before .before .before .before .before .before .before .before .before .before .before .before .before .before .before .pre .0 .lies .low))), c .before .before .before .before .before .before .before .before .before .before .before .before .before .before .before .before .before .before .before .before .before .before .before .before .before .pre .1)
+    (ready-at (c .before .before .before .before .before .before .before .before .before .before .before .before .before .before .before .before .before .before .before .before .before .before .before .before .before .pre .0) (standing _ (omega (arith, k₁ .room, k₂ .room, k₃ .room, c .before .before .before .before .before .before .before .before .before .before .before .before .before .before .before .before .before .before .before .before .before .before .before .before .before .pre .0 .lies .low)) (k₃ .lies)), c .before .before .before .before .before .before .before .before .before .before .before .before .before .before .before .before .before .before .before .before .before .before .before .before .before .pre .1)
 
 expected-requires : tie.Need-expected-requires
 expected-requires c κs = (c .before .before .before .before .before .before .before .before .before .before .before .before .before .before .before .before .before .before .before .before .before .before .before .before .before .before .before .before .pre .0 .table, next-lies (c .before .before .read-when .ensures .says))

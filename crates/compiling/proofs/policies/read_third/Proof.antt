@@ -1,14 +1,13 @@
 -- `compiling::policies::read_third` meets its contract: a token that must stand there, the part, and its bracket. Assumes nothing.
-use Rattle.compiling.proofs.Gates.{gate-first, standing, gate-done, gated}
-use Rattle.conditions.proofs.Earlier.{lying, ready-at, weaker, told-as}
+use Rattle.compiling.proofs.Gates.{gate-first, opened, gated}
+use Rattle.conditions.proofs.Earlier.{ready-at, told-as}
 use Rattle.parts.proofs.Writing.{turned-done, as-read, as-refused, next-lies, expected-done}
-use Rattle.parts.proofs.Standing.{turned-as, turned-bind}
+use Rattle.parts.proofs.Standing.{standing, turned-as, turned-bind}
 use Rattle.grammar.specs.Parser.{read-resource as resource-spec}
 use Rattle.reading.specs.Reader.{before}
-use Rattle.reading.specs.Lexemes.{stream}
 use Rattle.tokens.specs.Kinds as kinds
+use mathlib.Core.List.{[]}
 use native.Mathlib.Omega.{arith}
-use Prim.Native.Nat.{_+_, _-_}
 use borrow.Author.Needs.{needs}
 use Rattle.compiling.proofs.policies.read_third.Statement.{statement}
 use Rattle.compiling.proofs.policies.read_third.Tie as tie
@@ -24,15 +23,15 @@ enum-told c = search needs
 
 returns : tie.Need-returns
 returns c =
-    let d = gate-done 205 (omega arith) (standing (c .before .before .before .before .before .before .args .seen .now) (c .before .before .before .before .before .before .args .table .now) (c .before .before .before .before .before .before .args .t) (lying (c .before .before .before .before .before .before .args .t .start - 1 + 1) (c .before .before .before .before .before .before .pre .lies) (omega (arith, c .before .before .before .before .before .before .pre .lies .low)))) (c .before .before .expected .ensures) in
     let e = c .enum-told .given .1 in
-    told-as e (turned-done (turned-as (gate-first 205 (before kinds.rightRound resource-spec) (stream (c .before .before .before .before .before .before .args .text .now) (c .before .before .before .before .before .before .args .t))) (turned-bind _ (as-refused e (d .says)))))
+    let d = opened {seen = []} {T = []} 205 (omega arith) (c .before .before .before .before .before .before .pre .lies) (c .before .before .expected .ensures) in
+    told-as e (turned-done (turned-as (gate-first 205 (before kinds.rightRound resource-spec) _) (turned-bind _ (as-refused e (d .says)))))
 
 read-resource-requires : tie.Need-read-resource-requires
 read-resource-requires c κs =
-    let d = gate-done 205 (omega arith) (standing (c .before .before .before .before .before .before .before .before .args .seen .now) (c .before .before .before .before .before .before .before .before .args .table .now) (c .before .before .before .before .before .before .before .before .args .t) (lying (c .before .before .before .before .before .before .before .before .args .t .start - 1 + 1) (c .before .before .before .before .before .before .before .before .pre .lies) (omega (arith, c .before .before .before .before .before .before .before .before .pre .lies .low)))) (c .before .before .before .before .expected .ensures) in
-    let k = as-read (c .before .before .word .given .1) (d .says) in
-    ready-at (c .before .before .before .before .before .before .before .before .pre) (lying _ (k .lies) (omega (arith, k .counted .free-is, k .lies .low, c .before .before .before .before .before .before .before .before .pre .lies .low)))
+    let p = c .before .before .before .before .before .before .before .before .pre in
+    let k = as-read (c .before .before .word .given .1) (opened {seen = []} {T = []} 205 (omega arith) (p .lies) (c .before .before .before .before .expected .ensures) .says) in
+    ready-at p (standing _ (omega (arith, k .counted .free-is, k .lies .low, p .lies .low)) (k .lies))
 
 expected-requires-2 : tie.Need-expected-requires-2
 expected-requires-2 c κs = (c .before .before .before .before .before .before .before .before .before .before .before .pre .table, next-lies (c .before .before .read-resource .ensures .says))
@@ -43,10 +42,9 @@ same-length c = search needs
 returns-2 : tie.Need-returns-2
 unfolding before
 returns-2 c =
-    let d = gate-done 205 (omega arith) (standing (c .before .before .before .before .before .before .before .before .before .before .before .before .args .seen .now) (c .before .before .before .before .before .before .before .before .before .before .before .before .args .table .now) (c .before .before .before .before .before .before .before .before .before .before .before .before .args .t) (lying (c .before .before .before .before .before .before .before .before .before .before .before .before .args .t .start - 1 + 1) (c .before .before .before .before .before .before .before .before .before .before .before .before .pre .lies) (omega (arith, c .before .before .before .before .before .before .before .before .before .before .before .before .pre .lies .low)))) (c .before .before .before .before .before .before .before .before .expected .ensures) in
-    let k = as-read (c .before .before .before .before .before .before .word .given .1) (d .says) in
-    weaker (omega (arith, c .before .before .before .before .before .before .before .before .before .before .before .before .pre .lies .low)) (gated (before kinds.rightRound resource-spec) k (gate-first 205 (before kinds.rightRound resource-spec) (stream (c .before .before .before .before .before .before .before .before .before .before .before .before .args .text .now) (c .before .before .before .before .before .before .before .before .before .before .before .before .args .t))) (omega (arith, k .lies .low))
-    (expected-done 41 (omega arith) (c .before .before .before .read-resource .ensures) (c .expected2 .ensures)))
+    let start = c .before .before .before .before .before .before .before .before .before .before .before .before in
+    let k = as-read (c .before .before .before .before .before .before .word .given .1) (opened {seen = start .args .seen .now} {T = []} 205 (omega arith) (start .pre .lies) (c .before .before .before .before .before .before .before .before .expected .ensures) .says) in
+    gated (before kinds.rightRound resource-spec) k (gate-first 205 (before kinds.rightRound resource-spec) _) (omega (arith, k .lies .low)) (expected-done 41 (omega arith) (c .before .before .before .read-resource .ensures) (c .expected2 .ensures))
 
 pub read-third-spec : {M : Type 1} → statement M
 read-third-spec =

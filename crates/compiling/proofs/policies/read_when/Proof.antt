@@ -11,9 +11,8 @@ use Rattle.reading.specs.Reader.{before, mapped}
 use Rattle.reading.proofs.Stream.{next-on, next-off}
 use Rattle.grammar.specs.Parser.{read-conditions, read-when as when-spec}
 use Rattle.table.specs.Entries.{conditionEntries}
-use Rattle.parts.proofs.Standing.{turned-as, need-on, need-off}
+use Rattle.parts.proofs.Standing.{standing, turned-as, need-on, need-off}
 use Rattle.parts.proofs.Writing.{settled, done-as, turned-done, next-lies, kept-none, continuing, expected-done}
-use Rattle.conditions.proofs.Earlier.{lying}
 use borrow.Author.Needs.{needs}
 use Rattle.compiling.proofs.policies.read_when.Statement.{statement}
 use Rattle.compiling.proofs.policies.read_when.Tie as tie
@@ -21,7 +20,7 @@ use Rattle.compiling.proofs.policies.read_when.Tie as tie
 returns : tie.Need-returns
 unfolding when-spec conditionEntries
 returns c =
-    settled none (next-off (c .before .before .before .before .before .args .text .now) (c .before .before .before .before .before .args .t) (is kinds.whenWord) _ _ (ne-eqb _ _ (c .if1 .taken))) (lying _ (c .before .before .before .before .before .pre .0 .lies) (omega (arith, c .before .before .before .before .before .pre .0 .lies .low))) (omega arith) (kept-none _ _ _ _)
+    settled none (next-off (c .before .before .before .before .before .args .text .now) (c .before .before .before .before .before .args .t) (is kinds.whenWord) _ _ (ne-eqb _ _ (c .if1 .taken))) (standing _ (omega (arith, c .before .before .before .before .before .pre .0 .lies .low)) (c .before .before .before .before .before .pre .0 .lies)) (omega arith) (kept-none _ _ _ _)
 
 next-token-requires : tie.Need-next-token-requires
 next-token-requires c κs = search needs
