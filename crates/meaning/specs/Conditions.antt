@@ -13,11 +13,12 @@ use Rattle.meaning.specs.declared.Verdict.the-variants.{Yes, No, Missing
 
 -- ---- verdicts
 
+-- yes where a test passes, else no
 unfoldable pub told : Bool → Verdict
 told true = Yes
 told false = No
 
--- an operator that met this value, or these two, says b; missing where a value is absent
+-- what an operator that met this value says by its test; missing where the value is absent
 unfoldable pub given : Datum → Bool → Verdict
 given (text x) b = told b
 given (number x) b = told b
@@ -25,6 +26,7 @@ given (flag x) b = told b
 given (texts x) b = told b
 given absent b = Missing
 
+-- the same of an operator that met two values
 unfoldable pub givenBoth : Datum → Datum → Bool → Verdict
 givenBoth d e b = cond (present d) (given e b) Missing
 
@@ -34,22 +36,25 @@ settled Yes = Yes
 settled No = No
 settled Missing = No
 
+-- `!`
 unfoldable pub negated : Verdict → Verdict
 negated Yes = No
 negated No = Yes
 negated Missing = Missing
 
--- parts are met from left to right: `&&` stops at false, `||` at true, `if` meets only the chosen part
+-- `&&`, its parts met from left to right: false stops it
 unfoldable pub bothOf : Verdict → Verdict → Verdict
 bothOf Yes v = v
 bothOf No v = No
 bothOf Missing v = Missing
 
+-- `||`, likewise: true stops it
 unfoldable pub eitherOf : Verdict → Verdict → Verdict
 eitherOf Yes v = Yes
 eitherOf No v = v
 eitherOf Missing v = Missing
 
+-- `if`: only the part that it chooses is met
 unfoldable pub choiceOf : Verdict → Verdict → Verdict → Verdict
 choiceOf Yes a b = a
 choiceOf No a b = b
@@ -57,15 +62,17 @@ choiceOf Missing a b = Missing
 
 -- ---- lists
 
+-- one of a list passes the test
 unfoldable pub some : {A : Type 0} → (A → Bool) → List A → Bool
 some test [] = false
 some test (x ∷ xs) = test x || some test xs
 
+-- each of a list passes the test
 unfoldable pub all : {A : Type 0} → (A → Bool) → List A → Bool
 all test [] = true
 all test (x ∷ xs) = test x && all test xs
 
--- containsAll, containsAny
+-- containsAll asks for each, containsAny for one
 abbrev pub asked : {A : Type 0} → Which → (A → Bool) → List A → Bool
 asked All test xs = all test xs
 asked Any test xs = some test xs
@@ -76,6 +83,7 @@ listed l x = some (same x) l
 
 -- ---- conditions
 
+-- what a condition is found to be, where the text is t and the attributes are those of the view
 unfoldable pub verdict : List ℕ → View → Tree → Verdict
 verdict t view (constant b) = told b
 verdict t view (compare c a b) = settled (givenBoth (operandValue t view a) (operandValue t view b) (compares c (operandValue t view a) (operandValue t view b)))
@@ -92,6 +100,7 @@ verdict t view (both a b) = bothOf (verdict t view a) (verdict t view b)
 verdict t view (either a b) = eitherOf (verdict t view a) (verdict t view b)
 verdict t view (choice c a b) = choiceOf (verdict t view c) (verdict t view a) (verdict t view b)
 
+-- the condition is true
 abbrev pub isYes : Verdict → Bool
 isYes Yes = true
 isYes No = false
