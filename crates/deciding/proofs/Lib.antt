@@ -3,4 +3,3 @@ pub mod Counting
 pub mod HeldLaws
 pub mod Answering
 pub mod Promised
-pub mod Examples
