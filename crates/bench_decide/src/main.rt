@@ -31,6 +31,7 @@ fn stamp(table: &mut [u8], sum: u64) {
     }
 }
 
+// Decides once more; the new sum tells every answer so far.
 fn decide_once<'a>(
     text: &'a [u8],
     table: &mut [u8],
@@ -48,6 +49,7 @@ fn decide_once<'a>(
     (sum + told(answer)) % 1000003
 }
 
+// Decides so many times.
 fn decide_often<'a>(
     times: u32,
     text: &'a [u8],

@@ -6,11 +6,13 @@ use deciding::decide;
 use libc::STDOUT_FILENO;
 use meaning::Decision;
 
+// A line for a decision.
 fn report_decision(outcome: u64, policy: usize) {
     vectors::print_number(outcome, b' ');
     vectors::print_number(policy as u64, b'\n');
 }
 
+// A line for an answer.
 fn report(answer: Answer) {
     match answer {
         Answer::Refused(number) => {

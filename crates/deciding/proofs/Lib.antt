@@ -4,4 +4,3 @@ pub mod HeldLaws
 pub mod Answering
 pub mod Promised
 pub mod Opened
-pub mod Examples

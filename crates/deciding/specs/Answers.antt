@@ -18,19 +18,21 @@ use Rattle.meaning.specs.declared.Decision.the-variants.{System}
 use Rattle.deciding.specs.declared.Answer.{Answer}
 use Rattle.deciding.specs.declared.Answer.the-variants.{Decided, Refused}
 
--- the policies that a text says
+-- the policies that reading a text gave; none, where it was refused
 unfoldable pub policiesIn : reader.Answer (List Policy) → List Policy
 policiesIn (took ps r) = ps
 policiesIn (refuse n r) = []
 
+-- the policies that a text says
 abbrev pub policiesOf : List ℕ → List Policy
 policiesOf text = policiesIn (said text)
 
--- the attributes that a bag holds
+-- the attributes in a bag's sections; none, where there are no such sections
 unfoldable pub viewIn : List ℕ → Divided → View
 viewIn bag (In p) = look (baseBag bag p)
 viewIn bag Broken = λ root path. absent
 
+-- the attributes that a bag holds
 abbrev pub viewOf : List ℕ → View
 viewOf bag = viewIn bag (sectionsOf bag)
 
@@ -48,12 +50,13 @@ answerOf text table bag q =
     (cond (not (isBag bag)) (Refused 24)
     (cond (not (beginsOf text table)) (Refused 20) (Decided (decisionOf text (viewOf bag) q (policiesOf text))))))))
 
--- what document 01 calls an answer: the refusal's number, the outcome and the policy, with 0 for what there is none of
+-- document 01's numbers: of the refusal, the outcome and the policy, with 0 for what there is none of
 pub record Said : Type 0 where
   pub refusal : ℕ
   pub outcome : ℕ
   pub policy : ℕ
 
+-- what an answer says in these numbers
 unfoldable pub saidOf : Answer → Said
 saidOf (Decided d) = record { refusal = 0; outcome = outcomeOf d; policy = policyOf d }
 saidOf (Refused number) = record { refusal = number; outcome = 0; policy = 0 }

@@ -69,6 +69,7 @@ YesExactly = (text table bag : List ℕ) (q : Request) → (saysYes (answerOf te
 unfoldable pub NamedRightly : Type 0
 NamedRightly = (text table bag : List ℕ) (q : Request) (ps : List Policy) → Heard text table bag q ps → Names text (viewOf bag) q ps (saidOf (answerOf text table bag q) .policy)
 
+-- The system gets outcome 4 and no policy, whatever else is given.
 unfoldable pub SystemNamesNone : Type 0
 SystemNamesNone = (text table bag : List ℕ) (q : Request) → isSystem (q .subject) ≡ true → (saidOf (answerOf text table bag q) .outcome ≡ 4) × (saidOf (answerOf text table bag q) .policy ≡ 0)
 

@@ -9,6 +9,6 @@ use Rattle.views.specs.Meaning.{View}
 use Rattle.meaning.specs.Targets.{Request}
 use Rattle.meaning.specs.Decisions.{satisfied}
 
--- the policy of which x is the last entry, number end - 1, is satisfied; and it is no permit where a forbid is known
+-- the policy of which x is the last entry, number end - 1, is satisfied; and it is no permit, kind 34, where a forbid is known
 unfoldable pub countsOf : Bool → List ℕ → View → Request → List ℕ → ℕ → Entry → Bool
 countsOf known t view q table end x = not (known && eqb (x .kind) 34) && satisfied t view q (policyOf table end x)

@@ -52,6 +52,7 @@ fn held<'a>(
     match held_policies(classes, text, table) {
         Held::Wrong => Answer::Refused(20),
         Held::Right(policies, entries) => {
+            // a bag is a row without columns
             let heads = [0usize; 6];
             let values = [0usize; 6];
             Answer::Decided(decision(
@@ -89,15 +90,15 @@ pub fn decide<'a>(
     if is_system(subject) {
         return Answer::Decided(Decision::System);
     }
-    let sort = subject_type(subject);
-    if sort == 0 {
+    let subject_type = subject_type(subject);
+    if subject_type == 0 {
         return Answer::Refused(21);
     }
     if !is_action(action) {
         return Answer::Refused(22);
     }
-    let kind = resource_type(resource);
-    if kind == 0 {
+    let resource_type = resource_type(resource);
+    if resource_type == 0 {
         return Answer::Refused(23);
     }
     let classes = class_table();
@@ -110,10 +111,10 @@ pub fn decide<'a>(
             bag,
             p,
             subject,
-            sort,
+            subject_type,
             action,
             resource,
-            kind,
+            resource_type,
         ),
     }
 }

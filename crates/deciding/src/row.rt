@@ -1,4 +1,4 @@
-// What the policies of a table decide over a row of attributes.
+// What the policies of a table decide over a row of attributes: the sections p of the bytes s, and n columns, whose places are `heads`, with what is chosen for them at `values`.
 ghost use mathlib.Core.Path.{_≡_};
 ghost use mathlib.Core.Bool.{cond};
 ghost use lib.ListN.{length};
@@ -18,6 +18,9 @@ use meaning::Verdict;
 use table::Entry;
 use table::entry_at;
 use targets::matching::target_matches;
+
+// The kind of a permit's last entry (docs/TABLE.md); a forbid's has another.
+const PERMIT: u8 = 34;
 
 // Whether a condition is true.
 fn is_yes(v: Verdict) -> bool
@@ -56,7 +59,7 @@ pub fn counts<'a>(
     ensures { λ r. ⌜ r ≡ countsOf known (now (text .entry)) (rowView (now (s .entry)) p n (now (heads .entry)) (now (values .entry)))
         (request (now (subject .entry)) (now (action .entry)) (now (resource .entry))) (now (table .entry)) end x ⌝ }
 {
-    if known & (x.kind == 34) {
+    if known & (x.kind == PERMIT) {
         return false;
     }
     let target = target_matches(
@@ -73,6 +76,7 @@ pub fn counts<'a>(
     if !target {
         return false;
     }
+    // a condition would begin before the policy's own entry
     if x.second == end - 1 {
         return true;
     }
@@ -148,7 +152,7 @@ pub fn decision<'a>(
             resource,
             resource_type,
         );
-        let permits = x.kind == 34;
+        let permits = x.kind == PERMIT;
         forbid = number_if(hit & !permits, number, forbid);
         permit = number_if(hit & permits, number, permit);
         end = x.first;

@@ -13,7 +13,7 @@ use Rattle.stored.specs.ReadBack.{treeOf, treeAt}
 use Rattle.stored.specs.Ready.{Ready, ReadyPart, Node}
 use Rattle.stored.proofs.Nodes.{as-not, as-brackets, as-both, as-either, as-choice}
 use Rattle.stored.proofs.Evaluating.{node-of}
-use Rattle.meaning.specs.Conditions.{negated, bothOf, eitherOf, choiceOf, verdict, isYes}
+use Rattle.meaning.specs.Conditions.{bothOf, eitherOf, choiceOf, verdict, isYes}
 use Rattle.meaning.specs.declared.Verdict.{Verdict}
 use Rattle.evaluating.proofs.Verdicts.{Clear, clear, turnedBy, one-more, both-stops, both-on, either-stops, either-on, choice-on}
 

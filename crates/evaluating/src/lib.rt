@@ -1,4 +1,5 @@
 // The verdict of a compiled condition. It is met from its last entry on, in a loop; only what nests calls again.
+// Kinds of entries (docs/TABLE.md): up to 23 conditions without parts, 24 `!`, 25 brackets, 26 `&&`, 27 `||`, 28 `if`.
 ghost use mathlib.Core.Path.{_≡_};
 ghost use mathlib.Core.Bool.{cond, not, _&&_, _||_};
 ghost use Prim.Native.Nat.{_-_, _<_};
@@ -14,6 +15,7 @@ use operators::flat;
 use table::Entry;
 use table::entry_in;
 
+// Whether a condition is true.
 fn is_yes(v: Verdict) -> bool
     ensures { λ r. ⌜ r ≡ isYes v ⌝ }
 {

@@ -1,10 +1,10 @@
--- When a condition is true (document 01, 'Deciding'), one line a rule. Definitions only.
+-- When a condition is true (document 01, 'Deciding'), rule by rule. Definitions only.
 use mathlib.Core.Bool.{Bool, true, false, cond, _&&_, _||_}
 use mathlib.Core.List.{List, [], _∷_}
 use Prim.Native.Nat.{ℕ}
 use Rattle.slices.specs.Same.{same}
 use Rattle.patterns.specs.Likes.{likes}
-use Rattle.grammar.specs.Policies.{Comparator.Equal, Which, Which.All, Which.Any, Tree, constant, compare, like, among, within, contains, has, not, brackets, both, either, choice}
+use Rattle.grammar.specs.Policies.{Comparator, Comparator.Equal, Literal, Which, Which.All, Which.Any, Tree, constant, compare, like, among, within, contains, has, not, brackets, both, either, choice}
 use Rattle.placing.specs.Placed.{quotedAt}
 use Rattle.views.specs.Meaning.{Datum, text, number, flag, texts, absent, present, View}
 use Rattle.meaning.specs.Values.{literalValue, attributeValue, operandValue, ifText, ifTexts, compares}
@@ -13,11 +13,12 @@ use Rattle.meaning.specs.declared.Verdict.the-variants.{Yes, No, Missing
 
 -- ---- verdicts
 
+-- yes where a test passes, else no
 unfoldable pub told : Bool → Verdict
 told true = Yes
 told false = No
 
--- an operator that met this value, or these two, says b; missing where a value is absent
+-- what an operator that met this value says by its test; missing where the value is absent
 unfoldable pub given : Datum → Bool → Verdict
 given (text x) b = told b
 given (number x) b = told b
@@ -25,6 +26,7 @@ given (flag x) b = told b
 given (texts x) b = told b
 given absent b = Missing
 
+-- the same of an operator that met two values
 unfoldable pub givenBoth : Datum → Datum → Bool → Verdict
 givenBoth d e b = cond (present d) (given e b) Missing
 
@@ -34,22 +36,25 @@ settled Yes = Yes
 settled No = No
 settled Missing = No
 
+-- `!`
 unfoldable pub negated : Verdict → Verdict
 negated Yes = No
 negated No = Yes
 negated Missing = Missing
 
--- parts are met from left to right: `&&` stops at false, `||` at true, `if` meets only the chosen part
+-- `&&`, its parts met from left to right: false stops it
 unfoldable pub bothOf : Verdict → Verdict → Verdict
 bothOf Yes v = v
 bothOf No v = No
 bothOf Missing v = Missing
 
+-- `||`, likewise: true stops it
 unfoldable pub eitherOf : Verdict → Verdict → Verdict
 eitherOf Yes v = Yes
 eitherOf No v = v
 eitherOf Missing v = Missing
 
+-- `if`: only the part that it chooses is met
 unfoldable pub choiceOf : Verdict → Verdict → Verdict → Verdict
 choiceOf Yes a b = a
 choiceOf No a b = b
@@ -57,15 +62,17 @@ choiceOf Missing a b = Missing
 
 -- ---- lists
 
+-- one of a list passes the test
 unfoldable pub some : {A : Type 0} → (A → Bool) → List A → Bool
 some test [] = false
 some test (x ∷ xs) = test x || some test xs
 
+-- each of a list passes the test
 unfoldable pub all : {A : Type 0} → (A → Bool) → List A → Bool
 all test [] = true
 all test (x ∷ xs) = test x && all test xs
 
--- containsAll, containsAny
+-- containsAll asks for each, containsAny for one
 abbrev pub asked : {A : Type 0} → Which → (A → Bool) → List A → Bool
 asked All test xs = all test xs
 asked Any test xs = some test xs
@@ -74,24 +81,50 @@ asked Any test xs = some test xs
 abbrev pub listed : List (List ℕ) → List ℕ → Bool
 listed l x = some (same x) l
 
+-- ---- operators, by the values that they met
+
+-- two operands with a comparator
+abbrev pub compared : Comparator → Datum → Datum → Verdict
+compared c d e = settled (givenBoth d e (compares c d e))
+
+-- `like` matches the whole string
+abbrev pub likened : Datum → List ℕ → Verdict
+likened d pattern = settled (given d (ifText d (likes pattern)))
+
+-- `in` a list: equal to some literal of the same kind
+abbrev pub inList : List ℕ → Datum → List Literal → Verdict
+inList t d ls = settled (given d (some (λ l. compares Equal d (literalValue t l)) ls))
+
+-- `in` an attribute: a string among a list of strings
+abbrev pub inAttribute : Datum → Datum → Verdict
+inAttribute d e = settled (givenBoth d e (ifText d λ x. ifTexts e λ l. listed l x))
+
+-- containsAll: each literal is a string of the list; containsAny: one is
+abbrev pub contained : List ℕ → Which → Datum → List Literal → Verdict
+contained t w d ls = settled (given d (ifTexts d λ l. asked w (λ x. ifText (literalValue t x) (listed l)) ls))
+
+-- `has`: there is such an entry
+abbrev pub had : Datum → Verdict
+had d = told (present d)
+
 -- ---- conditions
 
+-- what a condition is found to be, where the text is t and the attributes are those of the view
 unfoldable pub verdict : List ℕ → View → Tree → Verdict
 verdict t view (constant b) = told b
-verdict t view (compare c a b) = settled (givenBoth (operandValue t view a) (operandValue t view b) (compares c (operandValue t view a) (operandValue t view b)))
-verdict t view (like a s) = settled (given (operandValue t view a) (ifText (operandValue t view a) (likes (quotedAt t s))))
-verdict t view (among a ls) = settled (given (operandValue t view a) (some (λ l. compares Equal (operandValue t view a) (literalValue t l)) ls))
-verdict t view (within a root s) =
-    settled (givenBoth (operandValue t view a) (attributeValue t view root s) (ifText (operandValue t view a) λ x. ifTexts (attributeValue t view root s) λ l. listed l x))
-verdict t view (contains w root s ls) =
-    settled (given (attributeValue t view root s) (ifTexts (attributeValue t view root s) λ l. asked w (λ x. ifText (literalValue t x) (listed l)) ls))
-verdict t view (has root s) = told (present (attributeValue t view root s))
+verdict t view (compare c a b) = compared c (operandValue t view a) (operandValue t view b)
+verdict t view (like a s) = likened (operandValue t view a) (quotedAt t s)
+verdict t view (among a ls) = inList t (operandValue t view a) ls
+verdict t view (within a root s) = inAttribute (operandValue t view a) (attributeValue t view root s)
+verdict t view (contains w root s ls) = contained t w (attributeValue t view root s) ls
+verdict t view (has root s) = had (attributeValue t view root s)
 verdict t view (not a) = negated (verdict t view a)
 verdict t view (brackets a) = verdict t view a
 verdict t view (both a b) = bothOf (verdict t view a) (verdict t view b)
 verdict t view (either a b) = eitherOf (verdict t view a) (verdict t view b)
 verdict t view (choice c a b) = choiceOf (verdict t view c) (verdict t view a) (verdict t view b)
 
+-- the condition is true
 abbrev pub isYes : Verdict → Bool
 isYes Yes = true
 isYes No = false

@@ -16,6 +16,7 @@ use Rattle.meaning.specs.declared.Decision.the-variants.{Allowed, Forbid
 
 -- ---- satisfied policies
 
+-- the three parts of a policy's target match the request
 unfoldable pub targetMatches : List ℕ → Request → Policy → Bool
 targetMatches t q p =
     partMatches principalTypes t (q .subject) (p .principal) && actionMatches t (q .action) (p .action) && partMatches resourceTypes t (q .resource) (p .resource)
@@ -25,6 +26,7 @@ unfoldable pub conditionHolds : List ℕ → View → Option Tree → Bool
 conditionHolds t view none = true
 conditionHolds t view (some c) = isYes (verdict t view c)
 
+-- a policy is satisfied if its target parts match and its condition, if any, is true
 unfoldable pub satisfied : List ℕ → View → Request → Policy → Bool
 satisfied t view q p = targetMatches t q p && conditionHolds t (withAction (q .action) view) (p .condition)
 
@@ -56,19 +58,21 @@ policiesDecide t view q ps = byNumbers (firstOf (forbids t view q) 1 ps) (firstO
 unfoldable pub decisionOf : List ℕ → View → Request → List Policy → Decision
 decisionOf t view q ps = cond (isSystem (q .subject)) System (policiesDecide t view q ps)
 
--- what document 01 calls each decision: outcome and policy
+-- document 01's number of each outcome
 unfoldable pub outcomeOf : Decision → ℕ
 outcomeOf (Allowed n) = 1
 outcomeOf (Forbidden n) = 2
 outcomeOf Nothing = 3
 outcomeOf System = 4
 
+-- and of the policy: 0 where nothing is satisfied, and for the system
 unfoldable pub policyOf : Decision → ℕ
 policyOf (Allowed n) = n
 policyOf (Forbidden n) = n
 policyOf Nothing = 0
 policyOf System = 0
 
+-- the request gets yes: outcome 1 or 4
 unfoldable pub isAllowed : Decision → Bool
 isAllowed (Allowed n) = true
 isAllowed (Forbidden n) = false
@@ -111,9 +115,10 @@ pub data Names (t : List ℕ) (view : View) (q : Request) (ps : List Policy) : �
   a-permit : {n : ℕ} → isSystem (q .subject) ≡ false → (Some t view q ps false → ⊥) → Lowest t view q ps true n → Names t view q ps n
   none-named : isSystem (q .subject) ≡ false → (Some t view q ps false → ⊥) → (Some t view q ps true → ⊥) → Names t view q ps 0
 
+-- What is decided names so.
 unfoldable pub NamedRightly : Type 0
 NamedRightly = (t : List ℕ) (view : View) (q : Request) (ps : List Policy) → Names t view q ps (policyOf (decisionOf t view q ps))
 
--- So it leaves one name.
+-- And there is one such number.
 unfoldable pub OneName : Type 0
 OneName = (t : List ℕ) (view : View) (q : Request) (ps : List Policy) (m n : ℕ) → Names t view q ps m → Names t view q ps n → m ≡ n

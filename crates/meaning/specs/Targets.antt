@@ -12,6 +12,7 @@ use Rattle.grammar.specs.Rules.{principalTypes, resourceTypes, typeAmong}
 use Rattle.placing.specs.Placed.{quotedAt}
 use Rattle.meaning.specs.Conditions.{some}
 
+-- who wants to do what with which resource, each as its bytes
 pub record Request : Type 0 where
   pub subject : List ℕ
   pub action : List ℕ
@@ -19,11 +20,12 @@ pub record Request : Type 0 where
 
 -- ---- the forms of subjects, actions and resources
 
--- what stands before the first colon, and after it
+-- what stands before the first colon; all, where there is none
 unfoldable pub kindOf : List ℕ → List ℕ
 kindOf [] = []
 kindOf (b ∷ rest) = cond (eqb b (code ":")) [] (b ∷ kindOf rest)
 
+-- what stands after the first colon; nothing, where there is none
 unfoldable pub idOf : List ℕ → List ℕ
 idOf [] = []
 idOf (b ∷ rest) = cond (eqb b (code ":")) rest (idOf rest)
@@ -32,6 +34,7 @@ idOf (b ∷ rest) = cond (eqb b (code ":")) rest (idOf rest)
 abbrev pub typeIn : List (List ℕ) → List ℕ → ℕ
 typeIn types s = typeAmong types 1 (kindOf s)
 
+-- subject, action and resource have at most 100 bytes
 abbrev pub atMostHundred : List ℕ → Bool
 atMostHundred s = leb (length s) 100
 
@@ -39,31 +42,37 @@ atMostHundred s = leb (length s) 100
 unfoldable pub isTyped : List (List ℕ) → List ℕ → Bool
 isTyped types s = atMostHundred s && not (eqb (typeIn types s) 0) && ltb 0 (length (idOf s))
 
+-- the system: these six bytes alone
 abbrev pub isSystem : List ℕ → Bool
 isSystem s = same s (bytes "system")
 
+-- a subject other than the system: `person:` or `tool:` and an id
 abbrev pub isSubject : List ℕ → Bool
 isSubject s = isTyped principalTypes s
 
+-- an action: 1 to 100 bytes
 unfoldable pub isAction : List ℕ → Bool
 isAction s = atMostHundred s && ltb 0 (length s)
 
+-- a resource: one of the four resource types, a colon, an id
 abbrev pub isResource : List ℕ → Bool
 isResource s = isTyped resourceTypes s
 
 -- ---- targets
 
--- `is` compares the text before the first colon, `==` the whole string
+-- the principal part or the resource part matches s: a bare one always, `is` by the text before the first colon, `==` by the whole string
 unfoldable pub partMatches : List (List ℕ) → List ℕ → List ℕ → Part → Bool
 partMatches types t s any = true
 partMatches types t s (typed k) = eqb (typeIn types s) k
 partMatches types t s (pinned p) = same s (quotedAt t p)
 
+-- a literal is the string s
 unfoldable pub isString : List ℕ → List ℕ → Literal → Bool
 isString t s (text p) = same s (quotedAt t p)
 isString t s (number p) = false
 isString t s (truth b) = false
 
+-- the action part matches the action s: a bare one always, `in` a list if s is one of its strings
 unfoldable pub actionMatches : List ℕ → List ℕ → Actions → Bool
 actionMatches t s every = true
 actionMatches t s (oneOf ls) = some (isString t s) ls

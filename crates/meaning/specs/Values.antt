@@ -13,7 +13,7 @@ use Rattle.grammar.specs.Policies.{Span, Root, Root.Principal, Root.Resource, R
 use Rattle.placing.specs.Placed.{bytesAt, quotedAt, pathAt}
 use Rattle.views.specs.Meaning.{Datum, text, number, flag, texts, absent, View}
 
--- the roots by their root bytes, and action
+-- the root bytes of document 01, and 4 for action, which is no root of a bag
 abbrev pub rootByte : Root → ℕ
 rootByte Principal = 1
 rootByte Resource = 2
@@ -24,14 +24,17 @@ rootByte Action = 4
 unfoldable pub withAction : List ℕ → View → View
 withAction action view root path = cond (eqb root (rootByte Action)) (cond (same path (bytes "name")) (text action) absent) (view root path)
 
+-- a literal: the bytes between a string's quotes, the number that its digits spell, or a flag
 unfoldable pub literalValue : List ℕ → Literal → Datum
 literalValue t (textLiteral s) = text (quotedAt t s)
 literalValue t (numberLiteral s) = number (numberIn (bytesAt t s))
 literalValue t (truth b) = flag b
 
+-- an attribute: what the view has for its root and its path without blanks
 unfoldable pub attributeValue : List ℕ → View → Root → Span → Datum
 attributeValue t view root s = view (rootByte root) (pathAt t s)
 
+-- an operand: an attribute or a literal
 unfoldable pub operandValue : List ℕ → View → Operand → Datum
 operandValue t view (attribute root s) = attributeValue t view root s
 operandValue t view (literal l) = literalValue t l
@@ -77,6 +80,7 @@ equality AtLeast same = false
 equality Less same = false
 equality AtMost same = false
 
+-- whether two flags are the same
 abbrev pub sameFlag : Bool → Bool → Bool
 sameFlag true b = b
 sameFlag false b = not b

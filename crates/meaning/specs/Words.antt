@@ -11,19 +11,23 @@ use Rattle.meaning.specs.Decisions.{satisfied, policiesDecide, decisionO
 
 -- ---- the places that a policy holds: of its paths, strings and numbers
 
+-- of a literal: a flag's word is said by the policy itself
 unfoldable pub literalPlaces : Literal → List Span
 literalPlaces (text s) = s ∷ []
 literalPlaces (number s) = s ∷ []
 literalPlaces (truth b) = []
 
+-- of the literals of a list
 unfoldable pub listPlaces : List Literal → List Span
 listPlaces [] = []
 listPlaces (l ∷ ls) = literalPlaces l ++ listPlaces ls
 
+-- of an operand
 unfoldable pub operandPlaces : Operand → List Span
 operandPlaces (attribute root s) = s ∷ []
 operandPlaces (literal l) = literalPlaces l
 
+-- of a condition
 unfoldable pub treePlaces : Tree → List Span
 treePlaces (constant b) = []
 treePlaces (compare c a b) = operandPlaces a ++ operandPlaces b
@@ -38,19 +42,23 @@ treePlaces (both a b) = treePlaces a ++ treePlaces b
 treePlaces (either a b) = treePlaces a ++ treePlaces b
 treePlaces (choice c a b) = treePlaces c ++ (treePlaces a ++ treePlaces b)
 
+-- of a principal part or a resource part: a type is said by the policy itself
 unfoldable pub partPlaces : Part → List Span
 partPlaces any = []
 partPlaces (typed n) = []
 partPlaces (pinned s) = s ∷ []
 
+-- of an action part
 unfoldable pub actionPlaces : Actions → List Span
 actionPlaces every = []
 actionPlaces (oneOf ls) = listPlaces ls
 
+-- of a condition, if there is one
 unfoldable pub conditionPlaces : Option Tree → List Span
 conditionPlaces none = []
 conditionPlaces (some c) = treePlaces c
 
+-- of a policy
 unfoldable pub policyPlaces : Policy → List Span
 policyPlaces p = partPlaces (p .principal) ++ (actionPlaces (p .action) ++ (partPlaces (p .resource) ++ conditionPlaces (p .condition)))
 

@@ -8,8 +8,8 @@ use native.Mathlib.Omega.{arith}
 use lib.Dec.{eqb, leb}
 use Rattle.patterns.specs.Likes.{likes}
 use Rattle.views.specs.Meaning.{View, present}
-use Rattle.grammar.specs.Policies.{Span, Root, Comparator, Comparator.Equal, Literal, Operand, Which, Which.All, Which.Any, Tree, constant, compare, like, among, within, contains, has}
-use Rattle.placing.specs.Placed.{quotedAt, StringPlaced, PathPlaced, Each, Listed, LiteralPlaced, OperandPlaced, TreePlaced, a-comparison, a-likeness, in-list, in-attribute, a-call, a-presence}
+use Rattle.grammar.specs.Policies.{Span, Root, Comparator, Comparator.Equal, Literal, Operand, Which, Tree, constant, compare, like, among, within, contains, has}
+use Rattle.placing.specs.Placed.{quotedAt, StringPlaced, PathPlaced, Each, LiteralPlaced, OperandPlaced, TreePlaced, a-comparison, a-likeness, in-list, in-attribute, a-call, a-presence}
 use Rattle.table.specs.declared.Entry.{Entry}
 use Rattle.table.specs.Layout.{entryAt}
 use Rattle.stored.specs.ReadBack.{spanOf, rootOf, comparatorOf, operandOf, literalsAt, listAt, ownerAt, treeOf, treeAt}

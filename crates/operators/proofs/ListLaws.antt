@@ -1,7 +1,7 @@
 -- Lists of literals in a table, and lists of strings in a bag or question: one step of each. Assumes nothing.
 use Prim.Native.Nat.{ℕ, zero, suc, _+_, _-_, _≤_, _<_}
-use mathlib.Core.List.{List, [], _∷_}
-use mathlib.Core.Bool.{Bool, true, false, not, _&&_, _||_, cond}
+use mathlib.Core.List.{List}
+use mathlib.Core.Bool.{Bool, true, false, not, _||_, cond}
 use mathlib.Core.Path.{_≡_, refl, sym, _∙_, ap}
 use borrow.Author.Tests.{ne-eqb}
 use native.Mathlib.Omega.{arith}
@@ -14,10 +14,9 @@ use Rattle.bags.specs.declared.After.the-variants.{At}
 use Rattle.bags.proofs.ReadLaws.{first, each-done, each-more}
 use Rattle.bags.proofs.ValueLaws.{value-list, string-at, Strings}
 use Rattle.lookups.proofs.StepLaws.{as-list}
-use Rattle.views.specs.Meaning.{text, number, flag}
 use Rattle.lookups.specs.declared.values.Value.{Value}
 use Rattle.views.specs.Values.{stringAt, listAt, datumOf}
-use Rattle.grammar.specs.Policies.{Comparator.Equal, Literal, text as textLiteral, number as numberLiteral, truth, Which.All, Which.Any}
+use Rattle.grammar.specs.Policies.{Comparator.Equal, Literal, number as numberLiteral, truth}
 use Rattle.placing.specs.Placed.{quotedAt, Each, and-each, LiteralPlaced}
 use Rattle.table.specs.declared.Entry.{Entry}
 use Rattle.table.specs.Layout.{entryAt}

@@ -1,14 +1,14 @@
 -- What each operator says of the values that were read is what it says of the values that are meant. Assumes nothing.
 use Prim.Native.Nat.{ℕ, _<_}
 use mathlib.Core.List.{List}
-use mathlib.Core.Bool.{Bool, true, false}
+use mathlib.Core.Bool.{Bool, false}
 use mathlib.Core.Path.{_≡_, refl, sym, _∙_, ap}
 use Rattle.bags.specs.declared.sections.Sections.{Sections}
 use Rattle.lookups.specs.declared.values.Value.{Value}
 use Rattle.views.specs.Meaning.{Datum, present}
 use Rattle.views.specs.Values.{listAt, datumOf}
 use Rattle.views.specs.Rows.{rowView, Stands}
-use Rattle.grammar.specs.Policies.{Comparator, Comparator.Equal, Literal}
+use Rattle.grammar.specs.Policies.{Comparator.Equal, Literal}
 use Rattle.placing.specs.Placed.{quotedAt, PathPlaced, OperandPlaced}
 use Rattle.table.specs.declared.Entry.{Entry}
 use Rattle.stored.specs.ReadBack.{spanOf, rootOf, literalOf, operandOf, comparatorOf}

@@ -1,7 +1,7 @@
 -- What a read value stands for, by its kind, and comparators on two of them. Assumes nothing.
-use Prim.Native.Nat.{ℕ, _≤_, _<_}
-use mathlib.Core.List.{List, [], _∷_}
-use mathlib.Core.Bool.{Bool, true, false, not, _&&_, cond}
+use Prim.Native.Nat.{ℕ}
+use mathlib.Core.List.{List}
+use mathlib.Core.Bool.{Bool, true, false, _&&_, cond}
 use mathlib.Core.Path.{_≡_, refl, sym, _∙_, ap}
 use borrow.Author.Tests.{ne-eqb, eqb-true, eqb-false, lt-leb, leb-true}
 use native.Mathlib.Omega.{arith}
@@ -10,7 +10,7 @@ use lib.Ieee.{Float, eq}
 use Rattle.slices.specs.Same.{same}
 use Rattle.lookups.specs.Values.{unit}
 use Rattle.lookups.specs.declared.values.Value.{Value}
-use Rattle.views.specs.Meaning.{Datum, text, number, flag, texts, absent, present}
+use Rattle.views.specs.Meaning.{text, number, flag, texts, absent, present}
 use Rattle.views.specs.Values.{datumOf}
 use Rattle.grammar.specs.Policies.{Comparator, Comparator.Equal, Comparator.NotEqual, Comparator.More, Comparator.AtLeast, Comparator.Less, Comparator.AtMost}
 use Rattle.stored.specs.ReadBack.{comparatorOf}

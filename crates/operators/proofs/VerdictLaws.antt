@@ -1,16 +1,15 @@
 -- The verdict of a condition without parts is yes or no, by one test: an absent value fails the test too. Assumes nothing.
 use Prim.Native.Nat.{ℕ}
 use mathlib.Core.List.{List, [], _∷_}
-use mathlib.Core.Bool.{Bool, true, false, _||_, cond}
-use mathlib.Core.Path.{_≡_, refl, ap}
+use mathlib.Core.Bool.{Bool, true, false}
+use mathlib.Core.Path.{_≡_, refl}
 use Rattle.patterns.specs.Likes.{likes}
-use Rattle.grammar.specs.Policies.{Span, Root, Comparator, Comparator.Equal, Literal, Operand, Which, Tree, constant, compare, like, among, within, contains, has}
+use Rattle.grammar.specs.Policies.{Span, Root, Comparator, Comparator.Equal, Literal, Operand, Which, constant, compare, like, among, within, contains, has}
 use Rattle.placing.specs.Placed.{quotedAt}
 use Rattle.views.specs.Meaning.{Datum, text, number, flag, texts, absent, present, View}
 use Rattle.meaning.specs.Values.{literalValue, attributeValue, operandValue, ifText, ifTexts, compares}
 use Rattle.meaning.specs.Conditions.{told, given, givenBoth, settled, some, asked, listed, verdict}
-use Rattle.meaning.specs.declared.Verdict.{Verdict}
-use Rattle.meaning.specs.declared.Verdict.the-variants.{Yes, No, Missing}
+use Rattle.meaning.specs.declared.Verdict.the-variants.{Yes, No}
 
 pub told-yes : (b : Bool) → b ≡ true → Yes ≡ told b
 unfolding told

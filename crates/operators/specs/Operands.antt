@@ -1,7 +1,7 @@
 -- What is read for an operand's entry: a value, and the bytes of its string, which lie in the rule text, in the bag or question, or are the action. Definitions only.
 use Prim.Native.Nat.{ℕ, _-_}
 use mathlib.Core.List.{List}
-use mathlib.Core.Bool.{Bool, true, false, _&&_, cond}
+use mathlib.Core.Bool.{Bool, _&&_, cond}
 use lib.Dec.{eqb, leb}
 use Rattle.numbers.specs.Literals.{numberIn}
 use Rattle.bags.specs.declared.sections.Sections.{Sections}
@@ -30,18 +30,20 @@ ofBag root = leb 1 root && leb root 3
 unfoldable pub attributeRead : List ℕ → List ℕ → Sections → ℕ → List ℕ → List ℕ → Entry → Value
 attributeRead t s p n heads values o = cond (ofBag (o .kind)) (rowValue s p n heads values (o .kind) (pathAt t (spanOf o))) aString
 
--- a literal: a string, a number, or `true` or `false`
+-- a literal: a string (kind 9), a number (10), or `true` (11) or `false`
 unfoldable pub literalRead : List ℕ → Entry → Value
 literalRead t o =
     cond (eqb (o .kind) 9) aString
     (cond (eqb (o .kind) 10) (record { kind = 2; number = numberIn (bytesAt t (spanOf o)); place = 0 })
     (record { kind = 3; number = cond (eqb (o .kind) 11) unit nought; place = 0 }))
 
+-- an operand: an attribute or a literal, by its entry's kind
 unfoldable pub operandRead : List ℕ → List ℕ → Sections → ℕ → List ℕ → List ℕ → Entry → Value
 operandRead t s p n heads values o = cond (leb (o .kind) 4) (attributeRead t s p n heads values o) (literalRead t o)
 
 -- ---- the bytes of a value's string
 
+-- those of the bag or question, those between a literal's quotes, else the action; nothing asks for them where the value is no string
 unfoldable pub stringOf : List ℕ → List ℕ → List ℕ → Entry → Value → List ℕ
 stringOf t s action o v = cond (eqb (v .kind) 1 && ofBag (o .kind)) (stringAt s (v .place)) (cond (eqb (o .kind) 9) (quotedAt t (spanOf o)) action)
 
@@ -55,6 +57,6 @@ meant t s p n heads values action o = operandValue t (withAction action (rowView
 abbrev pub whichOf : Bool → Which
 whichOf any = cond any Any All
 
--- where the left operand stands of the condition whose last entry is x, number end - 1: before a pattern, before a list, or before another operand
+-- where the left operand stands of the condition whose last entry is x, number end - 1: before x (`like`, kind 19), before a list (kind 20), or before another operand
 abbrev pub leftAt : ℕ → Entry → ℕ
 leftAt end x = cond (eqb (x .kind) 19) (end - 2) (cond (eqb (x .kind) 20) (end - x .first - 2) (end - 3))

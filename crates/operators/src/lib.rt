@@ -30,10 +30,14 @@ use meaning::Verdict;
 use table::Entry;
 use table::entry_in;
 
+// Kinds of entries (docs/TABLE.md): 1 to 4 attributes of principal, resource, env and action; 5 to 8 `has` after these; 9 to 12 a string, a number, true, false; 13 to 18 `==`, `!=`,
+// `>`, `>=`, `<`, `<=`; 19 `like`; 20 `in` a list; 21 `in` an attribute; 22 containsAll; 23 containsAny. Kinds of values are a bag's: 1 string, 2 number, 3 flag, 4 list, 0 absent.
+
 pub mod lists;
 pub mod operands;
 pub mod values;
 
+// Yes where b, else no.
 fn told_of(b: bool) -> Verdict
     ensures { λ r. ⌜ r ≡ told b ⌝ }
 {

@@ -46,6 +46,7 @@ fn equality_holds(kind: u8, same: bool) -> bool
     false
 }
 
+// Whether two flags are the same.
 pub fn same_flag(a: bool, b: bool) -> bool
     ensures { λ r. ⌜ r ≡ sameFlag a b ⌝ }
 {
@@ -65,6 +66,7 @@ pub fn same_string(a: &[u8], b: &[u8]) -> bool
     false
 }
 
+// Whether a value is not absent.
 pub fn is_present(v: Value) -> bool
     ensures { λ r. ⌜ ((x : List ℕ) (l : List (List ℕ)) → r ≡ present (datumOf v x l)) ⌝ }
 {

@@ -1,7 +1,7 @@
--- What a target's entries ask, and that a part matches by its type's number. Assumes nothing.
+-- What a target's entries ask of a request. Assumes nothing.
 use mathlib.Core.Path.{_≡_, refl, sym, _∙_, ap, subst}
-use mathlib.Core.Bool.{Bool, true, false, cond, _&&_, _||_, and-true, and-false}
-use mathlib.Core.List.{List, [], _∷_}
+use mathlib.Core.Bool.{Bool, true, false, cond, _||_, and-true, and-false}
+use mathlib.Core.List.{List, _∷_}
 use Prim.Native.Nat.{ℕ, zero, suc, _+_, _-_, _≤_, _<_}
 use native.Mathlib.Omega.{arith}
 use lib.Dec.{eqb}
@@ -10,7 +10,7 @@ use lib.Seq.{length-take-le}
 use borrow.Author.Tests.{eq-eqb, ne-eqb}
 use Rattle.slices.specs.Same.{same}
 use Rattle.slices.proofs.Equal.{other-length}
-use Rattle.grammar.specs.Policies.{Span, span, Literal, text, number, truth, Part, any, typed, pinned, Actions, oneOf}
+use Rattle.grammar.specs.Policies.{Span, span, Literal, text, number, truth, Part, pinned, Actions, oneOf}
 use Rattle.grammar.specs.Rules.{principalTypes, resourceTypes}
 use Rattle.placing.specs.Placed.{quotedAt, Each, StringPlaced, ActionPlaced, an-action, PrincipalPlaced, any-principal, principal-type, ResourcePlaced, any-resource, resource-type, one-resource, ActionsPlaced, any-action, one-of}
 use Rattle.placing.proofs.EachLaws.{each-first, each-rest}
@@ -20,7 +20,7 @@ use Rattle.stored.specs.ReadBack.{spanOf, literalOf, literalsAt, listAt, partOf
 use Rattle.meaning.specs.Conditions.{some}
 use Rattle.meaning.specs.Targets.{typeIn, partMatches, isString, actionMatches}
 use Rattle.meaning.specs.Decisions.{targetMatches}
-use Rattle.targets.specs.Matching.{matchesBy, request}
+use Rattle.targets.specs.Matching.{request}
 
 -- ---- strings of the text
 
@@ -39,23 +39,22 @@ module _ (t s : List ℕ) (start end : ℕ) (two : start + 2 ≤ end) (high : en
 
 -- ---- parts
 
-module _ (t s : List ℕ) (sort : ℕ) (x : Entry) where
-  pub any-part : x .kind ≡ 29 → true ≡ matchesBy t s sort (partOf x)
-  unfolding matchesBy partOf
+pinned-is : (x : Entry) → (x .kind ≡ 29 → ⊥) → (x .kind ≡ 30 → ⊥) → partOf x ≡ pinned (spanOf x)
+unfolding partOf
+pinned-is x n m = rw (ne-eqb _ _ n, ne-eqb _ _ m)
+
+module _ (t s : List ℕ) (x : Entry) (types : List (List ℕ)) where
+  pub any-part : x .kind ≡ 29 → true ≡ partMatches types t s (partOf x)
+  unfolding partMatches partOf
   any-part e = rw (eq-eqb _ _ e)
 
-  pub typed-part : x .kind ≡ 30 → eqb sort (x .first) ≡ matchesBy t s sort (partOf x)
-  unfolding matchesBy partOf
-  typed-part e = rw e
+  pub typed-part : {n : ℕ} → n ≡ typeIn types s → x .kind ≡ 30 → eqb n (x .first) ≡ partMatches types t s (partOf x)
+  unfolding partMatches partOf
+  typed-part d e = rw (e, d)
 
-  module _ (n : x .kind ≡ 29 → ⊥) (m : x .kind ≡ 30 → ⊥) where
-    pinned-is : partOf x ≡ pinned (spanOf x)
-    unfolding partOf
-    pinned-is = rw (ne-eqb _ _ n, ne-eqb _ _ m)
-
-    pub pinned-part : same s (quotedAt t (spanOf x)) ≡ matchesBy t s sort (partOf x)
-    unfolding matchesBy
-    pinned-part = rw pinned-is
+  pub pinned-part : (x .kind ≡ 29 → ⊥) → (x .kind ≡ 30 → ⊥) → same s (quotedAt t (spanOf x)) ≡ partMatches types t s (partOf x)
+  unfolding partMatches
+  pinned-part n m = rw (pinned-is x n m)
 
 pinned-placed : {t : List ℕ} {p : Part} {s : Span} → p ≡ pinned s → ResourcePlaced t p → StringPlaced t s
 pinned-placed e any-resource = absurd (let z : _≡_ {A = ℕ} 0 1 = cc in omega arith)
@@ -63,19 +62,12 @@ pinned-placed e (resource-type l h) = absurd (let z : _≡_ {A = ℕ} 0 1 = cc i
 pinned-placed {t} {p} {s} e (one-resource {s = z} h) = let k : z ≡ s = cc in subst (StringPlaced t) k h
 
 pub pinned-quoted : (t : List ℕ) (x : Entry) → (x .kind ≡ 29 → ⊥) → (x .kind ≡ 30 → ⊥) → ResourcePlaced t (partOf x) → (x .first + 2 ≤ x .second) × (x .second ≤ length t)
-pinned-quoted t x n m p = quoted (pinned-placed (pinned-is t [] 0 x n m) p)
+pinned-quoted t x n m p = quoted (pinned-placed (pinned-is x n m) p)
 
 -- a principal part lies as a resource part does
 pub as-resource : {t : List ℕ} {p : Part} → PrincipalPlaced p → ResourcePlaced t p
 as-resource any-principal = any-resource
 as-resource (principal-type l h) = resource-type l (omega arith)
-
--- a part matches by its type's number
-pub by-number : (types : List (List ℕ)) (t s : List ℕ) (p : Part) → matchesBy t s (typeIn types s) p ≡ partMatches types t s p
-unfolding matchesBy partMatches
-by-number types t s any = refl
-by-number types t s (typed k) = refl
-by-number types t s (pinned p) = refl
 
 -- ---- the action part
 
@@ -155,28 +147,21 @@ module _ (t action table : List ℕ) where
 
 -- ---- the target
 
-module _ (t table : List ℕ) (end : ℕ) (x : Entry) (subject action resource : List ℕ) (m n : ℕ)
-    (sort : m ≡ typeIn principalTypes subject) (sort′ : n ≡ typeIn resourceTypes resource) where
+module _ (t table : List ℕ) (end : ℕ) (x : Entry) (subject action resource : List ℕ) where
   abbrev whole : Bool
   whole = targetMatches t (request subject action resource) (policyOf table end x)
 
   module _ (y : Entry) (is : y ≡ entryAt table (x .first)) where
-    subject-is : matchesBy t subject m (partOf y) ≡ partMatches principalTypes t subject (partOf (entryAt table (x .first)))
-    subject-is = rw (is, sort) (by-number principalTypes t subject (partOf (entryAt table (x .first))))
-
-    pub other-subject : {r : Bool} → r ≡ matchesBy t subject m (partOf y) → r ≡ false → false ≡ whole
+    pub other-subject : {r : Bool} → r ≡ partMatches principalTypes t subject (partOf y) → r ≡ false → false ≡ whole
     unfolding targetMatches policyOf
-    other-subject d e = rw (sym subject-is ∙ sym d ∙ e)
+    other-subject d e = rw (← is, sym d ∙ e)
 
     module _ (z : Entry) (is′ : z ≡ entryAt table (x .second - 1)) where
-      resource-is : matchesBy t resource n (partOf z) ≡ partMatches resourceTypes t resource (partOf (entryAt table (x .second - 1)))
-      resource-is = rw (is′, sort′) (by-number resourceTypes t resource (partOf (entryAt table (x .second - 1))))
-
-      pub other-resource : {r : Bool} → r ≡ matchesBy t resource n (partOf z) → r ≡ false → false ≡ whole
+      pub other-resource : {r : Bool} → r ≡ partMatches resourceTypes t resource (partOf z) → r ≡ false → false ≡ whole
       unfolding targetMatches policyOf
-      other-resource d e = rw (sym resource-is ∙ sym d ∙ e) (sym (and-false (partMatches principalTypes t subject (partOf (entryAt table (x .first))) && actionMatches t action (actionsOf table (x .second - 1) (entryAt table (x .second - 2))))))
+      other-resource d e = rw (← is′, sym d ∙ e, and-false)
 
-      pub by-action : {r r′ b : Bool} → r ≡ matchesBy t subject m (partOf y) → r ≡ true → r′ ≡ matchesBy t resource n (partOf z) → r′ ≡ true
+      pub by-action : {r r′ b : Bool} → r ≡ partMatches principalTypes t subject (partOf y) → r ≡ true → r′ ≡ partMatches resourceTypes t resource (partOf z) → r′ ≡ true
           → (w : Entry) → w ≡ entryAt table (x .second - 2) → b ≡ actionMatches t action (actionsOf table (x .second - 1) w) → b ≡ whole
       unfolding targetMatches policyOf
-      by-action d e f h w k a = a ∙ rw (k, sym subject-is ∙ sym d ∙ e, sym resource-is ∙ sym f ∙ h) (sym (and-true _))
+      by-action d e f h w k a = a ∙ rw (k, ← is, sym d ∙ e, ← is′, sym f ∙ h) (sym (and-true _))

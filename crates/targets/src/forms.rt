@@ -22,8 +22,8 @@ pub fn is_action(s: &[u8]) -> bool
     (s.len() <= 100) & (0 < s.len())
 }
 
-// How many bytes stand before the first colon; all, where there is none.
-fn kind_end(s: &[u8]) -> usize
+// Where the type ends: how many bytes stand before the first colon; all, where there is none.
+fn type_end(s: &[u8]) -> usize
     ensures { λ r. ⌜ r ≡ length (kindOf (now (s .entry))) ⌝ }
 {
     let mut i = 0;
@@ -43,7 +43,7 @@ fn typed(resource: bool, s: &[u8]) -> usize
     if 100 < s.len() {
         return 0;
     }
-    let colon = kind_end(s);
+    let colon = type_end(s);
     if s.len() <= colon + 1 {
         return 0;
     }

@@ -1,19 +1,29 @@
 // Whether a policy's target matches a request, from the entries of a table.
 ghost use mathlib.Core.Path.{_≡_};
-ghost use Prim.Native.Nat.{_+_, _-_, _<_, _≤_};
+ghost use mathlib.Core.List.{List};
+ghost use Prim.Native.Nat.{ℕ, _+_, _-_, _<_, _≤_};
 ghost use lib.ListN.{length};
 ghost use Rattle.slices.specs.Same.{same};
 ghost use Rattle.grammar.specs.Policies.{span};
 ghost use Rattle.grammar.specs.Rules.{principalTypes, resourceTypes};
-ghost use Rattle.placing.specs.Placed.{quotedAt, ActionsPlaced, ResourcePlaced};
+ghost use Rattle.placing.specs.Placed.{quotedAt, ResourcePlaced};
 ghost use Rattle.stored.specs.ReadBack.{partOf, actionsOf, policyOf};
 ghost use Rattle.stored.specs.Ready.{Last};
-ghost use Rattle.meaning.specs.Targets.{typeIn, actionMatches};
+ghost use Rattle.meaning.specs.Targets.{typeIn, partMatches, actionMatches};
 ghost use Rattle.meaning.specs.Decisions.{targetMatches};
-ghost use Rattle.targets.specs.Matching.{matchesBy, request, Listing};
+ghost use Rattle.targets.specs.Matching.{request, ActionsAt};
 use slices::same as equal;
 use table::Entry;
 use table::entry_in;
+
+// The kind of the entry of a bare principal or resource part (docs/TABLE.md).
+const BARE: u8 = 29;
+
+// One with `is`, which has the type's number in its first field.
+const TYPED: u8 = 30;
+
+// A bare action part.
+const ANY_ACTION: u8 = 32;
 
 // Whether s is what stands between the quotes of the string of the text from `start` up to `end`.
 fn is_quoted(text: &[u8], start: usize, end: usize, s: &[u8]) -> bool
@@ -28,26 +38,26 @@ fn is_quoted(text: &[u8], start: usize, end: usize, s: &[u8]) -> bool
     equal(s, &text[from..to])
 }
 
-// Whether the principal part or the resource part that x says matches s, of which `sort` is the type's number.
-fn part_matches(text: &[u8], x: Entry, s: &[u8], sort: usize) -> bool
+// Whether the principal part or the resource part that x says matches s, whose type has this number among the part's types.
+fn part_matches(text: &[u8], x: Entry, s: &[u8], type_number: usize) -> bool
     requires { ⌜ ResourcePlaced (now text) (partOf x) ⌝ }
-    ensures { λ r. ⌜ r ≡ matchesBy (now (text .entry)) (now (s .entry)) sort (partOf x) ⌝ }
+    ensures { λ r. ⌜ ((types : List (List ℕ)) → «type_number» ≡ typeIn types (now (s .entry)) → r ≡ partMatches types (now (text .entry)) (now (s .entry)) (partOf x)) ⌝ }
 {
-    if x.kind == 29 {
+    if x.kind == BARE {
         return true;
     }
-    if x.kind == 30 {
-        return sort == x.first;
+    if x.kind == TYPED {
+        return type_number == x.first;
     }
     is_quoted(text, x.first, x.second, s)
 }
 
 // Whether the action part matches the action, where x is the part's last entry, number end - 1.
 fn action_matches(text: &[u8], table: &[u8], end: usize, x: Entry, action: &[u8]) -> bool
-    requires { ⌜ Listing (now text) (now table) end x ⌝ }
+    requires { ⌜ ActionsAt (now text) (now table) end x ⌝ }
     ensures { λ r. ⌜ r ≡ actionMatches (now (text .entry)) (now (action .entry)) (actionsOf (now (table .entry)) end x) ⌝ }
 {
-    if x.kind == 32 {
+    if x.kind == ANY_ACTION {
         return true;
     }
     let mut left = x.first;

@@ -12,7 +12,7 @@ returns : tie.Need-returns
 returns c = passed-over _ _ _ _ _ _ _ (c .if1 .taken)
 
 target-matches-requires : tie.Need-target-matches-requires
-target-matches-requires c κs = (c .before .before .before .before .before .before .before .before .pre .0, (c .before .before .before .before .before .before .before .before .pre .1 .1 .0, c .before .before .before .before .before .before .before .before .pre .1 .1 .1))
+target-matches-requires c κs = let start = c .before .before .before .before .before .before .before .before in (start .pre .0, (start .pre .1 .1 .0, start .pre .1 .1 .1))
 
 returns-2 : tie.Need-returns-2
 returns-2 c = no-target _ _ _ _ _ _ _ (c .before .before .if1 .left) (c .before .target-matches .ensures) (not-true _ (c .if2 .taken))
@@ -21,7 +21,9 @@ returns-3 : tie.Need-returns-3
 returns-3 c = no-condition _ _ _ _ _ _ _ (c .before .before .before .before .if1 .left) (c .before .before .before .target-matches .ensures) (not-false _ (c .before .before .if2 .left)) (c .if3 .taken)
 
 evaluate-requires : tie.Need-evaluate-requires
-evaluate-requires c κs = (c .before .before .before .before .before .before .before .before .before .before .before .before .pre .0 .condition (let f = c .if3 .left in let e = c .before .before .before .before .before .before .before .before .before .before .before .before .pre .0 .ends in omega arith), c .before .before .before .before .before .before .before .before .before .before .before .before .pre .1 .0)
+evaluate-requires c κs =
+    let start = c .before .before .before .before .before .before .before .before .before .before .before .before in
+    (start .pre .0 .condition (let f = c .if3 .left in let e = start .pre .0 .ends in omega arith), start .pre .1 .0)
 
 returns-4 : tie.Need-returns-4
 returns-4 c = by-condition _ _ _ _ _ _ _ (c .before .before .before .before .before .before .if1 .left) (c .before .before .before .before .before .target-matches .ensures) (not-false _ (c .before .before .before .before .if2 .left)) (c .before .before .if3 .left) (c .is-yes .ensures ∙ ap isYes (c .before .evaluate .ensures))

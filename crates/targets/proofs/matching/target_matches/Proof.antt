@@ -14,7 +14,7 @@ part-matches-requires c κs = rw (c .entry-in .ensures) (as-resource (c .before 
 returns : tie.Need-returns
 returns c =
     let start = c .before .before .before .before .before .before .before .before in
-    other-subject _ _ _ _ (start .args .subject .now) (start .args .action .now) (start .args .resource .now) (start .args .«subject-type») (start .args .«resource-type») (start .pre .1 .0) (start .pre .1 .1) _ (c .before .before .entry-in .ensures) (c .before .part-matches .ensures) (not-true _ (c .if1 .taken))
+    other-subject _ _ _ _ (start .args .subject .now) (start .args .action .now) (start .args .resource .now) _ (c .before .before .entry-in .ensures) (c .before .part-matches .ensures _ (start .pre .1 .0)) (not-true _ (c .if1 .taken))
 
 part-matches-requires-2 : tie.Need-part-matches-requires-2
 unfolding policyOf
@@ -23,7 +23,7 @@ part-matches-requires-2 c κs = rw (c .entry-in2 .ensures) (c .before .before .b
 returns-2 : tie.Need-returns-2
 returns-2 c =
     let start = c .before .before .before .before .before .before .before .before .before .before .before .before in
-    other-resource _ _ _ _ (start .args .subject .now) (start .args .action .now) (start .args .resource .now) (start .args .«subject-type») (start .args .«resource-type») (start .pre .1 .0) (start .pre .1 .1) _ (c .before .before .before .before .before .before .entry-in .ensures) _ (c .before .before .entry-in2 .ensures) (c .before .part-matches2 .ensures) (not-true _ (c .if2 .taken))
+    other-resource _ _ _ _ (start .args .subject .now) (start .args .action .now) (start .args .resource .now) _ (c .before .before .before .before .before .before .entry-in .ensures) _ (c .before .before .entry-in2 .ensures) (c .before .part-matches2 .ensures _ (start .pre .1 .1)) (not-true _ (c .if2 .taken))
 
 sub-action-matches : tie.Need-sub-action-matches
 sub-action-matches c = omega (arith, c .before .before .before .before .before .before .before .before .before .before .before .before .before .before .before .pre .0 .begins)
@@ -37,7 +37,7 @@ action-matches-requires c κs =
 returns-3 : tie.Need-returns-3
 returns-3 c =
     let start = c .before .before .before .before .before .before .before .before .before .before .before .before .before .before .before .before in
-    by-action _ _ _ _ (start .args .subject .now) (start .args .action .now) (start .args .resource .now) (start .args .«subject-type») (start .args .«resource-type») (start .pre .1 .0) (start .pre .1 .1) _ (c .before .before .before .before .before .before .before .before .before .before .entry-in .ensures) _ (c .before .before .before .before .before .before .entry-in2 .ensures) (c .before .before .before .before .before .before .before .before .before .part-matches .ensures) (not-false _ (c .before .before .before .before .before .before .before .before .if1 .left)) (c .before .before .before .before .before .part-matches2 .ensures) (not-false _ (c .before .before .before .before .if2 .left)) _ (c .before .before .entry-in3 .ensures) (c .action-matches .ensures)
+    by-action _ _ _ _ (start .args .subject .now) (start .args .action .now) (start .args .resource .now) _ (c .before .before .before .before .before .before .before .before .before .before .entry-in .ensures) _ (c .before .before .before .before .before .before .entry-in2 .ensures) (c .before .before .before .before .before .before .before .before .before .part-matches .ensures _ (start .pre .1 .0)) (not-false _ (c .before .before .before .before .before .before .before .before .if1 .left)) (c .before .before .before .before .before .part-matches2 .ensures _ (start .pre .1 .1)) (not-false _ (c .before .before .before .before .if2 .left)) _ (c .before .before .entry-in3 .ensures) (c .action-matches .ensures)
 
 pub target-matches-spec : {M : Type 1} → statement M
 target-matches-spec =

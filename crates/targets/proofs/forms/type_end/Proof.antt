@@ -1,12 +1,12 @@
--- `targets::forms::kind_end` meets its contract. The invariant: no colon stands before i. Assumes nothing.
+-- `targets::forms::type_end` meets its contract. The invariant: no colon stands before i. Assumes nothing.
 use native.Mathlib.Omega.{arith}
 use Rattle.targets.proofs.FormLaws.{colon-here, colon-on, colon-none}
 use Rattle.meaning.specs.Targets.{kindOf}
 use lib.ListN.{length, drop}
 use Prim.Native.Nat.{_+_, _-_, _≤_}
 use mathlib.Core.Path.{_≡_}
-use Rattle.targets.proofs.forms.kind_end.Statement.{statement}
-use Rattle.targets.proofs.forms.kind_end.Tie as tie
+use Rattle.targets.proofs.forms.type_end.Statement.{statement}
+use Rattle.targets.proofs.forms.type_end.Tie as tie
 
 abbrev Inv-loop : tie.InvT-loop
 Inv-loop s i₀ i = (i ≤ length s) × (length (kindOf s) ≡ i + length (kindOf (drop i s)))
@@ -26,8 +26,8 @@ loop-again c = (omega arith, colon-on _ _ (c .before .before .loop-test .taken) 
 returns-2 : tie.Need-returns-2 Inv-loop μ-loop
 returns-2 c = colon-none _ _ (c .loop-test .left) (c .before .loop .inv .1)
 
-pub kind-end-spec : {M : Type 1} → statement M
-kind-end-spec =
+pub type-end-spec : {M : Type 1} → statement M
+type-end-spec =
     tie.close
     (tie.spec
     Inv-loop
