@@ -17,7 +17,7 @@ use Rattle.reading.specs.Reader.{Reader, took, refuseBy, bind, onwards, mapped}
 use Rattle.reading.proofs.Stream.{tokens-from, stream-end, stream-token, next-on, next-off}
 use Rattle.grammar.specs.Policies.{Policy}
 use Rattle.grammar.specs.Rules.{isEffect, mostPolicies}
-use Rattle.grammar.specs.Parser.{noPolicy, begins, read-policy, read-next-policy, atEnd, read-text}
+use Rattle.grammar.specs.Parser.{noPolicy, mayBegin, read-policy, read-next-policy, atEnd, read-text}
 use Rattle.grammar.proofs.Steps.{policies-step}
 use Rattle.table.proofs.Counting.{policies-append}
 use Rattle.table.specs.declared.Entry.{Entry}
@@ -30,7 +30,7 @@ use Rattle.parts.proofs.Standing.{standing, turned, turned-as, turned-bind}
 use Rattle.parts.proofs.Writing.{Kept, kept-none, kept-append, as-kept}
 
 abbrev onAndOn : List Policy → Reader (List Policy)
-onAndOn = onwards begins read-next-policy
+onAndOn = onwards mayBegin read-next-policy
 
 -- where a policy may begin: `total` is the policies so far and all from there on
 pub record Underway (text seen T₀ T : List ℕ) (total : reader.Answer (List Policy)) (t : Token) (policies free : ℕ) (ok : Bool) : Type 0 where
@@ -53,14 +53,14 @@ at-start {text} {seen} {T} t q r = record {
 }
 
 module _ {text seen T₀ T : List ℕ} {total : reader.Answer (List Policy)} {t : Token} {policies free : ℕ} {ok : Bool} (b : Underway text seen T₀ T total t policies free ok) where
-  begins-is : (effect : Bool) → isEffect (lexeme text t) && ltb policies mostPolicies ≡ effect → begins (b .value) (lexeme text t) ≡ effect
-  unfolding begins
+  begins-is : (effect : Bool) → isEffect (lexeme text t) && ltb policies mostPolicies ≡ effect → mayBegin (b .value) (lexeme text t) ≡ effect
+  unfolding mayBegin
   begins-is effect e = rw (← b .many) e
 
   at-end : isEffect (lexeme text t) && ltb policies mostPolicies ≡ false → total ≡ atEnd (b .value) (stream text t)
   unfolding bind
   at-end e =
-      b .rest ∙ ap (λ (p : reader.Answer (List Policy)). bind p atEnd) (policies-step (b .value) (stream text t) ∙ next-off text t (begins (b .value)) _ _ (begins-is false e))
+      b .rest ∙ ap (λ (p : reader.Answer (List Policy)). bind p atEnd) (policies-step (b .value) (stream text t) ∙ next-off text t (mayBegin (b .value)) _ _ (begins-is false e))
 
   -- no policy begins, and the text ends
   pub ended : not (isEffect (lexeme text t) && ltb policies mostPolicies) ≡ true → t .kind ≡ 0 → Told text seen T₀ T total (All policies free ok)
@@ -92,7 +92,7 @@ module _ {text seen T₀ T : List ℕ} {total : reader.Answer (List Policy)} {t 
     unfolding read-next-policy mapped
     next-policy =
         b .rest ∙ ap (λ (p : reader.Answer (List Policy)). bind p atEnd)
-        (policies-step (b .value) (stream text t) ∙ next-on text t (begins (b .value)) _ _ n (effect-some e) (b .lies .high) q (begins-is true (not-false (isEffect (lexeme text t) && ltb policies mostPolicies) e)))
+        (policies-step (b .value) (stream text t) ∙ next-on text t (mayBegin (b .value)) _ _ n (effect-some e) (b .lies .high) q (begins-is true (not-false (isEffect (lexeme text t) && ltb policies mostPolicies) e)))
 
     -- a policy begins, and is refused
     pub broken : {f : Refusal} {T₂ : List ℕ} → Turned text (read-policy (is kinds.permitWord (lexeme text t)) (stream text n)) f → Told text seen T₀ T₂ total (Lost f)

@@ -7,7 +7,7 @@ use Prim.Native.Nat.{ℕ, suc, _+_, _≤_, _<_}
 use native.Mathlib.Omega.{arith}
 use lib.ListN.{length}
 use Rattle.reading.specs.Lexemes.{Lexeme}
-use Rattle.reading.specs.Reads.{Reads, Chain, Chain.alone, Chain.more, Onto, Onto.onto, Before, Before.ended, After, After.begun}
+use Rattle.reading.specs.Reads.{Reading, Chain, Chain.alone, Chain.more, Onto, Onto.onto, Before, Before.ended, After, After.begun}
 use Rattle.reading.specs.Reader.{Reader, need, before, mapped, onwards, chain}
 use Rattle.reading.proofs.Local.{Alike}
 use Rattle.reading.proofs.Readers.{Goes, good, goes-weaker, goes-bind, goes-need, goes-onwards}
@@ -16,7 +16,7 @@ use Rattle.grammar.specs.Grammar.{Limits, sizesTo, lifting}
 
 -- What the grammar reads, under each limits.
 abbrev pub Family : Type 0 → Type 1
-Family A = Limits → Reads A
+Family A = Limits → Reading A
 
 -- a token of the kind k that no text gave
 abbrev pub made : ℕ → Lexeme
@@ -64,7 +64,7 @@ pub eased : (k n : ℕ) (on : List Lexeme) {r s : List Lexeme} → Eases (taken 
 eased k n on = record { name = λ w root used x h. inl h; pattern = λ w x h. inl h; count = λ w k h. inl h; effect = λ w k h. inl h; levels = refl }
 
 -- with s in the place of r, i is a list that R reads up to n
-abbrev pub Moved : {A : Type 0} → Reads A → (r s i n : List Lexeme) → A → Type 0
+abbrev pub Moved : {A : Type 0} → Reading A → (r s i n : List Lexeme) → A → Type 0
 Moved R r s i n a = (j : List Lexeme) × Swap r s i j × R j n a
 
 -- What R reads it reads before any other rest, where no more is asked.
@@ -98,7 +98,7 @@ framed-chain {A = A} {sep = sep} {R = R} {Q = Q} f g = record { at = go }
     go e (more {x = x} {a = a} j t h) w = let q = g a x .at e h w in let p = go e j (step (q .1)) in (p .0, p .1, more (p .2) t (q .2))
 
 -- what R reads and then what S reads
-pub data Then {A B : Type 0} (R : Reads A) (S : Reads B) : List Lexeme → List Lexeme → A × B → Type 0 where
+pub data Then {A B : Type 0} (R : Reading A) (S : Reading B) : List Lexeme → List Lexeme → A × B → Type 0 where
   followed : {i m r : List Lexeme} {a : A} {b : B} → R i m a → S m r b → Then R S i r (a, b)
 
 -- ---- what can stand at a place

@@ -12,15 +12,15 @@ use borrow.Author.Tests.{eqb-true, eq-eqb, ne-eqb, leb-true}
 use Rattle.tokens.specs.Kinds as kinds
 use Rattle.tokens.proofs.TokenLaws.{never, and-left, and-right, or-cases}
 use Rattle.reading.specs.Lexemes.{Lexeme, is, choose}
-use Rattle.reading.specs.Reads.{Reads, Chain, Chain.alone, Chain.more, Onto, Onto.onto, Before.ended, After.begun}
+use Rattle.reading.specs.Reads.{Reading, Chain, Chain.alone, Chain.more, Onto, Onto.onto, Before.ended, After.begun}
 use Rattle.reading.specs.Reader.{Answer, took, Reader, refuseBy, numbered, bind, on, need, mapped, upTo, onwards}
 use Rattle.reading.proofs.Readers.{Shrinks, shrinks-onto, Without, on-without, on-token, on-other}
 use Rattle.reading.proofs.Complete.{Nearly, exact, excused, nearly-bind, nearly-on, Complete, complete-mapped, complete-before, complete-chain}
 use Rattle.grammar.specs.Policies.{Span, Root, Literal, truth, Operand, attribute, literal, Tree, within, contains, both, either, Part, typed, Actions, Policy}
 use Rattle.grammar.specs.Rules.{inside, isEffect, isRoot, rootOf, isTruth, isLiteral, literalOf, isComparator, isContains, whichOf, deepens, principalTypes, resourceTypes, typeOf, isType, admitted, mostLiterals, mostPolicies, isPattern}
-use Rattle.grammar.specs.Grammar.{Limits, Path, spanned, FirstName, first, NextName, next, APath, rooted, AnOperand, given, Element, element, Literals, Simple, comparison, likeness, listed, held, call, having, Conjunction, Disjunction, Form, simple, negation, bracketed, conditional, Nothing, Condition, Typed, ResourceRest, ActionRest, When, PolicyRest, Policies, policy, RuleText}
+use Rattle.grammar.specs.Grammar.{Limits, Path, spanned, FirstName, first, NextName, next, APath, rooted, AnOperand, given, Element, element, Literals, Simple, comparison, likeness, listed, held, call, having, Conjunction, Disjunction, ConditionOver, simple, negation, bracketed, conditional, Nothing, Condition, Typed, ResourceRest, ActionRest, When, PolicyRest, Policies, policy, RuleText}
 use Rattle.grammar.specs.Grammar as grammar
-use Rattle.grammar.specs.Parser.{Way, calling, noName, bare, noLevel, noPattern, tooMany, noPolicy, fits, read-first-name, goesOn, read-next-name, read-way, noExit, spannedBy, read-path, read-attribute, read-operand, isElement, read-element, read-list, read-bare, read-in, isLike, read-pattern, read-operator, read-call, read-rest, read-rooted, read-simple, read-joined, read-conjunction, read-disjunction, read-negated, read-bracketed, read-conditional, read-deeper, read-condition, read-conditions, read-type, read-principal, read-action, read-resource, read-when, read-policy, begins, read-next-policy, atEnd, read-text}
+use Rattle.grammar.specs.Parser.{Way, calling, noName, noOperator, noLevel, noPattern, tooMany, noPolicy, fits, read-first-name, goesOn, read-next-name, read-way, noExit, spannedBy, read-path, read-attribute, read-operand, isElement, read-element, read-list, read-bare, read-in, isLike, read-pattern, read-operator, read-call, read-rest, read-rooted, read-simple, read-joined, read-conjunction, read-disjunction, read-negated, read-bracketed, read-conditional, read-deeper, read-condition, read-conditions, read-type, read-principal, read-action, read-resource, read-when, read-policy, mayBegin, read-next-policy, atEnd, read-text}
 use Rattle.grammar.specs.Parser as parser
 use Rattle.grammar.proofs.Begun.{made}
 use Rattle.grammar.proofs.Framing.{shrinks-element, shrinks-condition, shrinks-conjunction, shrinks-policy}
@@ -90,7 +90,7 @@ contains-passes : Passes isContains
 contains-passes = record { at = λ x e. rw e }
 
 -- what reads nothing is the beginning of no chain
-none-read : {sep : Tree → Lexeme → Bool} {R : Reads Tree} {Q : Tree → Lexeme → Reads Tree} {i r : List Lexeme} {t : Tree} → ((i r : List Lexeme) (t : Tree) → R i r t → ⊥) → Chain sep R Q i r t → ⊥
+none-read : {sep : Tree → Lexeme → Bool} {R : Reading Tree} {Q : Tree → Lexeme → Reading Tree} {i r : List Lexeme} {t : Tree} → ((i r : List Lexeme) (t : Tree) → R i r t → ⊥) → Chain sep R Q i r t → ⊥
 none-read f (alone h) = f _ _ _ h
 none-read f (more j e h) = none-read f j
 
@@ -101,7 +101,7 @@ data NextWay (L : Limits) (exit : Lexeme → Bool) (root : Root) : Way → List 
   onward : {i r : List Lexeme} {p q : Path} → NextName L root p i r q → NextWay L exit root (parser.Way.plain p) i r (parser.Way.plain q)
   exits : {x : Lexeme} {r : List Lexeme} {p : Path} → exit x ≡ true → NextWay L exit root (parser.Way.plain p) (x ∷ r) r (calling p (whichOf x))
 
-abbrev Ways : Limits → (Lexeme → Bool) → Root → Reads Way
+abbrev Ways : Limits → (Lexeme → Bool) → Root → Reading Way
 Ways L exit root = Chain goesOn (Onto (λ p. parser.Way.plain p) (FirstName L root)) (λ w d. NextWay L exit root w)
 
 ways-of : {L : Limits} {exit : Lexeme → Bool} {root : Root} {i r : List Lexeme} {p : Path} → APath L root i r p → Ways L exit root i r (parser.Way.plain p)
@@ -227,14 +227,14 @@ module _ {L : Limits} {Z : ℕ → List Lexeme → Type 0} (ok : Excuses L Z) wh
 
   -- ---- conditions
 
-  complete-conjunction : {p : Reader Tree} {R : Reads Tree} → Shrinks R → Complete Z Free p R → Complete Z Free-and (read-conjunction p) (Conjunction R)
+  complete-conjunction : {p : Reader Tree} {R : Reading Tree} → Shrinks R → Complete Z Free p R → Complete Z Free-and (read-conjunction p) (Conjunction R)
   unfolding read-conjunction read-joined Without
   complete-conjunction s c = record {
     at = λ j e. complete-chain _ _ _ c (λ a x. complete-mapped c (both a)) (λ a x. shrinks-onto s)
         (λ a x m t. frees kinds.and (refl, refl, refl, refl) x m (eqb-true _ _ t)) j (e .0) (e .1);
   }
 
-  complete-disjunction : {p : Reader Tree} {R : Reads Tree} → Shrinks R → Complete Z Free p R → Complete Z Ends (read-disjunction p) (Disjunction R)
+  complete-disjunction : {p : Reader Tree} {R : Reading Tree} → Shrinks R → Complete Z Free p R → Complete Z Ends (read-disjunction p) (Disjunction R)
   unfolding read-disjunction read-joined Without
   complete-disjunction s c =
       let k = complete-conjunction s c in
@@ -243,7 +243,7 @@ module _ {L : Limits} {Z : ℕ → List Lexeme → Type 0} (ok : Excuses L Z) wh
             (λ a x m t. (frees kinds.or (refl, refl, refl, refl) x m (eqb-true _ _ t), rw (eqb-true (x .kind) kinds.or t))) j (e .0) (e .1);
       }
 
-  complete-form : {p : Reader Tree} {R : Reads Tree} → Shrinks R → Complete Z Free p R → {i r : List Lexeme} {t : Tree} → Form L R i r t → Free r → Nearly Z t r (read-simple (read-deeper p) i)
+  complete-form : {p : Reader Tree} {R : Reading Tree} → Shrinks R → Complete Z Free p R → {i r : List Lexeme} {t : Tree} → ConditionOver L R i r t → Free r → Nearly Z t r (read-simple (read-deeper p) i)
   unfolding read-simple read-deeper read-negated read-bracketed read-conditional mapped on choose Without
   complete-form {p = p} s c (simple h) f = complete-simple (read-deeper p) h f
   complete-form s c (negation e h) f = rw e (nearly-bind _ (c .at h f) exact)
@@ -253,14 +253,14 @@ module _ {L : Limits} {Z : ℕ → List Lexeme → Type 0} (ok : Excuses L Z) wh
       (nearly-bind _ (complete-before c kinds.elseWord (frees kinds.elseWord (refl, refl, refl, refl)) h₂) (nearly-bind _ (c .at h₃ f) exact)))
 
   -- where no level is left inside, all conditions are simple
-  only-simple : {i r : List Lexeme} {t : Tree} → Form L Nothing i r t → Simple L i r t
+  only-simple : {i r : List Lexeme} {t : Tree} → ConditionOver L Nothing i r t → Simple L i r t
   only-simple (simple h) = h
   only-simple (negation e h) = elim h [ ]
   only-simple (bracketed e (ended h k)) = absurd (none-read (λ i r t h. none-read (λ i r t h. elim h [ ]) h) h)
   only-simple (conditional e (ended h k) h₂ h₃) = elim h [ ]
 
   -- what goes deeper than the reader does gets an excused refusal
-  too-deep : {R : Reads Tree} → 31 < L .levels → {i r : List Lexeme} {t : Tree} → Form L R i r t → Free r → Nearly Z t r (read-simple (refuseBy noLevel) i)
+  too-deep : {R : Reading Tree} → 31 < L .levels → {i r : List Lexeme} {t : Tree} → ConditionOver L R i r t → Free r → Nearly Z t r (read-simple (refuseBy noLevel) i)
   unfolding read-simple refuseBy
   too-deep l (simple h) f = complete-simple _ h f
   too-deep l (negation {x = x} {i = i} e h) f = rw (on-other isLiteral _ _ x i (rw e), on-other isRoot _ _ x i (rw e)) (excused (ok .no-level l x i (rw e)))
@@ -329,8 +329,8 @@ module _ {L : Limits} {Z : ℕ → List Lexeme → Type 0} (ok : Excuses L Z) wh
       (nearly-bind _ (complete-before complete-resource kinds.rightRound (λ x m e. (rw e, rw e)) h₃)
       (nearly-bind _ (complete-before complete-when kinds.semicolon (λ x m e. rw e) h₄) exact))))))
 
-  complete-policies : {ps qs : List Policy} {i : List Lexeme} → Policies L ps i qs → (n : ℕ) → length i ≤ n → Nearly Z qs [] (bind (upTo n begins read-next-policy ps i) atEnd)
-  unfolding upTo bind atEnd on choose begins read-next-policy mapped refuseBy
+  complete-policies : {ps qs : List Policy} {i : List Lexeme} → Policies L ps i qs → (n : ℕ) → length i ≤ n → Nearly Z qs [] (bind (upTo n mayBegin read-next-policy ps i) atEnd)
+  unfolding upTo bind atEnd on choose mayBegin read-next-policy mapped refuseBy
   complete-policies grammar.Policies.end zero l = exact
   complete-policies grammar.Policies.end (suc n) l = exact
   complete-policies (policy e c h k) zero l = absurd (omega arith)
@@ -338,13 +338,13 @@ module _ {L : Limits} {Z : ℕ → List Lexeme → Type 0} (ok : Excuses L Z) wh
       let s = shrinks-policy L _ .at h in
       rw e (go (ltb (length ps) mostPolicies) refl (complete-policy (is kinds.permitWord x) h) (complete-policies k n (omega arith)))
     where
-      turn : {y : Answer Policy} → Nearly Z p m y → Nearly Z qs [] (bind (upTo n begins read-next-policy (ps ++ p ∷ []) m) atEnd)
-          → Nearly Z qs [] (bind (bind (bind y (λ a. took (ps ++ a ∷ []))) (upTo n begins read-next-policy)) atEnd)
+      turn : {y : Answer Policy} → Nearly Z p m y → Nearly Z qs [] (bind (upTo n mayBegin read-next-policy (ps ++ p ∷ []) m) atEnd)
+          → Nearly Z qs [] (bind (bind (bind y (λ a. took (ps ++ a ∷ []))) (upTo n mayBegin read-next-policy)) atEnd)
       turn exact k = k
       turn (excused z) k = excused z
 
-      go : (o : Bool) → ltb (length ps) mostPolicies ≡ o → Nearly Z p m (read-policy (is kinds.permitWord x) i) → Nearly Z qs [] (bind (upTo n begins read-next-policy (ps ++ p ∷ []) m) atEnd)
-          → Nearly Z qs [] (bind (choose o (λ _. bind (read-next-policy ps x i) (upTo n begins read-next-policy)) (λ _. took ps (x ∷ i))) atEnd)
+      go : (o : Bool) → ltb (length ps) mostPolicies ≡ o → Nearly Z p m (read-policy (is kinds.permitWord x) i) → Nearly Z qs [] (bind (upTo n mayBegin read-next-policy (ps ++ p ∷ []) m) atEnd)
+          → Nearly Z qs [] (bind (choose o (λ _. bind (read-next-policy ps x i) (upTo n mayBegin read-next-policy)) (λ _. took ps (x ∷ i))) atEnd)
       go true u h′ k′ = turn h′ k′
       go false u h′ k′ = excused (ok .no-policy (length ps) x i e c u)
 

@@ -8,11 +8,11 @@ use native.Mathlib.Omega.{arith}
 use lib.ListN.{length}
 use Rattle.tokens.specs.Kinds as kinds
 use Rattle.reading.specs.Lexemes.{Lexeme, is}
-use Rattle.reading.specs.Reads.{Reads, Before, Before.ended, After, After.begun}
+use Rattle.reading.specs.Reads.{Reading, Before, Before.ended, After, After.begun}
 use Rattle.reading.proofs.Readers.{Shrinks, shrinks-onto, shrinks-before, shrinks-chain}
 use Rattle.grammar.specs.Policies.{Root, Literal, Operand, Tree, both, either, Part, Actions, Policy}
 use Rattle.grammar.specs.Rules.{isLiteral, principalTypes, resourceTypes}
-use Rattle.grammar.specs.Grammar.{Limits, Path, FirstName, first, NextName, next, APath, Attribute, rooted, AnOperand, given, Element, element, Literals, Listing, Simple, comparison, likeness, listed, held, call, having, Conjunction, Disjunction, Form, simple, negation, bracketed, conditional, Nothing, Condition, Typed, ResourceRest, ActionRest, When, PolicyRest}
+use Rattle.grammar.specs.Grammar.{Limits, Path, FirstName, first, NextName, next, APath, Attribute, rooted, AnOperand, given, Element, element, Literals, Listing, Simple, comparison, likeness, listed, held, call, having, Conjunction, Disjunction, ConditionOver, simple, negation, bracketed, conditional, Nothing, Condition, Typed, ResourceRest, ActionRest, When, PolicyRest}
 use Rattle.grammar.specs.Grammar as grammar
 use Rattle.grammar.proofs.Begun.{Family, Swap, step, Moved, Eases, Framed, framed-onto, framed-before, framed-after, framed-chain}
 
@@ -65,16 +65,16 @@ module _ (L : Limits) where
       go (call h e t e′ k) = let x = shrinks-attribute .at h in let y = shrinks-before (shrinks-listing isLiteral) .at k in omega arith
       go (having t e j) = let y = shrinks-names _ .at j in omega arith
 
-  pub shrinks-conjunction : {R : Reads Tree} → Shrinks R → Shrinks (Conjunction R)
+  pub shrinks-conjunction : {R : Reading Tree} → Shrinks R → Shrinks (Conjunction R)
   shrinks-conjunction s = shrinks-chain s (λ a x. shrinks-onto s)
 
-  shrinks-disjunction : {R : Reads Tree} → Shrinks R → Shrinks (Disjunction R)
+  shrinks-disjunction : {R : Reading Tree} → Shrinks R → Shrinks (Disjunction R)
   shrinks-disjunction s = shrinks-chain (shrinks-conjunction s) (λ a x. shrinks-onto (shrinks-conjunction s))
 
-  shrinks-form : {R : Reads Tree} → Shrinks R → Shrinks (Form L R)
+  shrinks-form : {R : Reading Tree} → Shrinks R → Shrinks (ConditionOver L R)
   shrinks-form {R = R} s = record { at = go }
     where
-      go : {i r : List Lexeme} {t : Tree} → Form L R i r t → length r < length i
+      go : {i r : List Lexeme} {t : Tree} → ConditionOver L R i r t → length r < length i
       go (simple h) = shrinks-simple .at h
       go (negation e h) = let x = s .at h in omega arith
       go (bracketed e h) = let x = shrinks-before (shrinks-disjunction s) .at h in omega arith
@@ -163,10 +163,10 @@ module _ {R : Family Tree} (f : Framed R) where
   pub framed-disjunction : Framed (λ L. Disjunction (R L))
   framed-disjunction = framed-chain framed-conjunction (λ a x. framed-onto framed-conjunction (either a))
 
-  framed-form : Framed (λ L. Form L (R L))
+  framed-form : Framed (λ L. ConditionOver L (R L))
   framed-form = record { at = go }
     where
-      go : {L M : Limits} {r s i m n : List Lexeme} {t : Tree} → Eases L M r s → Form L (R L) i m t → Swap r s m n → Moved (Form M (R M)) r s i n t
+      go : {L M : Limits} {r s i m n : List Lexeme} {t : Tree} → Eases L M r s → ConditionOver L (R L) i m t → Swap r s m n → Moved (ConditionOver M (R M)) r s i n t
       go e (simple h) w = let q = framed-simple .at e h w in (_, q .1, simple (q .2))
       go e (negation t h) w = let q = f .at e h w in (_, step (q .1), negation t (q .2))
       go e (bracketed t h) w = let q = framed-before framed-disjunction kinds.rightRound .at e h w in (_, step (q .1), bracketed t (q .2))

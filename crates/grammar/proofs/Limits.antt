@@ -15,7 +15,7 @@ use Rattle.reading.proofs.Readers.{Goes, goes-refuseBy, number-below}
 use Rattle.grammar.specs.Policies.{Root, Root.Principal, Root.Resource, Root.Env, Root.Action}
 use Rattle.grammar.specs.Rules.{isEffect, isReserved, isLiteral, endsBare, deepens}
 use Rattle.grammar.specs.Grammar.{pathNumber}
-use Rattle.grammar.specs.Parser.{noName, bare, noType, noLevel, noPattern, tooMany, noPolicy}
+use Rattle.grammar.specs.Parser.{noName, noOperator, noType, noLevel, noPattern, tooMany, noPolicy}
 use Rattle.grammar.proofs.Begun.{made, Beyond, Kept, few}
 
 -- ---- the number of each limit
@@ -74,8 +74,8 @@ one-below : (b : Bool) (m n : ℕ) → m < 11 → n < 11 → cond b m n < 11
 one-below true m n l k = l
 one-below false m n l k = k
 
-pub bare-below : (x : Lexeme) → bare x < 11
-unfolding bare
+pub bare-below : (x : Lexeme) → noOperator x < 11
+unfolding noOperator
 bare-below x = one-below (endsBare x) 8 10 (omega arith) (omega arith)
 
 pub type-below : (x : Lexeme) → noType x < 11

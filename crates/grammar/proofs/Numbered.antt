@@ -15,7 +15,7 @@ use Rattle.reading.proofs.Readers.{Without}
 use Rattle.grammar.specs.Policies.{Span, Root, Literal, text, number, truth, Operand, attribute, literal, Which, Tree, among, within, contains, both, either, Policy}
 use Rattle.grammar.specs.Rules.{isEffect, isRoot, rootOf, isLiteral, literalOf, isComparator, isContains, principalTypes, resourceTypes, mostLiterals}
 use Rattle.grammar.specs.Grammar.{Path}
-use Rattle.grammar.specs.Parser.{Way, plain, calling, noName, bare, noType, noLevel, noPattern, tooMany, noPolicy, fits, read-first-name, goesOn, read-next-name, read-way, noExit, read-path, read-attribute, read-operand, isElement, read-element, read-list, read-bare, read-in, isLike, read-pattern, read-operator, read-call, read-rest, read-rooted, read-simple, read-joined, read-conjunction, read-disjunction, read-negated, read-bracketed, read-conditional, read-deeper, read-condition, read-conditions, read-type, read-principal, read-action, read-resource, read-when, read-policy, begins, read-next-policy, atEnd, read-text}
+use Rattle.grammar.specs.Parser.{Way, plain, calling, noName, noOperator, noType, noLevel, noPattern, tooMany, noPolicy, fits, read-first-name, goesOn, read-next-name, read-way, noExit, read-path, read-attribute, read-operand, isElement, read-element, read-list, read-bare, read-in, isLike, read-pattern, read-operator, read-call, read-rest, read-rooted, read-simple, read-joined, read-conjunction, read-disjunction, read-negated, read-bracketed, read-conditional, read-deeper, read-condition, read-conditions, read-type, read-principal, read-action, read-resource, read-when, read-policy, mayBegin, read-next-policy, atEnd, read-text}
 use Rattle.grammar.specs.Numbers.{behind, atCondition, afterLeft, actionIn, oneMore, numberOf, numberAt, NumberedRightly}
 use Rattle.grammar.proofs.Begun.{made}
 use Rattle.grammar.proofs.Completeness.{other-kind}
@@ -207,7 +207,7 @@ tells-call w root p =
 
 tells-rest : (root : Root) (w : Way) → Tells (λ c i. AfterWay true root w c) (read-rest root w) (Ends Quiet)
 unfolding read-rest read-bare behind
-tells-rest root (plain p) = tells-weaker (tells-operator _ Left (tells-refuseBy bare (λ c r x h. left-bare h x))) (λ c i h. go h) (λ t c i h. h)
+tells-rest root (plain p) = tells-weaker (tells-operator _ Left (tells-refuseBy noOperator (λ c r x h. left-bare h x))) (λ c i h. go h) (λ t c i h. h)
   where
     go : {p : Path} {c : List Lexeme} → AfterWay true root (plain p) c → Left c × NoAction c
     go (plainly (named h e)) = (named-place (named h e), rw e)
@@ -394,26 +394,26 @@ tells-policy permits =
 
 -- at the start of a text where no policy begins, or behind a policy
 data Between : List Policy → List Lexeme → List Lexeme → Type 0 where
-  none : {i : List Lexeme} → Without (begins []) i → Between [] [] i
+  none : {i : List Lexeme} → Without (mayBegin []) i → Between [] [] i
   policed : {ps : List Policy} {c i : List Lexeme} → Policed c → Between ps c i
 
-tells-next-policy : {P : Places} (ps : List Policy) (x : Lexeme) → begins ps x ≡ true → Tells (Stepped x P) (read-next-policy ps x) (Ends Policed)
-unfolding read-next-policy begins
+tells-next-policy : {P : Places} (ps : List Policy) (x : Lexeme) → mayBegin ps x ≡ true → Tells (Stepped x P) (read-next-policy ps x) (Ends Policed)
+unfolding read-next-policy mayBegin
 tells-next-policy {P = P} ps x t = tells-mapped _ _ (tells-weaker (tells-policy (is kinds.permitWord x)) (λ c i h. go (and-left _ _ t) h) (λ p c i h. h))
   where
     go : {x : Lexeme} {c i : List Lexeme} → isEffect x ≡ true → Stepped x P c i → Effect c
     go t (stepped h) = effect t
 
-tells-policies : Tells (λ c i. c ≡ []) (onwards begins read-next-policy []) Between
+tells-policies : Tells (λ c i. c ≡ []) (onwards mayBegin read-next-policy []) Between
 tells-policies = record { at = λ c i h. rw (policies-step [] i) (first .at c i h) }
   where
-    first : Tells (λ c i. c ≡ []) (on (begins []) (λ x m. bind (read-next-policy [] x m) (onwards begins read-next-policy)) (took [])) Between
+    first : Tells (λ c i. c ≡ []) (on (mayBegin []) (λ x m. bind (read-next-policy [] x m) (onwards mayBegin read-next-policy)) (took [])) Between
     first = tells-on _ _ _
-        (λ x t. tells-bind _ (tells-next-policy [] x t) (λ ps. tells-weaker (tells-onwards begins read-next-policy {Inv = Ends Policed} tells-next-policy ps) (λ c i h. h) (λ qs c i h. policed h)))
+        (λ x t. tells-bind _ (tells-next-policy [] x t) (λ ps. tells-weaker (tells-onwards mayBegin read-next-policy {Inv = Ends Policed} tells-next-policy ps) (λ c i h. h) (λ qs c i h. policed h)))
         (tells-took [] (λ c i h. rw (h .0) (none (h .1))))
 
-no-policy-first : (x : Lexeme) → begins [] x ≡ false → numbered noPolicy x ≡ numberOf [] x
-unfolding numbered noPolicy numberOf begins behind afterLeft atCondition oneMore
+no-policy-first : (x : Lexeme) → mayBegin [] x ≡ false → numbered noPolicy x ≡ numberOf [] x
+unfolding numbered noPolicy numberOf mayBegin behind afterLeft atCondition oneMore
 no-policy-first x f = rw (rw (and-true (isEffect x)) at f)
 
 tells-end : (ps : List Policy) → Tells (Between ps) (atEnd ps) (λ qs c i. Unit {0})

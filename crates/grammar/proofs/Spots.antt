@@ -13,7 +13,7 @@ use Rattle.reading.specs.Lexemes.{Lexeme, is}
 use Rattle.reading.specs.Reader.{numbered, ten}
 use Rattle.grammar.specs.Policies.{Root, Root.Principal, Root.Resource, Root.Env, Root.Action}
 use Rattle.grammar.specs.Rules.{isEffect, isReserved, isRoot, rootOf, isLiteral, isComparator, isContains, endsBare, deepens, mostLiterals}
-use Rattle.grammar.specs.Parser.{noName, bare, noType, noLevel, noPattern, tooMany, noPolicy}
+use Rattle.grammar.specs.Parser.{noName, noOperator, noType, noLevel, noPattern, tooMany, noPolicy}
 use Rattle.grammar.specs.Numbers.{behind, atName, atType, atPattern, afterPolicy, atCondition, leftRoot, afterLeft, afterAction, actionIn, oneMore, numberOf}
 use Rattle.grammar.proofs.Begun.{made}
 use Rattle.grammar.proofs.Completeness.{other-kind}
@@ -58,8 +58,8 @@ pub begins-ten : {c : List Lexeme} → AtCondition c → (x : Lexeme) → deepen
 unfolding numbered
 begins-ten h x e = rw (number-is h x, e)
 
-pub left-bare : {c : List Lexeme} → Left c → (x : Lexeme) → numbered bare x ≡ numberOf c x
-unfolding numbered bare
+pub left-bare : {c : List Lexeme} → Left c → (x : Lexeme) → numbered noOperator x ≡ numberOf c x
+unfolding numbered noOperator
 left-bare h x = sym (number-is h x)
 
 pub type-number : {c : List Lexeme} → Spot false false true false false false c → (x : Lexeme) → numbered noType x ≡ numberOf c x

@@ -11,7 +11,7 @@ use Rattle.reading.specs.Reader.{took, Reader, ten, bind, on, mapped, onwards}
 use Rattle.reading.proofs.Readers.{Goes, good, goes-took, goes-on, goes-refuseBy, Shrinks, shrinks-onto, Takes, takes, onwards-step}
 use Rattle.grammar.specs.Policies.{Root, Literal, Tree, both, either, Policy}
 use Rattle.grammar.specs.Grammar.{sizes}
-use Rattle.grammar.specs.Parser.{Way, plain, calling, noName, tooMany, goesOn, read-next-name, read-element, read-conjunction, read-condition, begins, read-next-policy}
+use Rattle.grammar.specs.Parser.{Way, plain, calling, noName, tooMany, goesOn, read-next-name, read-element, read-conjunction, read-condition, mayBegin, read-next-policy}
 use Rattle.grammar.proofs.Begun.{Family, Viable, viable-mapped}
 use Rattle.grammar.proofs.Framing.{shrinks-conjunction, shrinks-condition, shrinks-policy, framed-condition}
 use Rattle.grammar.proofs.Viable.{viable-condition, viable-conjunction, viable-policy}
@@ -76,5 +76,5 @@ disjunction-step d t i =
 
 -- a text, of which the policies ps were read
 pub policies-step : (ps : List Policy) (i : List Lexeme)
-    → onwards begins read-next-policy ps i ≡ on (begins ps) (λ x m. bind (read-next-policy ps x m) (onwards begins read-next-policy)) (took ps) i
-policies-step ps i = onwards-step begins read-next-policy policy-takes ps i
+    → onwards mayBegin read-next-policy ps i ≡ on (mayBegin ps) (λ x m. bind (read-next-policy ps x m) (onwards mayBegin read-next-policy)) (took ps) i
+policies-step ps i = onwards-step mayBegin read-next-policy policy-takes ps i

@@ -14,14 +14,14 @@ use Rattle.slices.specs.Same.{same}
 use Rattle.tokens.specs.Kinds as kinds
 use Rattle.tokens.proofs.TokenLaws.{never, and-left, and-right}
 use Rattle.reading.specs.Lexemes.{Lexeme, is}
-use Rattle.reading.specs.Reads.{Reads, Chain, Chain.alone, Chain.more, Onto, Onto.onto, Before, Before.ended, After, After.begun}
+use Rattle.reading.specs.Reads.{Reading, Chain, Chain.alone, Chain.more, Onto, Onto.onto, Before, Before.ended, After, After.begun}
 use Rattle.reading.specs.Reader.{Answer, Reader, refuseBy, mapped, chain}
 use Rattle.reading.proofs.Readers.{Goes, good, goes-weaker, goes-below, goes-ten, goes-bind, goes-on, goes-need, goes-need-bind, goes-onwards}
 use Rattle.grammar.specs.Policies.{Span, Root, Literal, Operand, attribute, literal, Tree, compare, among, within, contains, has, choice, both, either, Part, Actions, oneOf, Policy}
 use Rattle.grammar.specs.Rules.{inside, isEffect, isRoot, rootOf, isLiteral, literalOf, isComparator, comparatorOf, isContains, whichOf, deepens, principalTypes, resourceTypes, typeAmong, isType, admitted, mostLiterals, mostPolicies, isPattern}
-use Rattle.grammar.specs.Grammar.{Limits, pathNumber, Path, firstPath, spanned, first, NextName, next, APath, Attribute, rooted, AnOperand, given, Element, element, Literals, Listing, Simple, comparison, likeness, listed, held, call, having, Conjunction, Disjunction, Form, simple, negation, bracketed, conditional, Condition, Typed, ResourceRest, ActionRest, When, PolicyRest, Policies, policy, RuleText}
+use Rattle.grammar.specs.Grammar.{Limits, pathNumber, Path, firstPath, spanned, first, NextName, next, APath, Attribute, rooted, AnOperand, given, Element, element, Literals, Listing, Simple, comparison, likeness, listed, held, call, having, Conjunction, Disjunction, ConditionOver, simple, negation, bracketed, conditional, Condition, Typed, ResourceRest, ActionRest, When, PolicyRest, Policies, policy, RuleText}
 use Rattle.grammar.specs.Grammar as grammar
-use Rattle.grammar.specs.Parser.{Way, calling, noName, bare, noType, noLevel, noPattern, tooMany, noPolicy, fits, read-first-name, goesOn, read-next-name, read-way, noExit, spannedBy, read-path, read-attribute, read-operand, isElement, read-element, read-list, read-bare, read-in, isLike, read-pattern, read-operator, read-call, read-rest, read-rooted, read-simple, read-joined, read-conjunction, read-disjunction, read-negated, read-bracketed, read-conditional, read-deeper, read-condition, read-conditions, read-type, read-principal, read-action, read-resource, read-when, read-policy, begins, read-next-policy, atEnd, read-text}
+use Rattle.grammar.specs.Parser.{Way, calling, noName, noOperator, noType, noLevel, noPattern, tooMany, noPolicy, fits, read-first-name, goesOn, read-next-name, read-way, noExit, spannedBy, read-path, read-attribute, read-operand, isElement, read-element, read-list, read-bare, read-in, isLike, read-pattern, read-operator, read-call, read-rest, read-rooted, read-simple, read-joined, read-conjunction, read-disjunction, read-negated, read-bracketed, read-conditional, read-deeper, read-condition, read-conditions, read-type, read-principal, read-action, read-resource, read-when, read-policy, mayBegin, read-next-policy, atEnd, read-text}
 use Rattle.grammar.specs.Parser as parser
 use Rattle.grammar.proofs.Begun.{Family, made, Swap, here, Moved, Eases, taken, Beyond, beyond, Kept, eased, few, beyond-few, Framed, framed-onto, framed-before, framed-chain, Then, followed, Possible, possible-onto, possible-before, possible-after, possible-then, possible-chain, Begun, begun-weaker, begun-first, begun-start, begun-more, begun-next, begun-inside, begun-left, begun-right, Viable, viable-mapped, viable-before, viable-after, viable-onwards, viable-chain}
 use Rattle.grammar.proofs.Limits.{name-number, string-number, literal-number, effect-number, level-number, bare-below, type-below, name-below, pattern-below, literal-below, effect-below, level-below, Chosen, chosen-beyond, goes-limit}
@@ -268,7 +268,7 @@ module _ (extra : ℕ) where
     where
       go : (d : Lexeme) (m : List Lexeme) → d .kind ≡ kinds.dot → (w : Way) (r : List Lexeme) → AWay (taken extra) isContains (rootOf x) m r w
           → Goes (λ t r. Simple (taken extra) (x ∷ d ∷ m) r t) (Begun extra Simple (x ∷ d ∷ m)) (read-rest (rootOf x) w r)
-      go d m k (parser.Way.plain p) r (path j) = viable-operator _ _ r (given (rooted t k j)) (goes-below bare bare-below r (begun-operand (given (rooted t k j))))
+      go d m k (parser.Way.plain p) r (path j) = viable-operator _ _ r (given (rooted t k j)) (goes-below noOperator bare-below r (begun-operand (given (rooted t k j))))
       go d m k (calling p w) r (left j e f) = viable-call _ r _ _ _ _ (rooted t k j) e f
 
       has-path : {L : Limits} {h : Lexeme} {m r : List Lexeme} {p : Span} → h .kind ≡ kinds.hasWord → Onto spanned (APath L (rootOf x)) m r p → Simple L (x ∷ h ∷ m) r (has (rootOf x) p)
@@ -276,14 +276,14 @@ module _ (extra : ℕ) where
 
   -- ---- conditions
 
-  some-form : (R : Family Tree) → Possible extra (λ L. Form L (R L))
+  some-form : (R : Family Tree) → Possible extra (λ L. ConditionOver L (R L))
   some-form R = record { text = λ w. made kinds.trueWord ∷ w; tree = _; reads = λ n s w. simple (grammar.Simple.bare refl) }
 
   some-condition : (d : ℕ) → Possible extra (λ L. Condition L d)
   some-condition zero = some-form (λ L. grammar.Nothing)
   some-condition (suc d) = some-form (λ L. Condition L d)
 
-  viable-simple : {R : Family Tree} (deeper : Reader Tree) → Viable extra deeper (λ L. Form L (R L)) → Viable extra (read-simple deeper) (λ L. Form L (R L))
+  viable-simple : {R : Family Tree} (deeper : Reader Tree) → Viable extra deeper (λ L. ConditionOver L (R L)) → Viable extra (read-simple deeper) (λ L. ConditionOver L (R L))
   unfolding read-simple
   viable-simple {R = R} deeper v = record {
     at = λ i.
@@ -292,15 +292,15 @@ module _ (extra : ℕ) where
         (v .at i));
   }
     where
-      up : {i : List Lexeme} {x : Answer Tree} → Goes (λ t r. Simple (taken extra) i r t) (Begun extra Simple i) x → Goes (λ t r. Form (taken extra) (R (taken extra)) i r t) (Begun extra (λ L. Form L (R L)) i) x
+      up : {i : List Lexeme} {x : Answer Tree} → Goes (λ t r. Simple (taken extra) i r t) (Begun extra Simple i) x → Goes (λ t r. ConditionOver (taken extra) (R (taken extra)) i r t) (Begun extra (λ L. ConditionOver L (R L)) i) x
       up h = goes-weaker h (λ t r k. simple k) (λ num r b. begun-weaker b (λ s j w t k. simple k))
 
   -- the three parts of `if`
-  abbrev IfParts : Reads Tree → Reads (Tree × (Tree × Tree))
+  abbrev IfParts : Reading Tree → Reading (Tree × (Tree × Tree))
   IfParts R = Then (Before kinds.thenWord R) (Then (Before kinds.elseWord R) R)
 
-  whole-if : {L : Limits} {R : Reads Tree} {x : Lexeme} {i r : List Lexeme} {t : Tree × (Tree × Tree)} → x .kind ≡ kinds.ifWord → IfParts R i r t
-      → Form L R (x ∷ i) r (choice (t .0) (t .1 .0) (t .1 .1))
+  whole-if : {L : Limits} {R : Reading Tree} {x : Lexeme} {i r : List Lexeme} {t : Tree × (Tree × Tree)} → x .kind ≡ kinds.ifWord → IfParts R i r t
+      → ConditionOver L R (x ∷ i) r (choice (t .0) (t .1 .0) (t .1 .1))
   whole-if k (followed h (followed h′ h″)) = conditional k h h′ h″
 
   module _ {R : Family Tree} {p : Reader Tree} (f : Framed R) (v : Viable extra p R) where
@@ -316,7 +316,7 @@ module _ (extra : ℕ) where
     Parts L = IfParts (R L)
 
     viable-conditional : Possible extra R → (x : Lexeme) → x .kind ≡ kinds.ifWord → (i : List Lexeme)
-        → Goes (λ t r. Form (taken extra) (R (taken extra)) (x ∷ i) r t) (Begun extra (λ L. Form L (R L)) (x ∷ i)) (read-conditional p i)
+        → Goes (λ t r. ConditionOver (taken extra) (R (taken extra)) (x ∷ i) r t) (Begun extra (λ L. ConditionOver L (R L)) (x ∷ i)) (read-conditional p i)
     unfolding read-conditional mapped
     viable-conditional q x k i =
         goes-bind _ (viable-before v f kinds.thenWord .at i) (λ num r b. up (begun-left (possible-then (possible-before q kinds.elseWord) q) b)) (λ c m h.
@@ -324,10 +324,10 @@ module _ (extra : ℕ) where
         goes-bind _ (v .at n) (λ num r b. up (begun-right (framed-before f kinds.thenWord) h (begun-right (framed-before f kinds.elseWord) h′ b))) (λ b o h″.
         good (conditional k h h′ h″))))
       where
-        up : {n : ℕ} {i r : List Lexeme} → Begun extra Parts i n r → Begun extra (λ L. Form L (R L)) (x ∷ i) n r
+        up : {n : ℕ} {i r : List Lexeme} → Begun extra Parts i n r → Begun extra (λ L. ConditionOver L (R L)) (x ∷ i) n r
         up b = begun-more (x ∷ []) (λ w. w) b (λ s j w t h. (_, whole-if k h))
 
-    viable-deeper : Possible extra R → Viable extra (read-deeper p) (λ L. Form L (R L))
+    viable-deeper : Possible extra R → Viable extra (read-deeper p) (λ L. ConditionOver L (R L))
     unfolding read-deeper read-negated read-bracketed mapped
     viable-deeper q = record {
       at = λ i.
@@ -344,7 +344,7 @@ module _ (extra : ℕ) where
   record Deeper (e n : ℕ) (w : List Lexeme) (x : Lexeme) : Type 0 where
     text : List Lexeme
     tree : Tree
-    reads : (s : List Lexeme) → Form (beyond extra n s) (Condition (beyond extra n s) e) (x ∷ text) w tree
+    reads : (s : List Lexeme) → ConditionOver (beyond extra n s) (Condition (beyond extra n s) e) (x ∷ text) w tree
 
   deeper-by : (e n : ℕ) (w : List Lexeme) (x : Lexeme) → deepens x ≡ true → Deeper e n w x
   deeper-by e n w x t = go (is kinds.bang x) (is kinds.leftRound x) refl refl
@@ -363,7 +363,7 @@ module _ (extra : ℕ) where
       go false true p q = record { text = within-brackets .text w; tree = _; reads = λ s. bracketed (eqb-true _ _ q) (within-brackets .reads n s w) }
       go false false p q = record { text = three .text w; tree = _; reads = λ s. whole-if (eqb-true _ _ (rw (p, q) at t)) (three .reads n s w) }
 
-  goes-deeper : (e : ℕ) {i : List Lexeme} (n : ℕ) → Chosen extra deepens 12 n i → Begun extra (λ L. Form L (Condition L e)) i n i
+  goes-deeper : (e : ℕ) {i : List Lexeme} (n : ℕ) → Chosen extra deepens 12 n i → Begun extra (λ L. ConditionOver L (Condition L e)) i n i
   goes-deeper e n c = begun-first [] (λ w. let d = deeper-by e n w (c .token) (c .passes) in (c .token ∷ d .text, d .tree, c .kept (d .text), d .reads (c .token ∷ d .text)))
 
   -- where the reader has no level left inside, and the grammar e
@@ -519,8 +519,8 @@ module _ (extra : ℕ) where
 
   -- ---- texts
 
-  viable-next-policy : (ps : List Policy) (x : Lexeme) → begins ps x ≡ true → (isEffect x ≡ true) × Viable extra (read-next-policy ps x) (NextPolicy ps x)
-  unfolding begins read-next-policy mapped
+  viable-next-policy : (ps : List Policy) (x : Lexeme) → mayBegin ps x ≡ true → (isEffect x ≡ true) × Viable extra (read-next-policy ps x) (NextPolicy ps x)
+  unfolding mayBegin read-next-policy mapped
   viable-next-policy ps x t =
       let l : length ps < mostPolicies = ltb-true _ _ (and-right (isEffect x) (ltb (length ps) mostPolicies) t) in (
         and-left _ _ t,
@@ -533,7 +533,7 @@ module _ (extra : ℕ) where
   pub viable-text : (i : List Lexeme) → Goes (λ ps r. (r ≡ []) × RuleText (taken extra) i ps) (Opened extra i) (read-text i)
   unfolding read-text atEnd
   viable-text i =
-      goes-bind _ (viable-onwards begins (λ ps. isEffect) read-next-policy framed-start framed-next viable-next-policy [] i (alone start))
+      goes-bind _ (viable-onwards mayBegin (λ ps. isEffect) read-next-policy framed-start framed-next viable-next-policy [] i (alone start))
       (λ n r b. let q = b .at [] in record { on = q .0; whole = q .1; policies = q .2; swapped = q .3; kept = q .4; belongs = whole-text (q .5) grammar.Policies.end })
       (λ ps r h. go ps r h)
     where

@@ -8,7 +8,7 @@ use Prim.Native.Nat.{ℕ, zero, suc, _+_, _<_}
 use lib.ListN.{length}
 use Rattle.tokens.specs.Kinds as kinds
 use Rattle.reading.specs.Lexemes.{Lexeme, is, size}
-use Rattle.reading.specs.Reads.{Reads, Chain, Onto, Before, After}
+use Rattle.reading.specs.Reads.{Reading, Chain, Onto, Before, After}
 use Rattle.grammar.specs.Policies.{Span, span, Root, Root.Principal, Root.Resource, Root.Env, Root.Action, Literal, Operand, attribute, literal, Tree, constant, compare, like, among, within, contains, has, not, brackets, both, either, choice, Part, any, typed, pinned, Actions, every, oneOf, Policy}
 use Rattle.grammar.specs.Rules.{inside, spanOf, isEffect, isRoot, rootOf, isTruth, isLiteral, literalOf, isComparator, comparatorOf, isContains, whichOf, principalTypes, resourceTypes, typeOf, isType, admitted, mostLiterals, mostPolicies, isPattern}
 
@@ -87,7 +87,7 @@ pub data NextName (L : Limits) (root : Root) (p : Path) : List Lexeme → List L
   next : {x : Lexeme} {r : List Lexeme} → x .kind ≡ kinds.name → L .Name root (p .used + 1) x r → NextName L root p (x ∷ r) r (longerPath p x)
 
 -- a path after the root
-abbrev pub APath : Limits → Root → Reads Path
+abbrev pub APath : Limits → Root → Reading Path
 APath L root = Chain (λ p. is kinds.dot) (FirstName L root) (λ p d. NextName L root p)
 
 -- ---- operands
@@ -109,11 +109,11 @@ pub data Element (L : Limits) (sort : Lexeme → Bool) (ls : List Literal) : Lis
   element : {x : Lexeme} {r : List Lexeme} → sort x ≡ true → L .Count (length ls) r → Element L sort ls (x ∷ r) r (ls ++ literalOf x ∷ [])
 
 -- a list's literals of a sort, and its `]`
-abbrev pub Literals : Limits → (Lexeme → Bool) → Reads (List Literal)
+abbrev pub Literals : Limits → (Lexeme → Bool) → Reading (List Literal)
 Literals L sort = Before kinds.rightSquare (Chain (λ ls. is kinds.comma) (Element L sort []) (λ ls comma. Element L sort ls))
 
 -- a list of literals of a sort
-abbrev pub Listing : Limits → (Lexeme → Bool) → Reads (List Literal)
+abbrev pub Listing : Limits → (Lexeme → Bool) → Reading (List Literal)
 Listing L sort = After kinds.leftSquare (Literals L sort)
 
 -- ---- conditions that hold no other
@@ -138,36 +138,36 @@ pub data Simple (L : Limits) : List Lexeme → List Lexeme → Tree → Type 0 w
 -- ---- conditions
 
 -- one or more of what C reads, joined from the left
-abbrev pub Joined : ℕ → (Tree → Tree → Tree) → Reads Tree → Reads Tree
+abbrev pub Joined : ℕ → (Tree → Tree → Tree) → Reading Tree → Reading Tree
 Joined sep join C = Chain (λ a. is sep) C (λ a x. Onto (join a) C)
 
 -- conditions joined by `&&`
-abbrev pub Conjunction : Reads Tree → Reads Tree
+abbrev pub Conjunction : Reading Tree → Reading Tree
 Conjunction C = Joined kinds.and both C
 
 -- conjunctions joined by `||`
-abbrev pub Disjunction : Reads Tree → Reads Tree
+abbrev pub Disjunction : Reading Tree → Reading Tree
 Disjunction C = Joined kinds.or either (Conjunction C)
 
 -- a condition: one that holds no other, `!`, brackets or `if`, where Inner reads the conditions one level deeper
-pub data Form (L : Limits) (Inner : Reads Tree) : List Lexeme → List Lexeme → Tree → Type 0 where
-  simple : {i r : List Lexeme} {t : Tree} → Simple L i r t → Form L Inner i r t
-  negation : {x : Lexeme} {i r : List Lexeme} {t : Tree} → x .kind ≡ kinds.bang → Inner i r t → Form L Inner (x ∷ i) r (not t)
+pub data ConditionOver (L : Limits) (Inner : Reading Tree) : List Lexeme → List Lexeme → Tree → Type 0 where
+  simple : {i r : List Lexeme} {t : Tree} → Simple L i r t → ConditionOver L Inner i r t
+  negation : {x : Lexeme} {i r : List Lexeme} {t : Tree} → x .kind ≡ kinds.bang → Inner i r t → ConditionOver L Inner (x ∷ i) r (not t)
   bracketed : {x : Lexeme} {i r : List Lexeme} {t : Tree} → x .kind ≡ kinds.leftRound → Before kinds.rightRound (Disjunction Inner) i r t
-    → Form L Inner (x ∷ i) r (brackets t)
+    → ConditionOver L Inner (x ∷ i) r (brackets t)
   conditional : {x : Lexeme} {i m n r : List Lexeme} {c a b : Tree}
-    → x .kind ≡ kinds.ifWord → Before kinds.thenWord Inner i m c → Before kinds.elseWord Inner m n a → Inner n r b → Form L Inner (x ∷ i) r (choice c a b)
+    → x .kind ≡ kinds.ifWord → Before kinds.thenWord Inner i m c → Before kinds.elseWord Inner m n a → Inner n r b → ConditionOver L Inner (x ∷ i) r (choice c a b)
 
 -- where no level is left, there is no condition
 pub data Nothing : List Lexeme → List Lexeme → Tree → Type 0 where
 
 -- a condition with at most d levels inside it
-abbrev pub Condition : Limits → ℕ → Reads Tree
-Condition L zero = Form L Nothing
-Condition L (suc d) = Form L (Condition L d)
+abbrev pub Condition : Limits → ℕ → Reading Tree
+Condition L zero = ConditionOver L Nothing
+Condition L (suc d) = ConditionOver L (Condition L d)
 
 -- what stands in the braces after `when`
-abbrev pub Conditions : Limits → Reads Tree
+abbrev pub Conditions : Limits → Reading Tree
 Conditions L = Disjunction (Condition L (L .levels))
 
 -- ---- policies

@@ -19,8 +19,8 @@ unfoldable pub noName : Root → Lexeme → ℕ
 noName root x = cond (is kinds.name x) (pathNumber root) (cond (isReserved x) 7 10)
 
 -- after an attribute as left operand: 8 where it was bare
-unfoldable pub bare : Lexeme → ℕ
-bare x = cond (endsBare x) 8 10
+unfoldable pub noOperator : Lexeme → ℕ
+noOperator x = cond (endsBare x) 8 10
 
 -- where a type must stand: 9 a name that is none
 unfoldable pub noType : Lexeme → ℕ
@@ -114,7 +114,7 @@ unfoldable pub read-bare : Operand → Reader Tree
 read-bare (literal (truth b)) = took (constant b)
 read-bare (literal (text s)) = refuseBy ten
 read-bare (literal (number s)) = refuseBy ten
-read-bare (attribute root p) = refuseBy bare
+read-bare (attribute root p) = refuseBy noOperator
 
 -- after `in`
 unfoldable pub read-in : Operand → Reader Tree
@@ -228,8 +228,8 @@ read-policy permits =
     took (record { permits = permits; principal = p; action = a; resource = s; condition = c })))))))))
 
 -- after the policies ps another may begin
-unfoldable pub begins : List Policy → Lexeme → Bool
-begins ps x = isEffect x && ltb (length ps) mostPolicies
+unfoldable pub mayBegin : List Policy → Lexeme → Bool
+mayBegin ps x = isEffect x && ltb (length ps) mostPolicies
 
 -- one policy more after ps, after its effect x
 unfoldable pub read-next-policy : List Policy → Lexeme → Reader (List Policy)
@@ -242,4 +242,4 @@ atEnd ps (x ∷ r) = refuseBy noPolicy (x ∷ r)
 
 -- a whole text
 unfoldable pub read-text : Reader (List Policy)
-read-text i = bind (onwards begins read-next-policy [] i) atEnd
+read-text i = bind (onwards mayBegin read-next-policy [] i) atEnd

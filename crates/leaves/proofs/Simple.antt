@@ -11,7 +11,7 @@ use Rattle.reading.specs.Lexemes.{Lexeme, lexeme}
 use Rattle.reading.specs.Reader.{took, refuseBy, ten}
 use Rattle.grammar.specs.Policies.{Span, Root, Comparator, text, number, truth, Operand, attribute, literal, Which, constant}
 use Rattle.grammar.specs.Rules.{isComparator, comparatorOf, isPattern, inside}
-use Rattle.grammar.specs.Parser.{Way, plain, calling, spannedBy, bare, noPattern, isLike, read-bare, read-operator, read-call, read-rest}
+use Rattle.grammar.specs.Parser.{Way, plain, calling, spannedBy, noOperator, noPattern, isLike, read-bare, read-operator, read-call, read-rest}
 use Rattle.table.specs.declared.Entry.{Entry}
 use Rattle.table.specs.Entries.{comparatorKind, whichKind, literalEntry, operandEntry, treeEntries}
 use Rattle.parts.specs.Names.{ofKind, comparing}
@@ -71,7 +71,7 @@ module _ (s : List ℕ) (t : Token) where
 -- ---- left operands, by the kinds of their entries
 
 module _ {left : Entry} where
-  pub bare-attribute : (a : Operand) → operandEntry a ≡ left → left .kind ≤ 4 → read-bare a ≡ refuseBy bare
+  pub bare-attribute : (a : Operand) → operandEntry a ≡ left → left .kind ≤ 4 → read-bare a ≡ refuseBy noOperator
   unfolding read-bare operandEntry literalEntry
   bare-attribute (attribute root p) e h = refl
   bare-attribute (literal (text s)) e h = absurd (let k = ap (λ (x : Entry). x .kind) e in omega arith)

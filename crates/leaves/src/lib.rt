@@ -10,7 +10,7 @@ ghost use Rattle.reading.specs.Lexemes.{lexeme, stream};
 ghost use Rattle.reading.specs.Reader.{mapped};
 ghost use Rattle.grammar.specs.Policies.{Span, span, Root, Comparator, Operand, compare, attribute, Which};
 ghost use Rattle.grammar.specs.Parser as parser;
-ghost use Rattle.grammar.specs.Parser.{read-operand, read-bare, read-in, read-pattern, read-operator, read-call, read-rest, read-rooted, bare, spannedBy};
+ghost use Rattle.grammar.specs.Parser.{read-operand, read-bare, read-in, read-pattern, read-operator, read-call, read-rest, read-rooted, noOperator, spannedBy};
 ghost use Rattle.table.specs.Entries.{operandEntry, treeEntries, comparatorKind, whichKind};
 ghost use Rattle.parts.specs.Answers.{Ready, Done, callAfter};
 ghost use Rattle.parts.specs.Names.{rootFrom, comparing};
@@ -55,7 +55,7 @@ fn comparator_kind(kind: u8) -> u8
 
 // The number by which a token is refused that follows an attribute as left operand.
 fn no_operator(t: Token) -> u8
-    ensures { λ r. ⌜ r ≡ bare (lexeme [] t) ⌝ }
+    ensures { λ r. ⌜ r ≡ noOperator (lexeme [] t) ⌝ }
 {
     let k = t.kind;
     if (k == kinds::AND)

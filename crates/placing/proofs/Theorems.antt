@@ -19,5 +19,5 @@ unfolding AcceptedExactly
 policies-placed text ps e = policies-walk (accepted-exactly (tokensOf text) ps .0 e) (all-from-text text) (record { few = omega arith; each = none-left })
 
 -- a place in a text of at most 8,192 bytes fits the two fields of an entry, of two bytes each
-pub fits : {text : List ℕ} {s : Span} → Lies text s → length text ≤ 8192 → (s .start < 65536) × (s .end < 65536)
-fits l h = let some = l .some in let high = l .high in (omega arith, omega arith)
+pub span-fits : {text : List ℕ} {s : Span} → Lies text s → length text ≤ 8192 → (s .start < 65536) × (s .end < 65536)
+span-fits l h = let some = l .some in let high = l .high in (omega arith, omega arith)

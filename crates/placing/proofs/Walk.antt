@@ -12,10 +12,10 @@ use Rattle.slices.specs.Same.{same}
 use Rattle.tokens.specs.Kinds as kinds
 use Rattle.tokens.proofs.TokenLaws.{and-right}
 use Rattle.reading.specs.Lexemes.{Lexeme, is}
-use Rattle.reading.specs.Reads.{Reads, Chain, Chain.alone, Chain.more, Onto, Onto.onto, Before, Before.ended, After, After.begun}
+use Rattle.reading.specs.Reads.{Reading, Chain, Chain.alone, Chain.more, Onto, Onto.onto, Before, Before.ended, After, After.begun}
 use Rattle.grammar.specs.Policies.{Span, Root, Literal, text, number, truth, Operand, attribute, Tree, both, either, Part, any, typed, Actions, Policy}
 use Rattle.grammar.specs.Rules.{inside, spanOf, isLiteral, literalOf, typeAmong, typeOf, isType, principalTypes, resourceTypes, isPattern}
-use Rattle.grammar.specs.Grammar.{sizes, spanned, APath, Attribute, rooted, AnOperand, given, Element, element, Listing, Simple, comparison, likeness, listed, held, call, having, Conjunction, Disjunction, Form, simple, negation, bracketed, conditional, Condition, Typed, ResourceRest, ActionRest, When, PolicyRest, Policies}
+use Rattle.grammar.specs.Grammar.{sizes, spanned, APath, Attribute, rooted, AnOperand, given, Element, element, Listing, Simple, comparison, likeness, listed, held, call, having, Conjunction, Disjunction, ConditionOver, simple, negation, bracketed, conditional, Condition, Typed, ResourceRest, ActionRest, When, PolicyRest, Policies}
 use Rattle.grammar.specs.Grammar as grammar
 use Rattle.placing.specs.Placed.{quotedAt, StringPlaced, NumberPlaced, PathPlaced, Each, none-left, and-each, LiteralPlaced, a-string, a-number, a-truth, ActionPlaced, an-action, OperandPlaced, an-attribute, a-literal, Listed, TreePlaced, a-constant, a-comparison, a-likeness, in-list, in-attribute, a-call, a-presence, a-negation, in-brackets, a-conjunction, a-disjunction, a-choice, depth, PrincipalPlaced, any-principal, principal-type, ResourcePlaced, any-resource, resource-type, one-resource, ActionsPlaced, any-action, one-of, ConditionPlaced, no-condition, a-condition, PolicyPlaced, PoliciesPlaced}
 use Rattle.placing.proofs.EachLaws.{each-append}
@@ -54,10 +54,10 @@ type-some types x e = eqb-false (typeOf types x) 0 (not-true _ (and-right (is ki
 -- ---- readings of readings
 
 -- Of what R reads from a text's tokens P holds, and the tokens behind it are the text's too.
-pub record Gives {A : Type 0} (t : List ℕ) (R : Reads A) (P : A → Type 0) : Type 0 where
+pub record Gives {A : Type 0} (t : List ℕ) (R : Reading A) (P : A → Type 0) : Type 0 where
   pub at : {i r : List Lexeme} {a : A} → R i r a → FromText t i → P a × FromText t r
 
-module _ {A : Type 0} {t : List ℕ} {R : Reads A} {P : A → Type 0} where
+module _ {A : Type 0} {t : List ℕ} {R : Reading A} {P : A → Type 0} where
   gives-after : {k : ℕ} → Gives t R P → Gives t (After k R) P
   gives-after {k} s = record { at = go }
     where
@@ -76,7 +76,7 @@ module _ {A : Type 0} {t : List ℕ} {R : Reads A} {P : A → Type 0} where
       go : {i r : List Lexeme} {b : B} → Onto g R i r b → FromText t i → Q b × FromText t r
       go (onto h) f = let y = s .at h f in (k _ (y .0), y .1)
 
-  gives-chain : {sep : A → Lexeme → Bool} {Next : A → Lexeme → Reads A} → Gives t R P → ((a : A) (x : Lexeme) → P a → Gives t (Next a x) P) → Gives t (Chain sep R Next) P
+  gives-chain : {sep : A → Lexeme → Bool} {Next : A → Lexeme → Reading A} → Gives t R P → ((a : A) (x : Lexeme) → P a → Gives t (Next a x) P) → Gives t (Chain sep R Next) P
   gives-chain {sep} {Next} s n = record { at = go }
     where
       go : {i r : List Lexeme} {a : A} → Chain sep R Next i r a → FromText t i → P a × FromText t r
@@ -176,7 +176,7 @@ module _ {t : List ℕ} where
   deeper : {d e : ℕ} {c : Tree} → d ≤ e → Nested t d c → Nested t e c
   deeper l n = let m = n .levels in record { placed = n .placed; levels = omega arith }
 
-  module _ {d : ℕ} {C : Reads Tree} (s : Gives t C (Nested t d)) where
+  module _ {d : ℕ} {C : Reading Tree} (s : Gives t C (Nested t d)) where
     joins-both : (a b : Tree) → Nested t d a → Nested t d b → Nested t d (both a b)
     unfolding depth
     joins-both a b h k = record { placed = a-conjunction (h .placed) (k .placed); levels = omega arith }
@@ -191,11 +191,11 @@ module _ {t : List ℕ} where
     gives-disjunction : Gives t (Disjunction C) (Nested t d)
     gives-disjunction = gives-chain gives-conjunction (λ a x h. gives-onto gives-conjunction (λ b k. joins-either a b h k))
 
-    gives-form : Gives t (Form sizes C) (Nested t (suc d))
+    gives-form : Gives t (ConditionOver sizes C) (Nested t (suc d))
     unfolding depth
     gives-form = record { at = go }
       where
-        go : {i r : List Lexeme} {c : Tree} → Form sizes C i r c → FromText t i → Nested t (suc d) c × FromText t r
+        go : {i r : List Lexeme} {c : Tree} → ConditionOver sizes C i r c → FromText t i → Nested t (suc d) c × FromText t r
         go (simple h) f = let y = gives-simple .at h f in (deeper (omega arith) (y .0), y .1)
         go (negation e h) f =
             let y = s .at h (tail-of f) in let n = y .0 in (record { placed = a-negation (n .placed); levels = omega (arith, n .levels) }, y .1)

@@ -7,7 +7,7 @@ use native.Mathlib.Omega.{arith}
 use lib.ListN.{length}
 use borrow.Author.Tests.{eq-eqb}
 use Rattle.reading.specs.Lexemes.{Lexeme, is, choose}
-use Rattle.reading.specs.Reads.{Reads, Chain, Chain.alone, Chain.more, Onto, Onto.onto, Before, Before.ended}
+use Rattle.reading.specs.Reads.{Reading, Chain, Chain.alone, Chain.more, Onto, Onto.onto, Before, Before.ended}
 use Rattle.reading.specs.Reader.{Answer, took, refuse, Reader, numbered, refuseBy, bind, on, need, before, mapped, upTo, onwards, chain}
 use Rattle.reading.proofs.Readers.{Shrinks, Without, on-without, on-token}
 
@@ -33,10 +33,10 @@ nearly-on {Z = Z} {a = a} {s = s} k f number x r h z = go (k x) refl
     go false e = excused (z e)
 
 -- p takes what R reads, where S holds of what follows; but for refusals that Z excuses.
-pub record Complete {A : Type 0} (Z : ℕ → List Lexeme → Type 0) (S : List Lexeme → Type 0) (p : Reader A) (R : Reads A) : Type 0 where
+pub record Complete {A : Type 0} (Z : ℕ → List Lexeme → Type 0) (S : List Lexeme → Type 0) (p : Reader A) (R : Reading A) : Type 0 where
   pub at : {i r : List Lexeme} {a : A} → R i r a → S r → Nearly Z a r (p i)
 
-module _ {A : Type 0} {Z : ℕ → List Lexeme → Type 0} {S : List Lexeme → Type 0} {p : Reader A} {R : Reads A} (c : Complete Z S p R) where
+module _ {A : Type 0} {Z : ℕ → List Lexeme → Type 0} {S : List Lexeme → Type 0} {p : Reader A} {R : Reading A} (c : Complete Z S p R) where
   pub complete-mapped : {B : Type 0} (f : A → B) → Complete Z S (mapped f p) (Onto f R)
   unfolding mapped
   complete-mapped {B = B} f = record { at = go }
@@ -48,7 +48,7 @@ module _ {A : Type 0} {Z : ℕ → List Lexeme → Type 0} {S : List Lexeme → 
   unfolding before need
   complete-before k f {r = r} (ended {x = x} h e) = nearly-bind _ (c .at h (f x r e)) (rw (on-token (is k) _ _ x r (eq-eqb _ _ e)) exact)
 
-module _ {A : Type 0} {Z : ℕ → List Lexeme → Type 0} {S : List Lexeme → Type 0} (sep : A → Lexeme → Bool) (p : Reader A) (q : A → Lexeme → Reader A) {R : Reads A} {Q : A → Lexeme → Reads A}
+module _ {A : Type 0} {Z : ℕ → List Lexeme → Type 0} {S : List Lexeme → Type 0} (sep : A → Lexeme → Bool) (p : Reader A) (q : A → Lexeme → Reader A) {R : Reading A} {Q : A → Lexeme → Reading A}
     (c : Complete Z S p R) (d : (a : A) (x : Lexeme) → Complete Z S (q a x) (Q a x)) (s : (a : A) (x : Lexeme) → Shrinks (Q a x))
     (k : (a : A) (x : Lexeme) (m : List Lexeme) → sep a x ≡ true → S (x ∷ m)) where
   -- the reader of a chain comes to r, with turns enough left; or its refusal is excused

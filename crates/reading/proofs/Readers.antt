@@ -8,7 +8,7 @@ use lib.Dec.{ltb}
 use lib.ListN.{length}
 use borrow.Author.Tests.{eqb-true, ltb-true}
 use Rattle.reading.specs.Lexemes.{Lexeme, is, choose}
-use Rattle.reading.specs.Reads.{Reads, Chain, Chain.alone, Chain.more, Onto, Onto.onto, Before, Before.ended}
+use Rattle.reading.specs.Reads.{Reading, Chain, Chain.alone, Chain.more, Onto, Onto.onto, Before, Before.ended}
 use Rattle.reading.specs.Reader.{Answer, took, refuse, Reader, numbered, refuseBy, bind, on, need, ten, upTo, onwards}
 
 -- ---- what `on` does with the next token
@@ -120,22 +120,22 @@ goes-onwards {A = A} P Q sep q s a m h = go (length m) a m h
 -- ---- what has a token
 
 -- What R reads has one.
-pub record Shrinks {A : Type 0} (R : Reads A) : Type 0 where
+pub record Shrinks {A : Type 0} (R : Reading A) : Type 0 where
   pub at : {i r : List Lexeme} {a : A} → R i r a → length r < length i
 
-pub shrinks-onto : {A B : Type 0} {f : A → B} {R : Reads A} → Shrinks R → Shrinks (Onto f R)
+pub shrinks-onto : {A B : Type 0} {f : A → B} {R : Reading A} → Shrinks R → Shrinks (Onto f R)
 shrinks-onto {A = A} {B = B} {f = f} {R = R} s = record { at = go }
   where
     go : {i r : List Lexeme} {b : B} → Onto f R i r b → length r < length i
     go (onto h) = s .at h
 
-pub shrinks-before : {A : Type 0} {k : ℕ} {R : Reads A} → Shrinks R → Shrinks (Before k R)
+pub shrinks-before : {A : Type 0} {k : ℕ} {R : Reading A} → Shrinks R → Shrinks (Before k R)
 shrinks-before {A = A} {k = k} {R = R} s = record { at = go }
   where
     go : {i r : List Lexeme} {b : A} → Before k R i r b → length r < length i
     go (ended h e) = let x = s .at h in omega arith
 
-pub shrinks-chain : {A : Type 0} {sep : A → Lexeme → Bool} {R : Reads A} {Q : A → Lexeme → Reads A} → Shrinks R → ((a : A) (x : Lexeme) → Shrinks (Q a x)) → Shrinks (Chain sep R Q)
+pub shrinks-chain : {A : Type 0} {sep : A → Lexeme → Bool} {R : Reading A} {Q : A → Lexeme → Reading A} → Shrinks R → ((a : A) (x : Lexeme) → Shrinks (Q a x)) → Shrinks (Chain sep R Q)
 shrinks-chain {A = A} {sep = sep} {R = R} {Q = Q} s t = record { at = go }
   where
     go : {i r : List Lexeme} {b : A} → Chain sep R Q i r b → length r < length i
@@ -146,7 +146,7 @@ shrinks-chain {A = A} {sep = sep} {R = R} {Q = Q} s t = record { at = go }
 pub record Takes {A : Type 0} (p : Reader A) : Type 0 where
   pub at : (i r : List Lexeme) (a : A) → p i ≡ took a r → length r < length i
 
-pub takes : {A : Type 0} {p : Reader A} {R : Reads A} {Q : List Lexeme → ℕ → List Lexeme → Type 0} → ((i : List Lexeme) → Goes (λ a r. R i r a) (Q i) (p i)) → Shrinks R → Takes p
+pub takes : {A : Type 0} {p : Reader A} {R : Reading A} {Q : List Lexeme → ℕ → List Lexeme → Type 0} → ((i : List Lexeme) → Goes (λ a r. R i r a) (Q i) (p i)) → Shrinks R → Takes p
 takes s t = record { at = λ i r a e. t .at (goes-took (rw e at (s i))) }
 
 -- ---- a chain's loop, with no bound on its turns: what a proof of code cites

@@ -8,7 +8,7 @@ use native.Mathlib.Omega.{arith}
 use lib.ListN.{length, length-append}
 use Rattle.grammar.specs.Policies.{Span, Literal, Operand, Tree, Part, Actions, Policy}
 use Rattle.placing.specs.Placed.{Lies, Each, none-left, and-each, LiteralPlaced, a-string, a-number, a-truth, ActionPlaced, an-action, OperandPlaced, an-attribute, a-literal, Listed, TreePlaced, a-constant, a-comparison, a-likeness, in-list, in-attribute, a-call, a-presence, a-negation, in-brackets, a-conjunction, a-disjunction, a-choice, PrincipalPlaced, any-principal, principal-type, ResourcePlaced, any-resource, resource-type, one-resource, ActionsPlaced, any-action, one-of, ConditionPlaced, no-condition, a-condition, PolicyPlaced}
-use Rattle.placing.proofs.Theorems.{policies-placed, fits}
+use Rattle.placing.proofs.Theorems.{policies-placed, span-fits}
 use Rattle.table.specs.declared.Entry.{Entry}
 use Rattle.table.specs.Entries.{entry, placed, literalEntry, literalEntries, operandEntry, whichKind, treeEntries, partEntry, actionEntries, conditionEntries, effectKind, targetEntries, policyEntries, policiesEntries}
 use Rattle.table.specs.Layout.{held, bytesOf, Begins, startsWith}
@@ -30,7 +30,7 @@ module _ (t : List ℕ) (short : length t ≤ 8192) where
   -- ---- places
 
   placed-small : {k : ℕ} {s : Span} → Lies t s → Small (placed k s)
-  placed-small l = let (a, b) = fits l short in record { first = a; second = b }
+  placed-small l = let (a, b) = span-fits l short in record { first = a; second = b }
 
   literal-small : {l : Literal} → LiteralPlaced t l → Small (literalEntry l)
   unfolding literalEntry

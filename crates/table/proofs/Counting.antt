@@ -13,10 +13,10 @@ use Rattle.tokens.specs.Kinds as kinds
 use Rattle.tokens.specs.Tokens.{tokenAt}
 use Rattle.tokens.proofs.ReadLaws.{reads}
 use Rattle.reading.specs.Lexemes.{Lexeme, lexeme, is, choose, following, tokensUpTo, tokensFrom, tokensOf}
-use Rattle.reading.specs.Reads.{Reads, Chain, Chain.alone, Chain.more, Onto.onto, Before.ended, After.begun}
+use Rattle.reading.specs.Reads.{Reading, Chain, Chain.alone, Chain.more, Onto.onto, Before.ended, After.begun}
 use Rattle.grammar.specs.Policies.{Literal, Operand, Tree, constant, both, either, Part, Actions, Policy}
 use Rattle.grammar.specs.Rules.{literalOf, whichOf}
-use Rattle.grammar.specs.Grammar.{Limits, Attribute, rooted, AnOperand, given, Element, element, Listing, Simple, comparison, likeness, listed, held, call, having, Joined, Conjunction, Disjunction, Form, simple, negation, bracketed, conditional, Condition, Typed, ResourceRest, ActionRest, When, PolicyRest, Policies, RuleText}
+use Rattle.grammar.specs.Grammar.{Limits, Attribute, rooted, AnOperand, given, Element, element, Listing, Simple, comparison, likeness, listed, held, call, having, Joined, Conjunction, Disjunction, ConditionOver, simple, negation, bracketed, conditional, Condition, Typed, ResourceRest, ActionRest, When, PolicyRest, Policies, RuleText}
 use Rattle.grammar.specs.Grammar as grammar
 use Rattle.grammar.specs.Grammar.{sizes}
 use Rattle.grammar.specs.Parser.{read-text}
@@ -37,7 +37,7 @@ policies-append e (q ∷ ps) p =
     ap (λ (l : List Entry). a ++ l) (policies-append f ps p ∙ ap (λ (i : ℕ). b ++ policyEntries i p) place) ∙ sym (append-assoc a b (policyEntries (e + length (a ++ b)) p))
 
 -- what R reads has a token for each of its entries
-record Pays {A : Type 0} (es : ℕ → A → List Entry) (R : Reads A) : Type 0 where
+record Pays {A : Type 0} (es : ℕ → A → List Entry) (R : Reading A) : Type 0 where
   at : {i r : List Lexeme} {a : A} → R i r a → (e : ℕ) → length (es e a) + length r ≤ length i
 
 constant-one : (e : ℕ) (b : Bool) → length (treeEntries e (constant b)) ≡ 1
@@ -80,7 +80,7 @@ module _ (L : Limits) where
       let n = length-append (placed (rootKind root) p ∷ literalEntries ls) (entry (whichKind (whichOf w)) (length ls) 0 ∷ []) in omega arith
   simple-pays (having t k j) e = let y = shrinks-names L _ .at j in omega arith
 
-  joined-pays : (sep kind : ℕ) (join : Tree → Tree → Tree) {R : Reads Tree} → ((e : ℕ) (a b : Tree) → treeEntries e (join a b) ≡ joint kind e (treeEntries e a) (λ f. treeEntries f b))
+  joined-pays : (sep kind : ℕ) (join : Tree → Tree → Tree) {R : Reading Tree} → ((e : ℕ) (a b : Tree) → treeEntries e (join a b) ≡ joint kind e (treeEntries e a) (λ f. treeEntries f b))
       → Pays treeEntries R → Pays treeEntries (Joined sep join R)
   joined-pays sep kind join {R} shape s = record { at = go }
     where
@@ -93,15 +93,15 @@ module _ (L : Limits) where
           let n : length (treeEntries e (join a b)) ≡ length left + length right + 1 = ap length (shape e a b) ∙ length-append (left ++ right) _ ∙ ap (λ (m : ℕ). m + 1) (length-append left right) in
           omega arith
 
-  conjunction-pays : {R : Reads Tree} → Pays treeEntries R → Pays treeEntries (Conjunction R)
+  conjunction-pays : {R : Reading Tree} → Pays treeEntries R → Pays treeEntries (Conjunction R)
   unfolding treeEntries
   conjunction-pays s = joined-pays kinds.and 26 both (λ e a b. refl) s
 
-  disjunction-pays : {R : Reads Tree} → Pays treeEntries R → Pays treeEntries (Disjunction R)
+  disjunction-pays : {R : Reading Tree} → Pays treeEntries R → Pays treeEntries (Disjunction R)
   unfolding treeEntries
   disjunction-pays s = joined-pays kinds.or 27 either (λ e a b. refl) (conjunction-pays s)
 
-  form-at : {R : Reads Tree} → Pays treeEntries R → {i r : List Lexeme} {t : Tree} → Form L R i r t → (e : ℕ) → length (treeEntries e t) + length r ≤ length i
+  form-at : {R : Reading Tree} → Pays treeEntries R → {i r : List Lexeme} {t : Tree} → ConditionOver L R i r t → (e : ℕ) → length (treeEntries e t) + length r ≤ length i
   unfolding treeEntries
   form-at s (simple h) e = simple-pays h e
   form-at s (negation {t = t} k h) e = let x = s .at h e in let n = length-append (treeEntries e t) (entry 24 0 0 ∷ []) in omega arith

@@ -4,7 +4,7 @@ use native.Mathlib.Omega.{arith}
 use borrow.Author.Needs.{needs}
 use Rattle.reading.specs.Lexemes.{stream}
 use Rattle.reading.specs.Reader.{Reader, ten}
-use Rattle.grammar.specs.Parser.{bare}
+use Rattle.grammar.specs.Parser.{noOperator}
 use Rattle.grammar.specs.Policies.{Tree, constant}
 use Rattle.parts.proofs.Standing.{standing, turned-as, turned, turned-for}
 use Rattle.parts.proofs.Writing.{one-done, turned-done}
@@ -18,13 +18,13 @@ turned-away-requires c κs =
     start .pre .0 .order
 
 returns : tie.Need-returns
-unfolding bare
+unfolding noOperator
 returns c =
     let start = c .before .before .before .before .before .before .before in
     λ a e.
     let s = start .args .text .now in
     let t = start .args .t in
-    turned-done (turned-as (ap (λ (p : Reader Tree). p (stream s t)) (bare-attribute a e (c .before .before .if1 .taken))) (turned-for s t bare (c .before .no-operator .ensures) (c .turned-away .ensures)))
+    turned-done (turned-as (ap (λ (p : Reader Tree). p (stream s t)) (bare-attribute a e (c .before .before .if1 .taken))) (turned-for s t noOperator (c .before .no-operator .ensures) (c .turned-away .ensures)))
 
 turned-away-requires-2 : tie.Need-turned-away-requires-2
 turned-away-requires-2 c κs =
