@@ -14,7 +14,8 @@ use Rattle.grammar.specs.Policies.{Policy}
 use Rattle.grammar.specs.Grammar.{RuleText, sizes}
 use Rattle.grammar.specs.Lowest.{RefusedBy}
 use Rattle.table.specs.Entries.{policiesEntries}
-use Rattle.table.specs.Layout.{held, Begins}
+use Rattle.slices.specs.Parts.{Begins}
+use Rattle.table.specs.Layout.{held}
 use Rattle.compiling.specs.Outcome.{mostBytes, roomFor, said, compiledBytes, compiledOf, saidOf, tableAfter, CompiledInto, heldOf, beginsOf}
 use Rattle.compiling.specs.declared.Compiled.{Compiled}
 use Rattle.compiling.specs.declared.Compiled.the-variants.{Policies, Refused}

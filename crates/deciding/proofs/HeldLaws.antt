@@ -7,7 +7,8 @@ use Rattle.reading.specs.Reader.{took}
 use Rattle.grammar.specs.Policies.{Policy}
 use Rattle.placing.proofs.Theorems.{policies-placed}
 use Rattle.table.specs.Entries.{policiesEntries}
-use Rattle.table.specs.Layout.{bytesOf, Begins}
+use Rattle.slices.specs.Parts.{Begins}
+use Rattle.table.specs.Layout.{bytesOf}
 use Rattle.table.proofs.Holding.{starts-decides, held-starts}
 use Rattle.stored.specs.Stored.{Says}
 use Rattle.stored.specs.ReadBack.{policiesAt}

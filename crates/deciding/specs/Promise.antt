@@ -8,7 +8,7 @@ use lib.ListN.{length}
 use Rattle.reading.specs.Lexemes.{tokensOf}
 use Rattle.grammar.specs.Policies.{Policy}
 use Rattle.grammar.specs.Grammar.{RuleText, sizes}
-use Rattle.table.specs.Layout.{Begins}
+use Rattle.slices.specs.Parts.{Begins}
 use Rattle.compiling.specs.Outcome.{mostBytes, compiledBytes}
 use Rattle.compiling.specs.Promise.{Begun}
 use Rattle.bags.specs.Sections.{isBag}

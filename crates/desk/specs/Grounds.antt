@@ -18,7 +18,7 @@ use Rattle.patterns.specs.Likes.{likes}
 use Rattle.grammar.specs.Policies.{Policy}
 use Rattle.placing.specs.Placed.{PoliciesPlaced}
 use Rattle.table.specs.Entries.{policiesEntries}
-use Rattle.table.specs.Layout.{Begins}
+use Rattle.slices.specs.Parts.{Begins}
 use Rattle.stored.specs.ReadBack.{policiesAt}
 use Rattle.compiling.specs.Outcome.{compiledBytes}
 use Rattle.bags.specs.Paths.{isPath}

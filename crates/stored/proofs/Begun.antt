@@ -11,7 +11,8 @@ use Rattle.placing.specs.Placed.{Lies, Each, none-left, and-each, LiteralPlaced
 use Rattle.placing.proofs.Theorems.{policies-placed, span-fits}
 use Rattle.table.specs.declared.Entry.{Entry}
 use Rattle.table.specs.Entries.{entry, placed, literalEntry, literalEntries, operandEntry, whichKind, treeEntries, partEntry, actionEntries, conditionEntries, effectKind, targetEntries, policyEntries, policiesEntries}
-use Rattle.table.specs.Layout.{held, bytesOf, Begins, startsWith}
+use Rattle.slices.specs.Parts.{Begins}
+use Rattle.table.specs.Layout.{held, bytesOf, startsWith}
 use Rattle.stored.specs.Stored.{Says, Small, StoredPolicies}
 use Rattle.table.proofs.Holding.{held-starts, starts-decides}
 use Rattle.placing.proofs.EachLaws.{each-append}

@@ -12,7 +12,8 @@ use lib.Dec.{eqb}
 use borrow.Author.Tests.{eqb-true, eqb-false, eq-eqb, le-leb, leb-true, leb-false}
 use Rattle.tokens.proofs.TokenLaws.{and-left, and-right}
 use Rattle.table.specs.declared.Entry.{Entry}
-use Rattle.table.specs.Layout.{entrySize, entryBytes, bytesOf, fits, putAt, puts, numberOf, entryAt, entryIs, held, startsWith, Begins}
+use Rattle.slices.specs.Parts.{Begins}
+use Rattle.table.specs.Layout.{entrySize, entryBytes, bytesOf, fits, putAt, puts, numberOf, entryAt, entryIs, held, startsWith}
 use Rattle.slices.specs.Decides.{Decides}
 use Rattle.slices.proofs.Decided.{yes-to, no-to, refuted}
 

@@ -68,8 +68,3 @@ unfoldable pub startsWith : List ℕ → List ℕ → Bool
 startsWith [] s = true
 startsWith (x ∷ a) [] = false
 startsWith (x ∷ a) (y ∷ s) = eqb y x && startsWith a s
-
--- the same as a statement
-pub record Begins (a s : List ℕ) : Type 0 where
-  pub rest : List ℕ
-  pub is : s ≡ a ++ rest

@@ -14,10 +14,11 @@ use Rattle.slices.specs.Ascii.{bytes}
 use Rattle.slices.specs.Same.{same}
 use Rattle.slices.proofs.Equal.{same-decides}
 use Rattle.tokens.specs.Bytes.{classOf, letter, digit, mark}
+use Rattle.slices.specs.Parts.{Begins}
 use Rattle.tokens.specs.Runs.{is, run}
 use Rattle.tokens.specs.Words.{wordKind}
 use Rattle.tokens.specs.Tokens.{doubled, beforeEquals}
-use Rattle.tokens.specs.Forms.{All, empty, next, SomeDigits, digits-from, Unsigned, whole, pointed, Number, plain, minus, marks, Among, first, later, Form, a-word, a-string, a-number, a-mark, Begins, NoForm, Longest, digits, sizeOf, mostOf}
+use Rattle.tokens.specs.Forms.{All, empty, next, SomeDigits, digits-from, Unsigned, whole, pointed, Number, plain, minus, marks, Among, first, later, Form, a-word, a-string, a-number, a-mark, NoForm, Longest, digits, sizeOf, mostOf}
 use Rattle.tokens.specs.declared.classes.Sort.{Sort}
 use Rattle.tokens.specs.declared.classes.Sort.the-variants.{Blanks, Marks, Digits, Letters, WordBytes, StringBytes, LoneMarks}
 use Rattle.tokens.proofs.TokenLaws.{never, and-left, and-right, or-cases, every}
@@ -252,14 +253,14 @@ some-bytes (a-mark {l} m) = go l (all-marked m)
 
 -- a list that no form reaches into
 pub no-form : (l : List ℕ) → reach l ≡ 0 → NoForm l
-no-form l e = record { none = λ f b. omega (arith, some-bytes f, covers f (b .more), ap reach (b .parts)) }
+no-form l e = record { none = λ f b. omega (arith, some-bytes f, covers f (b .rest), ap reach (b .is)) }
 
 -- a form that reaches as far as any
 pub longest : {kind : ℕ} {p : List ℕ} → Form kind p → (q : List ℕ) → reach (p ++ q) ≡ length p → Longest kind p (p ++ q)
 longest f q e = record {
   form = f;
-  begins = record { more = q; parts = refl };
-  none-longer = λ g b. omega (arith, covers g (b .more), ap reach (b .parts));
+  begins = record { rest = q; is = refl };
+  none-longer = λ g b. omega (arith, covers g (b .rest), ap reach (b .is));
 }
 
 -- the one longest form that begins a list
@@ -270,4 +271,4 @@ one-longest {o} {p} {l} f g =
     (one-kind (f .form) (rw (← same) at (g .form)), same)
   where
     cut : {p l : List ℕ} → Begins p l → (n : ℕ) → length p ≡ n → p ≡ take n l
-    cut {p} b n e = sym (ap (take n) (b .parts) ∙ take-at p (b .more) n e)
+    cut {p} b n e = sym (ap (take n) (b .is) ∙ take-at p (b .rest) n e)

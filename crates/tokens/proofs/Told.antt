@@ -30,7 +30,7 @@ told text blanks rest at e a (a-token {kind} {p} f s) h =
     let size′ : start + length p - start ≡ length p = omega arith in
     let gap : between text at start ≡ blanks = rw (size, e) (take-append-seam blanks rest) in
     let behind : drop start text ≡ rest = sym (drop-drop (length blanks) at text) ∙ rw e (drop-append-seam blanks rest) in
-    let bytes : between text start (start + length p) ≡ p = rw (size′, behind, f .begins .parts) (take-append-seam p (f .begins .more)) in
+    let bytes : between text start (start + length p) ≡ p = rw (size′, behind, f .begins .is) (take-append-seam p (f .begins .rest)) in
     record { gap = rw gap a; form = rw bytes (f .form); few = rw bytes s }
 told text blanks rest at e a (too-long f s) h = absurd (omega arith)
 told text blanks rest at e a (a-colon f) h = absurd (omega arith)

@@ -10,6 +10,7 @@ use Prim.Native.String.{String}
 use lib.Dec.{eqb}
 use lib.ListN.{length, getD, drop}
 use Rattle.slices.specs.Ascii.{bytes}
+use Rattle.slices.specs.Parts.{Begins}
 use Rattle.tokens.specs.Kinds as kinds
 use Rattle.tokens.specs.Runs.{is}
 use Rattle.tokens.specs.Tokens.{token, badByte}
@@ -95,11 +96,6 @@ abbrev pub mostOf : ℕ → ℕ
 mostOf kind = cond (eqb kind kinds.string) 127 (cond (eqb kind kinds.number) 15 64)
 
 -- ---- the token at a place
-
--- bytes with which a list begins
-pub record Begins (p l : List ℕ) : Type 0 where
-  pub more : List ℕ
-  pub parts : l ≡ p ++ more
 
 -- no beginning of a list has a form
 pub record NoForm (l : List ℕ) : Type 0 where
