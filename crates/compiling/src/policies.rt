@@ -21,7 +21,9 @@ use parts::answers::Refusal;
 use parts::answers::closed;
 use parts::answers::expected;
 use parts::answers::turned_away;
+use parts::refusals;
 use table::Entry;
+use table::entries;
 use tokens::kinds;
 use tokens::reader::Token;
 use tokens::reader::next_token;
@@ -37,9 +39,9 @@ fn no_policy(t: Token) -> u8
     ensures { λ r. ⌜ r ≡ noPolicy (lexeme [] t) ⌝ }
 {
     if (t.kind == kinds::PERMIT) | (t.kind == kinds::FORBID) {
-        15
+        refusals::TOO_MANY_POLICIES
     } else {
-        10
+        refusals::NOT_ADMITTED
     }
 }
 
@@ -47,7 +49,7 @@ fn no_policy(t: Token) -> u8
 fn effect_kind(permits: bool) -> u8
     ensures { λ r. ⌜ r ≡ effectKind permits ⌝ }
 {
-    if permits { 34 } else { 35 }
+    if permits { entries::PERMIT } else { entries::FORBID }
 }
 
 // After a policy's effect: `(`, the principal part and its comma.
@@ -141,7 +143,7 @@ fn read_when(
     }
     let next = next_token(classes, text, t.end);
     if next.kind != b'{' {
-        return Answer::Refused(turned_away(text, next, 10));
+        return Answer::Refused(turned_away(text, next, refusals::NOT_ADMITTED));
     }
     // the braces are the first of 32 levels
     let inside = read_whole(classes, text, table, seen, next.end, 31, number, same);

@@ -22,22 +22,13 @@ use parts::answers::turned_away;
 use parts::lists::is_literal;
 use parts::lists::literal_entry;
 use parts::paths::is_root;
+use parts::refusals;
 use table::Entry;
 use table::append;
+use table::entries;
 use tokens::kinds;
 use tokens::reader::Token;
 use tokens::reader::next_token;
-
-// The kinds of the entries that are put here (docs/TABLE.md).
-const NOT: u8 = 24;
-
-const BRACKETS: u8 = 25;
-
-const BOTH: u8 = 26;
-
-const EITHER: u8 = 27;
-
-const CHOICE: u8 = 28;
 
 // An answer in half the bytes. Where something was read: whether the table that is seen has the entries so far, the kind of the token after what was read, the next
 // free entry, and where that token starts and ends. Where nothing was, a refusal: `kind` is its number, `start` the place and `end` the size of the token.
@@ -124,7 +115,7 @@ fn stopped(text: &[u8], a: Short) -> Short
         start: a.start,
         end: a.end,
     };
-    shortened(Answer::Refused(turned_away(text, t, 10)))
+    shortened(Answer::Refused(turned_away(text, t, refusals::NOT_ADMITTED)))
 }
 
 // The token that is read from a place on.
@@ -141,9 +132,9 @@ fn no_level(t: Token) -> u8
 {
     let k = t.kind;
     if (k == b'!') | (k == b'(') | (k == kinds::IF) {
-        12
+        refusals::TOO_DEEP
     } else {
-        10
+        refusals::NOT_ADMITTED
     }
 }
 
@@ -287,7 +278,7 @@ fn read_disjunction(
             part.same,
             more,
             Entry {
-                kind: EITHER,
+                kind: entries::OR,
                 first: so_far.free as usize,
                 second: 0,
             },
@@ -331,7 +322,7 @@ fn read_conjunction(
             part.same,
             more,
             Entry {
-                kind: BOTH,
+                kind: entries::AND,
                 first: so_far.free as usize,
                 second: 0,
             },
@@ -421,7 +412,7 @@ fn read_negation(
         *seen,
         inside,
         Entry {
-            kind: NOT,
+            kind: entries::NOT,
             first: 0,
             second: 0,
         },
@@ -464,7 +455,7 @@ fn read_group(
         *seen,
         after,
         Entry {
-            kind: BRACKETS,
+            kind: entries::BRACKETS,
             first: 0,
             second: 0,
         },
@@ -501,7 +492,7 @@ fn read_choice(
                 *seen,
                 part,
                 Entry {
-                    kind: CHOICE,
+                    kind: entries::IF,
                     first: last as usize,
                     second: so_far.free as usize,
                 },

@@ -16,11 +16,9 @@ use evaluating::evaluate;
 use meaning::Decision;
 use meaning::Verdict;
 use table::Entry;
+use table::entries;
 use table::entry_at;
 use targets::matching::target_matches;
-
-// The kind of a permit's last entry (docs/TABLE.md); a forbid's has another.
-const PERMIT: u8 = 34;
 
 // Whether a condition is true.
 fn is_yes(v: Verdict) -> bool
@@ -59,7 +57,7 @@ pub fn counts<'a>(
     ensures { λ r. ⌜ r ≡ countsOf known (now (text .entry)) (rowView (now (s .entry)) p n (now (heads .entry)) (now (values .entry)))
         (request (now (subject .entry)) (now (action .entry)) (now (resource .entry))) (now (table .entry)) end x ⌝ }
 {
-    if known & (x.kind == PERMIT) {
+    if known & (x.kind == entries::PERMIT) {
         return false;
     }
     let target = target_matches(
@@ -152,7 +150,7 @@ pub fn decision<'a>(
             resource,
             resource_type,
         );
-        let permits = x.kind == PERMIT;
+        let permits = x.kind == entries::PERMIT;
         forbid = number_if(hit & !permits, number, forbid);
         permit = number_if(hit & permits, number, permit);
         end = x.first;

@@ -13,6 +13,7 @@ use bags::sections::Sections;
 use meaning::Verdict;
 use operators::flat;
 use table::Entry;
+use table::entries;
 use table::entry_in;
 
 // Whether a condition is true.
@@ -46,7 +47,7 @@ fn first_met(at: usize, x: Entry) -> usize
     requires { ⌜ 0 < at ⌝ }
     ensures { λ r. ⌜ r ≡ cond (eqb (x .kind) 28) (x .first) (at - 1) ⌝ }
 {
-    if x.kind == 28 { x.first } else { at - 1 }
+    if x.kind == entries::IF { x.first } else { at - 1 }
 }
 
 // Where the part ends that is met first, or all that is left, where no `if`, `&&` or `||` joins parts.
@@ -54,7 +55,7 @@ fn part_met(at: usize, x: Entry) -> usize
     requires { ⌜ 0 < at ⌝ }
     ensures { λ r. ⌜ r ≡ cond (ltb (x .kind) 26) at (cond (eqb (x .kind) 28) (x .first) (at - 1)) ⌝ }
 {
-    if x.kind < 26 {
+    if x.kind < entries::AND {
         return at;
     }
     first_met(at, x)
@@ -64,14 +65,14 @@ fn part_met(at: usize, x: Entry) -> usize
 fn is_last(x: Entry, yes: bool) -> bool
     ensures { λ r. ⌜ r ≡ (ltb (x .kind) 26 || (eqb (x .kind) 26 && not yes) || (eqb (x .kind) 27 && yes)) ⌝ }
 {
-    (x.kind < 26) | ((x.kind == 26) & !yes) | ((x.kind == 27) & yes)
+    (x.kind < entries::AND) | ((x.kind == entries::AND) & !yes) | ((x.kind == entries::OR) & yes)
 }
 
 // Whether the number of `!` is odd, after this entry.
 fn odd_after(odd: bool, x: Entry) -> bool
     ensures { λ r. ⌜ r ≡ cond (eqb (x .kind) 24) (not odd) odd ⌝ }
 {
-    if x.kind == 24 {
+    if x.kind == entries::NOT {
         return !odd;
     }
     odd
@@ -82,7 +83,7 @@ fn next_met(at: usize, x: Entry, yes: bool) -> usize
     requires { ⌜ 0 < at ⌝ }
     ensures { λ r. ⌜ r ≡ cond (eqb (x .kind) 28) (cond yes (x .second) (at - 1)) (x .first) ⌝ }
 {
-    if x.kind == 28 {
+    if x.kind == entries::IF {
         if yes { x.second } else { at - 1 }
     } else {
         x.first
@@ -114,7 +115,7 @@ pub fn evaluate<'a>(
         let x = entry_in(table, at - 1);
         let part = part_met(at, x);
         let y = entry_in(table, part - 1);
-        if y.kind <= 23 {
+        if y.kind <= entries::CONTAINS_ANY {
             let v = flat(text, table, part, y, s, p, n, heads, values, action);
             let yes = is_yes(v);
             if is_last(x, yes) {

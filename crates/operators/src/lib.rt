@@ -28,6 +28,7 @@ use bags::sections::Sections;
 use lookups::values::Value;
 use meaning::Verdict;
 use table::Entry;
+use table::entries;
 use table::entry_in;
 
 // Kinds of entries (docs/TABLE.md): 1 to 4 attributes of principal, resource, env and action; 5 to 8 `has` after these; 9 to 12 a string, a number, true, false; 13 to 18 `==`, `!=`,
@@ -115,7 +116,7 @@ fn like_operand<'a>(
     ensures { λ r. ⌜ r ≡ ifText (meant (now (text .entry)) (now (s .entry)) p n (now (heads .entry)) (now (values .entry)) (now (action .entry)) a) (likes (quotedAt (now (text .entry)) (spanOf o))) ⌝ }
 {
     let kind = v.kind;
-    if kind != 1 {
+    if kind != bags::values::STRING {
         return false;
     }
     let x = operand_string(text, s, action, a, v);
@@ -168,7 +169,7 @@ fn operand_in_attribute<'a>(
     ensures { λ r. ⌜ r ≡ ifText (meant (now (text .entry)) (now (s .entry)) p n (now (heads .entry)) (now (values .entry)) (now (action .entry)) a) (λ x. ifTexts (attributeValue (now (text .entry)) (withAction (now (action .entry)) (rowView (now (s .entry)) p n (now (heads .entry)) (now (values .entry)))) (rootOf (b .kind)) (spanOf b)) (λ l. listed l x)) ⌝ }
 {
     let kind = v.kind;
-    if kind != 1 {
+    if kind != bags::values::STRING {
         return false;
     }
     let w = attribute_value(text, s, p, n, heads, values, b);
@@ -202,7 +203,7 @@ fn contains_literals(
 {
     let w = attribute_value(text, s, p, n, heads, values, b);
     let kind = w.kind;
-    if kind != 4 {
+    if kind != bags::values::LIST {
         return false;
     }
     literals_listed(text, table, any, count, at, s, w.place)
@@ -215,10 +216,10 @@ fn left_at(end: usize, x: Entry) -> usize
     ensures { λ r. ⌜ r ≡ leftAt end x ⌝ }
 {
     let kind = x.kind;
-    if kind == 19 {
+    if kind == entries::LIKE {
         return end - 2;
     }
-    if kind == 20 {
+    if kind == entries::IN_LIST {
         let count = x.first;
         return end - count - 2;
     }
@@ -248,14 +249,14 @@ fn left_holds<'a>(
     ensures { λ r. ⌜ told r ≡ verdict (now (text .entry)) (withAction (now (action .entry)) (rowView (now (s .entry)) p n (now (heads .entry)) (now (values .entry)))) (treeOf (treeAt (now (table .entry))) (now (table .entry)) end x) ⌝ }
 {
     let kind = x.kind;
-    if kind <= 18 {
+    if kind <= entries::AT_MOST {
         let b = entry_in(table, end - 2);
         return compare_operands(text, kind, a, b, s, p, n, heads, values, v, action);
     }
-    if kind == 19 {
+    if kind == entries::LIKE {
         return like_operand(text, x, a, s, p, n, heads, values, v, action);
     }
-    if kind == 21 {
+    if kind == entries::IN_ATTRIBUTE {
         let b = entry_in(table, end - 2);
         return operand_in_attribute(text, a, b, s, p, n, heads, values, v, action);
     }
@@ -283,8 +284,8 @@ pub fn flat<'a>(
     ensures { λ r. ⌜ r ≡ verdict (now (text .entry)) (withAction (now (action .entry)) (rowView (now (s .entry)) p n (now (heads .entry)) (now (values .entry)))) (treeOf (treeAt (now (table .entry))) (now (table .entry)) end x) ⌝ }
 {
     let kind = x.kind;
-    if kind <= 8 {
-        let root = kind - 4;
+    if kind <= entries::HAS_ACTION {
+        let root = kind - entries::ROOTS;
         let o = Entry {
             kind: root,
             first: x.first,
@@ -292,14 +293,14 @@ pub fn flat<'a>(
         };
         return told_of(has_attribute(text, o, s, p, n, heads, values));
     }
-    if kind <= 12 {
-        return told_of(kind == 11);
+    if kind <= entries::FALSE {
+        return told_of(kind == entries::TRUE);
     }
     if 22 <= kind {
         let count = x.first;
         let at = end - count - 1;
         let a = entry_in(table, end - count - 2);
-        let any = kind == 23;
+        let any = kind == entries::CONTAINS_ANY;
         return told_of(contains_literals(text, table, any, count, at, a, s, p, n, heads, values));
     }
     let a = entry_in(table, left_at(end, x));

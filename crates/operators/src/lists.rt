@@ -21,6 +21,7 @@ use crate::values::same_string;
 use crate::values::values_hold;
 use lookups::values::Value;
 use table::Entry;
+use table::entries;
 use table::entry_in;
 
 // Whether the comparator of an entry's kind holds of the value, with its string, and a literal.
@@ -30,7 +31,7 @@ pub fn literal_holds(text: &[u8], kind: u8, o: Entry, v: Value, x: &[u8]) -> boo
 {
     let w = literal_value(text, o);
     let sort = o.kind;
-    if sort == 9 {
+    if sort == entries::STRING {
         return values_hold(kind, v, x, w, quoted(text, o));
     }
     values_hold(kind, v, x, w, x)
@@ -90,7 +91,7 @@ fn literal_listed(text: &[u8], o: Entry, s: &[u8], place: usize) -> bool
     ensures { λ r. ⌜ r ≡ ifText (literalValue (now (text .entry)) (literalOf o)) (listed (listAt (now (s .entry)) place)) ⌝ }
 {
     let kind = o.kind;
-    if kind != 9 {
+    if kind != entries::STRING {
         return false;
     }
     in_list(s, place, quoted(text, o))

@@ -11,6 +11,7 @@ use bags::sections::Sections;
 use lookups::values::Value;
 use numbers::literals::number;
 use table::Entry;
+use table::entries;
 use views::attribute;
 
 // An attribute's value. The action has no attribute but its name.
@@ -28,13 +29,13 @@ pub fn attribute_value(
     ensures { λ r. ⌜ r ≡ attributeRead (now (text .entry)) (now (s .entry)) p n (now (heads .entry)) (now (values .entry)) o ⌝ }
 {
     let root = o.kind;
-    if (1 <= root) & (root <= 3) {
+    if (entries::PRINCIPAL <= root) & (root <= entries::ENV) {
         let start = o.first;
         let end = o.second;
         return attribute(s, p, n, heads, values, root, &text[start..end]);
     }
     Value {
-        kind: 1,
+        kind: bags::values::STRING,
         number: 0.0,
         place: 0,
     }
@@ -46,32 +47,32 @@ pub fn literal_value(text: &[u8], o: Entry) -> Value
     ensures { λ r. ⌜ r ≡ literalRead (now (text .entry)) o ⌝ }
 {
     let kind = o.kind;
-    if kind == 9 {
+    if kind == entries::STRING {
         return Value {
-            kind: 1,
+            kind: bags::values::STRING,
             number: 0.0,
             place: 0,
         };
     }
-    if kind == 10 {
+    if kind == entries::NUMBER {
         let start = o.first;
         let end = o.second;
         let x = number(&text[start..end]);
         return Value {
-            kind: 2,
+            kind: bags::values::NUMBER,
             number: x,
             place: 0,
         };
     }
-    if kind == 11 {
+    if kind == entries::TRUE {
         return Value {
-            kind: 3,
+            kind: bags::values::FLAG,
             number: 1.0,
             place: 0,
         };
     }
     Value {
-        kind: 3,
+        kind: bags::values::FLAG,
         number: 0.0,
         place: 0,
     }
@@ -92,7 +93,7 @@ pub fn operand_value(
     ensures { λ r. ⌜ r ≡ operandRead (now (text .entry)) (now (s .entry)) p n (now (heads .entry)) (now (values .entry)) o ⌝ }
 {
     let kind = o.kind;
-    if kind <= 4 {
+    if kind <= entries::ACTION {
         return attribute_value(text, s, p, n, heads, values, o);
     }
     literal_value(text, o)
@@ -122,14 +123,14 @@ pub fn operand_string<'a>(
 {
     let kind = v.kind;
     let root = o.kind;
-    let inside = (1 <= root) & (root <= 3);
-    if (kind == 1) & inside {
+    let inside = (entries::PRINCIPAL <= root) & (root <= entries::ENV);
+    if (kind == bags::values::STRING) & inside {
         let place = v.place;
         let start = place + 1;
         let end = start + s[place] as usize;
         return &s[start..end];
     }
-    if root == 9 {
+    if root == entries::STRING {
         return quoted(text, o);
     }
     action

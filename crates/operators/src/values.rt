@@ -10,24 +10,25 @@ ghost use Rattle.meaning.specs.Values.{ordered, equality, sameFlag, compares as
 use lookups::values::Value;
 use numbers::comparing::Comparator;
 use numbers::comparing::compares;
+use table::entries;
 
 // Two numbers, with the comparator of an entry's kind.
 fn numbers_hold(kind: u8, x: f64, y: f64) -> bool
     ensures { λ r. ⌜ r ≡ ordered (comparatorOf kind) x y ⌝ }
 {
-    if kind == 13 {
+    if kind == entries::EQUAL {
         return compares(Comparator::Same, x, y);
     }
-    if kind == 14 {
+    if kind == entries::NOT_EQUAL {
         return compares(Comparator::Other, x, y);
     }
-    if kind == 15 {
+    if kind == entries::MORE {
         return compares(Comparator::More, x, y);
     }
-    if kind == 16 {
+    if kind == entries::AT_LEAST {
         return compares(Comparator::AtLeast, x, y);
     }
-    if kind == 17 {
+    if kind == entries::LESS {
         return compares(Comparator::Less, x, y);
     }
     compares(Comparator::AtMost, x, y)
@@ -37,10 +38,10 @@ fn numbers_hold(kind: u8, x: f64, y: f64) -> bool
 fn equality_holds(kind: u8, same: bool) -> bool
     ensures { λ r. ⌜ r ≡ equality (comparatorOf kind) same ⌝ }
 {
-    if kind == 13 {
+    if kind == entries::EQUAL {
         return same;
     }
-    if kind == 14 {
+    if kind == entries::NOT_EQUAL {
         return !same;
     }
     false
@@ -71,7 +72,7 @@ pub fn is_present(v: Value) -> bool
     ensures { λ r. ⌜ ((x : List ℕ) (l : List (List ℕ)) → r ≡ present (datumOf v x l)) ⌝ }
 {
     let kind = v.kind;
-    (1 <= kind) & (kind <= 4)
+    (bags::values::STRING <= kind) & (kind <= bags::values::LIST)
 }
 
 // Whether the comparator of an entry's kind holds of two values, with their strings.
@@ -83,14 +84,14 @@ pub fn values_hold(kind: u8, v: Value, x: &[u8], w: Value, y: &[u8]) -> bool
     if k != j {
         return false;
     }
-    if k == 1 {
+    if k == bags::values::STRING {
         let b = same_string(x, y);
         return equality_holds(kind, b);
     }
-    if k == 2 {
+    if k == bags::values::NUMBER {
         return numbers_hold(kind, v.number, w.number);
     }
-    if k == 3 {
+    if k == bags::values::FLAG {
         let b = same_flag(v.number == 1.0, w.number == 1.0);
         return equality_holds(kind, b);
     }

@@ -14,16 +14,8 @@ ghost use Rattle.meaning.specs.Decisions.{targetMatches};
 ghost use Rattle.targets.specs.Matching.{request, ActionsAt};
 use slices::same as equal;
 use table::Entry;
+use table::entries;
 use table::entry_in;
-
-// The kind of the entry of a bare principal or resource part (docs/TABLE.md).
-const BARE: u8 = 29;
-
-// One with `is`, which has the type's number in its first field.
-const TYPED: u8 = 30;
-
-// A bare action part.
-const ANY_ACTION: u8 = 32;
 
 // Whether s is what stands between the quotes of the string of the text from `start` up to `end`.
 fn is_quoted(text: &[u8], start: usize, end: usize, s: &[u8]) -> bool
@@ -43,10 +35,10 @@ fn part_matches(text: &[u8], x: Entry, s: &[u8], type_number: usize) -> bool
     requires { ⌜ ResourcePlaced (now text) (partOf x) ⌝ }
     ensures { λ r. ⌜ ((types : List (List ℕ)) → «type_number» ≡ typeIn types (now (s .entry)) → r ≡ partMatches types (now (text .entry)) (now (s .entry)) (partOf x)) ⌝ }
 {
-    if x.kind == BARE {
+    if x.kind == entries::BARE_PART {
         return true;
     }
-    if x.kind == TYPED {
+    if x.kind == entries::TYPED_PART {
         return type_number == x.first;
     }
     is_quoted(text, x.first, x.second, s)
@@ -57,7 +49,7 @@ fn action_matches(text: &[u8], table: &[u8], end: usize, x: Entry, action: &[u8]
     requires { ⌜ ActionsAt (now text) (now table) end x ⌝ }
     ensures { λ r. ⌜ r ≡ actionMatches (now (text .entry)) (now (action .entry)) (actionsOf (now (table .entry)) end x) ⌝ }
 {
-    if x.kind == ANY_ACTION {
+    if x.kind == entries::BARE_ACTION {
         return true;
     }
     let mut left = x.first;
