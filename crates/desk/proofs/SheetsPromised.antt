@@ -8,7 +8,7 @@ use native.Mathlib.Nat.{mul-pos}
 use native.Mathlib.Decide.{decLe}
 use native.Mathlib.Omega.{arith}
 use lib.ListN.{length, getD, take, drop}
-use lib.Seq.{take-at, drop-at, length-take-le}
+use lib.Seq.{take-at}
 use Rattle.tokens.proofs.TokenLaws.{never}
 use Rattle.grammar.specs.Policies.{Policy}
 use Rattle.compiling.specs.Promise.{Begun}
@@ -28,13 +28,12 @@ use Rattle.meaning.specs.Decisions.{decisionOf, outcomeOf, policyOf, isAllowed}
 use Rattle.meaning.specs.declared.Decision.{Decision}
 use Rattle.meaning.specs.declared.Decision.the-variants.{Allowed, Forbidden, Nothing, System}
 use Rattle.pages.specs.Rows.{Combination, rowOf, choicesAt, countsOf}
-use Rattle.pages.specs.Listing.{pageRows, nextRow, rowSize, roomIn, bytesOf, over}
+use Rattle.pages.specs.Listing.{pageRows, nextRow, rowSize, roomIn, bytesOf}
 use Rattle.pages.proofs.Listed.{lists-yes}
 use Rattle.pages.proofs.Progress.{bytes-length}
-use Rattle.sheets.specs.Sheets.{decisionBy, decisions, dividedAs, rowsIn, rowsAsked, refusalOf, unless, answerOf, sheetAfter, saidOf, saidTo}
+use Rattle.sheets.specs.Sheets.{decisionBy, decisions, dividedAs, rowsIn, rowsAsked, saidTo}
 use Rattle.sheets.specs.Promise as sheets
 use Rattle.sheets.specs.Promise.{countsAsked, listedFrom, ListsExactly, ListedRightly, Called, no-call, call, PagesJoined, GoesOn, OthersStay, NothingChanged, Wellasked, Wellformed, no-room, no-question, above, never-the-system, bad-subject, bad-action, bad-resource, not-compiled, none-wrong}
-use Rattle.sheets.specs.declared.Answer.the-variants.{Listed, Refused}
 use Rattle.sheets.proofs.Promised as sheets-proofs
 use Rattle.desk.specs.Answers.{sheetSays, sheetLeaves, decideSays, viewOfChoices, viewOfRow, rowsSay}
 use Rattle.desk.specs.Promises.{Says, Granted, OutcomeIs, Yes, allowed, system, writtenBy, pageOf, Pages, no-page, page, Shows}
@@ -143,12 +142,6 @@ pub pages-joined : (text table question : List ℕ) (q : Request) (start : ℕ) 
 unfolding PagesJoined
 pages-joined text table question q start bytes p = sheets-proofs.pages-joined text table question q start bytes (called p)
 
--- the refusal's number that is answered
-number-given : (n w o : ℕ) → saidOf (unless n (Listed w o) Refused) .refusal ≡ n
-unfolding saidOf unless
-number-given zero w o = refl
-number-given (suc n) w o = refl
-
 module _ (text table question : List ℕ) (q : Request) (start : ℕ) (sheet : List ℕ) (at : ℕ) where
   pub goes-on : sheetSays text table question q start sheet at .refusal ≡ 0
       → (start < rowsAsked question → start < sheetSays text table question q start sheet at .next) × (sheetSays text table question q start sheet at .next ≤ rowsAsked question)
@@ -240,38 +233,16 @@ module _ (text table question : List ℕ) (q : Request) (start : ℕ) (sheet : L
 
   -- ---- a page
 
-  module _ (e : sheetSays text table question q start sheet at .refusal ≡ 0) where
-    abbrev rows : List ℕ
-    rows = pageOf text question q start sheet at
-
-    none-given : refusalOf text table question q start sheet at ≡ 0
-    unfolding sheetSays answerOf
-    none-given = sym (number-given (refusalOf text table question q start sheet at) _ _) ∙ e
-
-    written-is : sheetSays text table question q start sheet at .written ≡ length rows
-    unfolding sheetSays answerOf unless saidOf pageRows
-    written-is = rw none-given
-
-    next-is : sheetSays text table question q start sheet at .next ≡ getD (listedFrom text question q start) (roomIn (drop at sheet)) (rowsAsked question)
-    unfolding sheetSays answerOf unless saidOf nextRow
-    next-is = rw none-given
-
-    leaves-is : sheetLeaves text table question q start sheet at ≡ take at sheet ++ over (bytesOf (decisions text question q) rows) (drop at sheet)
-    unfolding sheetAfter unless pageRows
-    leaves-is = rw none-given
-
-    bytes-are : writtenBy text table question q start sheet at ≡ bytesOf (decisions text question q) rows
-    bytes-are =
-        let bytes = bytesOf (decisions text question q) rows in
-        let room = well-asked (heard e) .room in
-        let front : length (take at sheet) ≡ at = length-take-le at sheet (omega arith) in
-        let long : length bytes ≡ rowSize * sheetSays text table question q start sheet at .written = bytes-length (decisions text question q) rows ∙ ap (λ (n : ℕ). rowSize * n) (sym written-is) in
-        rw (leaves-is, drop-at (take at sheet) (over bytes (drop at sheet)) at front) (take-at bytes (drop (length bytes) (drop at sheet)) (rowSize * sheetSays text table question q start sheet at .written) long)
-
-    pub page-rightly : (sheetSays text table question q start sheet at .written ≡ length (pageOf text question q start sheet at))
-        × (writtenBy text table question q start sheet at ≡ bytesOf (decisions text question q) (pageOf text question q start sheet at))
-        × (sheetSays text table question q start sheet at .next ≡ getD (listedFrom text question q start) (roomIn (drop at sheet)) (rowsAsked question))
-    page-rightly = (written-is, bytes-are, next-is)
+  pub page-rightly : sheetSays text table question q start sheet at .refusal ≡ 0
+      → (sheetSays text table question q start sheet at .written ≡ length (pageOf text question q start sheet at))
+      × (writtenBy text table question q start sheet at ≡ bytesOf (decisions text question q) (pageOf text question q start sheet at))
+      × (sheetSays text table question q start sheet at .next ≡ getD (listedFrom text question q start) (roomIn (drop at sheet)) (rowsAsked question))
+  unfolding sheetSays pageRows nextRow
+  page-rightly e =
+      let w = sheets-proofs.page-written text table question q start sheet at e in
+      let bytes = bytesOf (decisions text question q) (pageOf text question q start sheet at) in
+      let long : length bytes ≡ rowSize * saidTo text table question q start sheet at .written = bytes-length (decisions text question q) _ ∙ ap (λ (n : ℕ). rowSize * n) (sym (w .written)) in
+      (w .written, rw (w .bytes) (take-at bytes (drop (length bytes) (drop at sheet)) (rowSize * saidTo text table question q start sheet at .written) long), w .next)
 
 -- ---- to the last page
 
