@@ -117,7 +117,7 @@ fn print_page<'a>(
     requires { ⌜ start < rows ⌝ }
     ensures { λ r. ⌜ PagePrinted (now (text .entry)) (now (question .entry)) (request (now (subject .entry)) (now (action .entry)) (now (resource .entry))) rows start r ⌝ }
 {
-    let mut page = [0u8; 6000];
+    let mut page = [0u8; 6000]; // room for 1,000 rows
     match sheet(
         text,
         table,

@@ -34,6 +34,7 @@ pub record Readable (text table : List ℕ) (policies entries : ℕ) (subject : 
   pub subject-type-is : subject-type ≡ typeIn principalTypes subject
   pub resource-type-is : resource-type ≡ typeIn resourceTypes resource
 
+-- what is needed to decide the rows: whose they are, and for any subject but the system all that
 pub record Decidable (system : Bool) (text table : List ℕ) (policies entries : ℕ) (subject : List ℕ) (subject-type : ℕ) (resource : List ℕ) (resource-type : ℕ) : Type 0 where
   pub whose : system ≡ isSystem subject
   pub others : system ≡ false → Readable text table policies entries subject subject-type resource resource-type

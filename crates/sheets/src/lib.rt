@@ -31,6 +31,7 @@ pub enum Answer {
     Refused(u8),
 }
 
+// The answer that a written page gives.
 fn listed(page: Page) -> Answer
     ensures { λ r. ⌜ r ≡ Listed (page .written) (page .next) ⌝ }
 {
@@ -161,6 +162,7 @@ pub fn sheet<'a>(
     if sheet.len() < at {
         return Answer::Refused(25);
     }
+    // no room for the six bytes of a row
     if sheet.len() - at < 6 {
         return Answer::Refused(25);
     }
