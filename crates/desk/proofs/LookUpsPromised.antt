@@ -11,6 +11,7 @@ use lib.ListN.{length}
 use denote.Ref.{RefT, now}
 use Rattle.slices.specs.Same.{same}
 use Rattle.slices.specs.Parts.{part, IsPart}
+use Rattle.slices.proofs.Equal.{same-decides}
 use Rattle.bags.specs.Reading.{byte, each, following}
 use Rattle.bags.specs.Sections.{pathAt, kindAt, entryEnd, sectionsOf, isBag}
 use Rattle.bags.specs.declared.After.{After}
@@ -18,6 +19,7 @@ use Rattle.bags.specs.declared.After.the-variants.{At, Bad}
 use Rattle.bags.specs.declared.sections.Sections.{Sections}
 use Rattle.bags.specs.declared.sections.Divided.{Divided}
 use Rattle.bags.specs.declared.sections.Divided.the-variants.{In, Broken}
+use Rattle.bags.proofs.SectionLaws.{entry-at}
 use Rattle.bags.proofs.ValueLaws.{Ended, string, number, flag, list, value-at}
 use Rattle.lookups.specs.Values.{nought, unit, numberOf, valueAt, Whole}
 use Rattle.lookups.specs.Values as values
@@ -28,25 +30,26 @@ use Rattle.lookups.specs.declared.Answer.{Answer}
 use Rattle.lookups.specs.declared.Answer.the-variants.{Found, Refused}
 use Rattle.lookups.proofs.Answers.{refused, found, string-inside}
 use Rattle.lookups.proofs.BagLaws.{bag-whole}
+use Rattle.lookups.proofs.FindLaws.{bag-is-base}
 use Rattle.views.specs.Meaning.{text}
 use Rattle.views.specs.Values.{datumOf, datumIn, stringAt, baseBag}
 use Rattle.views.proofs.ReadLaws.{look-means}
 use Rattle.deciding.specs.Answers.{viewIn, viewOf}
 use Rattle.desk.specs.Answers.{foundAs, lookupSays, stringSays}
 use Rattle.desk.specs.declared.DeskString.{DeskString}
-use Rattle.desk.specs.Promises.{StringAllows, Means, a-string, a-number, flag-off, flag-on, a-list, none-found}
+use Rattle.desk.specs.Promises.{StringAllows, Means, a-string, a-number, flag-off, flag-on, a-list, none-found, SectionOf, principal, resource, env, EntryOf, the-first, a-later, StandsIn}
 
 -- ---- the number and the place of what is read
 
 -- the number is that of the kind, and what is absent has place 0
 record Told (bag : List ℕ) (v : Value) : Type 0 where
   counted : v .number ≡ numberOf (v .kind) bag (v .place)
-  nowhere : v .kind ≡ 0 → v .place ≡ 0
+  nowhere-then : v .kind ≡ 0 → v .place ≡ 0
 
 module _ (bag : List ℕ) where
   absent-told : Told bag values.absent
   unfolding numberOf
-  absent-told = record { counted = refl; nowhere = λ k. refl }
+  absent-told = record { counted = refl; nowhere-then = λ k. refl }
 
   value-told : (k : ℕ) → Told bag (valueAt bag k)
   unfolding valueAt
@@ -54,53 +57,132 @@ module _ (bag : List ℕ) where
     where
       go : (b : Bool) → eqb (byte bag k) 0 ≡ b → Told bag (cond b values.absent (record { kind = byte bag k; number = numberOf (byte bag k) bag (k + 1); place = k + 1 }))
       go true q = absent-told
-      go false q = record { counted = refl; nowhere = λ z. absurd (eqb-false (byte bag k) 0 q z) }
+      go false q = record { counted = refl; nowhere-then = λ z. absurd (eqb-false (byte bag k) 0 q z) }
 
-  module _ (path : List ℕ) where
-    entries-told : (n at : ℕ) → Told bag (lookIn values.absent (each n (entryEnd bag) (entryAt bag) at) path)
-    unfolding each lookIn
-    entries-told zero at = absent-told
-    entries-told (suc n) at = go (entryEnd bag at) (entries-told n)
-      where
-        pick : {v w : Value} (b : Bool) → Told bag v → Told bag w → Told bag (cond b v w)
-        pick true t u = t
-        pick false t u = u
+  -- a value that is not absent has its kind byte's kind, and stands after it
+  value-there : (k : ℕ) → (valueAt bag k .kind ≡ 0 → ⊥) → (valueAt bag k .kind ≡ byte bag k) × (valueAt bag k .place ≡ k + 1)
+  unfolding valueAt
+  value-there k = go (eqb (byte bag k) 0)
+    where
+      go : (b : Bool) → (cond b values.absent (record { kind = byte bag k; number = numberOf (byte bag k) bag (k + 1); place = k + 1 }) .kind ≡ 0 → ⊥)
+          → (cond b values.absent (record { kind = byte bag k; number = numberOf (byte bag k) bag (k + 1); place = k + 1 }) .kind ≡ byte bag k)
+          × (cond b values.absent (record { kind = byte bag k; number = numberOf (byte bag k) bag (k + 1); place = k + 1 }) .place ≡ k + 1)
+      go true n = absurd (n refl)
+      go false n = (refl, refl)
 
-        go : (a : After) → ((e : ℕ) → Told bag (lookIn values.absent (each n (entryEnd bag) (entryAt bag) e) path))
-            → Told bag (lookIn values.absent (following a λ e. entryAt bag at e ∷ each n (entryEnd bag) (entryAt bag) e) path)
-        go (At e) later = pick (same (pathAt bag at) path) (value-told (kindAt bag at)) (later e)
-        go Bad later = absent-told
+  -- no entry's value is absent
+  entry-there : (at e : ℕ) → entryEnd bag at ≡ At e → valueAt bag (kindAt bag at) .kind ≡ 0 → ⊥
+  unfolding valueAt
+  entry-there at e q = rw (ne-eqb (byte bag (kindAt bag at)) 0 (some (value-at (byte bag (kindAt bag at)) bag (kindAt bag at + 1) e (entry-at bag at e q .valued)))) (some (value-at (byte bag (kindAt bag at)) bag (kindAt bag at + 1) e (entry-at bag at e q .valued)))
+    where
+      some : {kind at e : ℕ} → Ended kind bag at e → kind ≡ 0 → ⊥
+      some (string j w) z = omega arith
+      some (number j w) z = omega arith
+      some (flag j w) z = omega arith
+      some (list j w) z = omega arith
 
-    section-told : (b : ℕ) → Told bag (lookIn values.absent (sectionAt bag b) path)
-    unfolding sectionAt
-    section-told b = entries-told (byte bag b) (b + 1)
+-- ---- what is found is the value of an entry with the path, or nothing
 
-    base-told : (p : Sections) (root : ℕ) → Told bag (lookIn values.absent (baseOf bag p root) path)
-    unfolding baseOf lookIn
-    base-told p root = go (eqb root 1) (eqb root 2) (eqb root 3)
-      where
-        go : (a b c : Bool) → Told bag (lookIn values.absent (cond a (sectionAt bag 0) (cond b (sectionAt bag (p .resource)) (cond c (sectionAt bag (p .env)) []))) path)
-        go true b c = section-told 0
-        go false true c = section-told (p .resource)
-        go false false true = section-told (p .env)
-        go false false false = absent-told
+module _ (bag path : List ℕ) where
+  -- of the n entries from a place on
+  data Among (n at : ℕ) : Value → Type 0 where
+    none-there : Among n at values.absent
+    one-there : {entry : ℕ} → EntryOf bag n at entry → pathAt bag entry ≡ path → Among n at (valueAt bag (kindAt bag entry))
 
-    bag-told : (root : ℕ) → Told bag (lookIn values.absent (bagOf bag root) path)
-    unfolding bagOf lookIn
-    bag-told root = go (sectionsOf bag)
-      where
-        go : (d : Divided) → Told bag (lookIn values.absent (divided d λ p. baseOf bag p root) path)
-        go (In p) = base-told p root
-        go Broken = absent-told
+  -- of the section of a root
+  data Under (root : ℕ) : Value → Type 0 where
+    nowhere : Under root values.absent
+    somewhere : {p : Sections} {start entry : ℕ} → sectionsOf bag ≡ In p → SectionOf p root start → EntryOf bag (byte bag start) (start + 1) entry → pathAt bag entry ≡ path
+        → Under root (valueAt bag (kindAt bag entry))
 
-    -- it stands for what deciding sees
-    bag-means : (root : ℕ) → datumIn bag (lookIn values.absent (bagOf bag root) path) ≡ viewOf bag root path
-    unfolding bagOf lookIn viewIn baseBag datumOf
-    bag-means root = go (sectionsOf bag)
-      where
-        go : (d : Divided) → datumIn bag (lookIn values.absent (divided d λ p. baseOf bag p root) path) ≡ viewIn bag d root path
-        go (In p) = look-means bag (baseOf bag p root) path
-        go Broken = refl
+  among-entries : (n at : ℕ) → Among n at (lookIn values.absent (each n (entryEnd bag) (entryAt bag) at) path)
+  unfolding each lookIn
+  among-entries zero at = none-there
+  among-entries (suc n) at = go (entryEnd bag at) refl (among-entries n)
+    where
+      later : {v : Value} {e : ℕ} → entryEnd bag at ≡ At e → Among n e v → Among (suc n) at v
+      later q none-there = none-there
+      later q (one-there m k) = one-there (a-later q m) k
+
+      pick : {v : Value} {e : ℕ} → entryEnd bag at ≡ At e → (b : Bool) → same (pathAt bag at) path ≡ b → Among (suc n) at v → Among (suc n) at (cond b (valueAt bag (kindAt bag at)) v)
+      pick q true k rest = one-there (the-first q) (same-decides (pathAt bag at) path .sound k)
+      pick q false k rest = rest
+
+      go : (a : After) → entryEnd bag at ≡ a → ((e : ℕ) → Among n e (lookIn values.absent (each n (entryEnd bag) (entryAt bag) e) path))
+          → Among (suc n) at (lookIn values.absent (following a λ e. entryAt bag at e ∷ each n (entryEnd bag) (entryAt bag) e) path)
+      go (At e) q rest = pick q (same (pathAt bag at) path) refl (later q (rest e))
+      go Bad q rest = none-there
+
+  among-section : (b : ℕ) → Among (byte bag b) (b + 1) (lookIn values.absent (sectionAt bag b) path)
+  unfolding sectionAt
+  among-section b = among-entries (byte bag b) (b + 1)
+
+  under : {p : Sections} {root start : ℕ} {v : Value} → sectionsOf bag ≡ In p → SectionOf p root start → Among (byte bag start) (start + 1) v → Under root v
+  under d s none-there = nowhere
+  under d s (one-there m k) = somewhere d s m k
+
+  under-base : (p : Sections) → sectionsOf bag ≡ In p → (root : ℕ) → Under root (lookIn values.absent (baseOf bag p root) path)
+  unfolding baseOf lookIn
+  under-base p d root = go (eqb root 1) refl (eqb root 2) refl (eqb root 3) refl
+    where
+      go : (a : Bool) → eqb root 1 ≡ a → (b : Bool) → eqb root 2 ≡ b → (c : Bool) → eqb root 3 ≡ c
+          → Under root (lookIn values.absent (cond a (sectionAt bag 0) (cond b (sectionAt bag (p .resource)) (cond c (sectionAt bag (p .env)) []))) path)
+      go true i b j c k = under d (rw (eqb-true root 1 i) principal) (among-section 0)
+      go false i true j c k = under d (rw (eqb-true root 2 j) resource) (among-section (p .resource))
+      go false i false j true k = under d (rw (eqb-true root 3 k) env) (among-section (p .env))
+      go false i false j false k = nowhere
+
+  under-bag : (root : ℕ) → Under root (lookIn values.absent (bagOf bag root) path)
+  unfolding bagOf lookIn
+  under-bag root = go (sectionsOf bag) refl
+    where
+      go : (d : Divided) → sectionsOf bag ≡ d → Under root (lookIn values.absent (divided d λ p. baseOf bag p root) path)
+      go (In p) q = under-base p q root
+      go Broken q = nowhere
+
+  -- with its kind and its place
+  stands-in : {root : ℕ} {v : Value} → Under root v → (v .kind ≡ 0 → ⊥) → StandsIn bag root path (v .kind) (v .place)
+  stands-in nowhere n = absurd (n refl)
+  stands-in (somewhere {p} {start} {entry} d s m k) n =
+      let w = value-there bag (kindAt bag entry) n in
+      record { sections = p; divided = d; start = start; section = s; entry = entry; among = m; path-is = k; kind-is = w .0; place-is = w .1 }
+
+  -- where an entry with the path stands, something is found
+  found-among : {n at entry : ℕ} → EntryOf bag n at entry → pathAt bag entry ≡ path → lookIn values.absent (each n (entryEnd bag) (entryAt bag) at) path .kind ≡ 0 → ⊥
+  unfolding each lookIn
+  found-among {at = at} (the-first {next = e} q) k = rw (q, same-decides (pathAt bag at) path .complete k) (entry-there bag at e q)
+  found-among {at = at} (a-later {n = n} {next = e} q m) k = rw q (go (same (pathAt bag at) path) (found-among m k))
+    where
+      rest : Value
+      rest = lookIn values.absent (each n (entryEnd bag) (entryAt bag) e) path
+
+      go : (b : Bool) → (rest .kind ≡ 0 → ⊥) → cond b (valueAt bag (kindAt bag at)) rest .kind ≡ 0 → ⊥
+      go true later = entry-there bag at e q
+      go false later = later
+
+  found-section : (b : ℕ) {entry : ℕ} → EntryOf bag (byte bag b) (b + 1) entry → pathAt bag entry ≡ path → lookIn values.absent (sectionAt bag b) path .kind ≡ 0 → ⊥
+  unfolding sectionAt
+  found-section b = found-among
+
+  found-base : {p : Sections} {root start entry : ℕ} → SectionOf p root start → EntryOf bag (byte bag start) (start + 1) entry → pathAt bag entry ≡ path
+      → lookIn values.absent (baseOf bag p root) path .kind ≡ 0 → ⊥
+  unfolding baseOf
+  found-base principal = found-section 0
+  found-base {p} resource = found-section (p .resource)
+  found-base {p} env = found-section (p .env)
+
+  told : {root : ℕ} {v : Value} → Under root v → Told bag v
+  told nowhere = absent-told bag
+  told (somewhere {entry = entry} d s m k) = value-told bag (kindAt bag entry)
+
+  -- it stands for what deciding sees
+  bag-means : (root : ℕ) → datumIn bag (lookIn values.absent (bagOf bag root) path) ≡ viewOf bag root path
+  unfolding bagOf lookIn viewIn baseBag datumOf
+  bag-means root = go (sectionsOf bag)
+    where
+      go : (d : Divided) → datumIn bag (lookIn values.absent (divided d λ p. baseOf bag p root) path) ≡ viewIn bag d root path
+      go (In p) = look-means bag (baseOf bag p root) path
+      go Broken = refl
 
 -- ---- what is found, by its kind
 
@@ -126,14 +208,31 @@ means : (bag : List ℕ) (v : Value) → Told bag v → Whole bag v → Means ba
 means bag v t w = go (eqb (v .kind) 0) refl
   where
     go : (b : Bool) → eqb (v .kind) 0 ≡ b → Means bag (foundAs (lookups.said (Found v))) (datumIn bag v)
-    go true q = let k = eqb-true (v .kind) 0 q in absent-means bag (v .kind) (v .number) (v .place) k (t .counted) (t .nowhere k)
+    go true q = let k = eqb-true (v .kind) 0 q in absent-means bag (v .kind) (v .number) (v .place) k (t .counted) (t .nowhere-then k)
     go false q = let e = w (eqb-false (v .kind) 0 q) in by-kind bag (v .kind) (v .number) (v .place) (e .0) (t .counted) (value-at (v .kind) bag (v .place) (e .0) (e .1))
 
 module _ (bag : List ℕ) (root : ℕ) (path : List ℕ) where
   pub looked-rightly : isBag bag ≡ true → Means bag (lookupSays bag root path) (viewOf bag root path)
   unfolding lookupSays
   looked-rightly form =
-      rw (← found bag root path form, ← bag-means bag path root) (means bag (lookIn values.absent (bagOf bag root) path) (bag-told bag path root) (bag-whole bag path root))
+      rw (← found bag root path form, ← bag-means bag path root) (means bag (lookIn values.absent (bagOf bag root) path) (told bag path (under-bag bag path root)) (bag-whole bag path root))
+
+  pub found-rightly : (lookupSays bag root path .kind ≡ 0 → ⊥) → StandsIn bag root path (lookupSays bag root path .kind) (lookupSays bag root path .place)
+  unfolding lookupSays lookupOf
+  found-rightly = go (isBag bag)
+    where
+      v : Value
+      v = lookIn values.absent (bagOf bag root) path
+
+      go : (b : Bool) → (foundAs (lookups.said (cond b (Found v) (Refused 24))) .kind ≡ 0 → ⊥)
+          → StandsIn bag root path (foundAs (lookups.said (cond b (Found v) (Refused 24))) .kind) (foundAs (lookups.said (cond b (Found v) (Refused 24))) .place)
+      go true n = stands-in bag path (under-bag bag path root) n
+      go false n = absurd (n refl)
+
+  pub found-where-it-stands : (kind place : ℕ) → isBag bag ≡ true → StandsIn bag root path kind place → lookupSays bag root path .kind ≡ 0 → ⊥
+  unfolding lookupSays
+  found-where-it-stands kind place form w =
+      rw (← found bag root path form, bag-is-base bag (w .sections) root (w .divided)) (found-base bag path (w .section) (w .among) (w .path-is))
 
   -- ---- a string's bytes
 
@@ -163,6 +262,15 @@ module _ (bag : List ℕ) (root : ℕ) (path : List ℕ) where
           × (startOf (cond b (Found v) (Refused 24)) + lengthOf bag (cond b (Found v) (Refused 24)) ≤ length bag)
       go true form k = rw (← bag-means bag path root, k) (refl, string-inside bag root path v (sym (found bag root path form)) k)
       go false form k = absurd (omega arith)
+
+  pub string-placed : lookupSays bag root path .kind ≡ 1
+      → (stringSays bag root path .start ≡ lookupSays bag root path .place + 1) × (stringSays bag root path .length ≡ byte bag (lookupSays bag root path .place))
+  unfolding lookupSays stringSays startOf lengthOf
+  string-placed = go (lookupOf bag root path)
+    where
+      go : (a : Answer) → foundAs (lookups.said a) .kind ≡ 1 → (startOf a ≡ foundAs (lookups.said a) .place + 1) × (lengthOf bag a ≡ byte bag (foundAs (lookups.said a) .place))
+      go (Found v) k = let e : v .kind ≡ 1 = k in rw e (refl, refl)
+      go (Refused n) k = absurd (omega arith)
 
 pub part-rightly : (bag : RefT (List ℕ)) (root : ℕ) (path : List ℕ) (r : RefT (List ℕ)) → StringAllows bag root path r
     → IsPart bag r (stringSays (now bag) root path .start) (stringSays (now bag) root path .length)

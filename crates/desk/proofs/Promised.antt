@@ -48,21 +48,28 @@ demand-three = record {
   rows-counted = sheets-desk.rows-counted;
   system-rows = sheets-desk.system-rows;
   lists-exactly = sheets.lists-exactly;
+  combination-listed = sheets-desk.combination-listed;
   only-combinations = sheets-desk.only-combinations;
   one-row = sheets.one-row;
   ascends = sheets.ascends;
   first-slowest = sheets.slowest-first;
+  then-the-others = sheets-desk.then-the-others;
   from-start = sheets-desk.from-start;
   page-rightly = sheets-desk.page-rightly;
   pages-joined = sheets-desk.pages-joined;
   goes-on = sheets-desk.goes-on;
+  none-refused = sheets-desk.none-refused;
+  to-the-last = sheets-desk.to-the-last;
   others-stay = sheets-desk.others-stay;
 }
 
 pub look-ups : LookUps
 look-ups = record {
   looked-rightly = look-ups-desk.looked-rightly;
+  found-rightly = look-ups-desk.found-rightly;
+  found-where-it-stands = look-ups-desk.found-where-it-stands;
   string-rightly = look-ups-desk.string-rightly;
+  string-placed = look-ups-desk.string-placed;
   part-rightly = look-ups-desk.part-rightly;
   string-empty = look-ups-desk.string-empty;
   string-none = look-ups-desk.string-none;

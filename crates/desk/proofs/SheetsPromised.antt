@@ -1,15 +1,17 @@
 -- What the desk promises of sheets: the list, its pages, the refusals. Assumes nothing.
 use mathlib.Core.Path.{_≡_, refl, sym, ap, _∙_, subst}
-use mathlib.Core.Logic.{_⊎_, _↔_}
+use mathlib.Core.Logic.{_⊎_, inl, _↔_}
 use mathlib.Core.Bool.{Bool, true, false, cond}
 use mathlib.Core.List.{List, [], _∷_, _++_, List·Memᴰ}
 use Prim.Native.Nat.{ℕ, zero, suc, _+_, _-_, _*_, _≤_, _<_, zero-le}
 use native.Mathlib.Nat.{mul-pos}
+use native.Mathlib.Decide.{decLe}
 use native.Mathlib.Omega.{arith}
 use lib.ListN.{length, getD, take, drop}
-use lib.Seq.{take-at, drop-at, length-take-le}
+use lib.Seq.{take-at}
 use Rattle.tokens.proofs.TokenLaws.{never}
 use Rattle.grammar.specs.Policies.{Policy}
+use Rattle.compiling.specs.Promise.{Begun}
 use Rattle.bags.specs.Reading.{many}
 use Rattle.bags.specs.Sections.{sectionsOf}
 use Rattle.bags.specs.declared.After.the-variants.{At}
@@ -26,15 +28,14 @@ use Rattle.meaning.specs.Decisions.{decisionOf, outcomeOf, policyOf, isAllowed}
 use Rattle.meaning.specs.declared.Decision.{Decision}
 use Rattle.meaning.specs.declared.Decision.the-variants.{Allowed, Forbidden, Nothing, System}
 use Rattle.pages.specs.Rows.{Combination, rowOf, choicesAt, countsOf}
-use Rattle.pages.specs.Listing.{pageRows, nextRow, rowSize, roomIn, bytesOf, over}
+use Rattle.pages.specs.Listing.{pageRows, nextRow, rowSize, roomIn, bytesOf}
 use Rattle.pages.proofs.Listed.{lists-yes}
 use Rattle.pages.proofs.Progress.{bytes-length}
-use Rattle.sheets.specs.Sheets.{decisionBy, decisions, dividedAs, rowsIn, rowsAsked, refusalOf, unless, answerOf, sheetAfter, saidOf, saidTo}
+use Rattle.sheets.specs.Sheets.{decisionBy, decisions, dividedAs, rowsIn, rowsAsked, saidTo}
 use Rattle.sheets.specs.Promise as sheets
-use Rattle.sheets.specs.Promise.{countsAsked, listedFrom, ListedRightly, Called, no-call, call, PagesJoined, GoesOn, OthersStay, NothingChanged, no-room, no-question, above, never-the-system, bad-subject, bad-action, bad-resource, not-compiled, none-wrong}
-use Rattle.sheets.specs.declared.Answer.the-variants.{Listed, Refused}
+use Rattle.sheets.specs.Promise.{countsAsked, listedFrom, ListsExactly, ListedRightly, Called, no-call, call, PagesJoined, GoesOn, OthersStay, NothingChanged, Wellasked, Wellformed, no-room, no-question, above, never-the-system, bad-subject, bad-action, bad-resource, not-compiled, none-wrong}
 use Rattle.sheets.proofs.Promised as sheets-proofs
-use Rattle.desk.specs.Answers.{sheetSays, sheetLeaves, decideSays, viewOfRow, rowsSay}
+use Rattle.desk.specs.Answers.{sheetSays, sheetLeaves, decideSays, viewOfChoices, viewOfRow, rowsSay}
 use Rattle.desk.specs.Promises.{Says, Granted, OutcomeIs, Yes, allowed, system, writtenBy, pageOf, Pages, no-page, page, Shows}
 use Rattle.desk.specs.declared.DeskDecision.{DeskDecision}
 use Rattle.desk.proofs.RequestsPromised.{among, decided-over, outcome-over, yes-over}
@@ -94,6 +95,10 @@ from-start text question q start row =
     let all = lists-yes (decisions text question q) (rowsAsked question) 0 row in
     (λ m. let h = here .0 m in (h .0, all .1 (zero-le, h .1, h .2)), λ h. let k = all .0 (h .1) in here .1 (h .0, k .1, k .2))
 
+pub then-the-others : (n c : ℕ) (ns cs cs′ : List ℕ) → rowOf ns cs < rowOf ns cs′ → rowOf (n ∷ ns) (c ∷ cs) < rowOf (n ∷ ns) (c ∷ cs′)
+unfolding rowOf
+then-the-others n c ns cs cs′ h = omega arith
+
 -- ---- the number of rows
 
 rows-some : (s : List ℕ) (n at e : ℕ) → many n (columnEnd s) at ≡ At e → 0 < rowsOf n s at
@@ -136,12 +141,6 @@ pub pages-joined : (text table question : List ℕ) (q : Request) (start : ℕ) 
     → bytes ≡ bytesOf (decisions text question q) (listedFrom text question q start)
 unfolding PagesJoined
 pages-joined text table question q start bytes p = sheets-proofs.pages-joined text table question q start bytes (called p)
-
--- the refusal's number that is answered
-number-given : (n w o : ℕ) → saidOf (unless n (Listed w o) Refused) .refusal ≡ n
-unfolding saidOf unless
-number-given zero w o = refl
-number-given (suc n) w o = refl
 
 module _ (text table question : List ℕ) (q : Request) (start : ℕ) (sheet : List ℕ) (at : ℕ) where
   pub goes-on : sheetSays text table question q start sheet at .refusal ≡ 0
@@ -187,48 +186,90 @@ module _ (text table question : List ℕ) (q : Request) (start : ℕ) (sheet : L
   unfolding sheetSays NothingChanged
   sheet-zeros n = let z = sheets-proofs.nothing-changed text table question q start sheet at n in (z .1, z .2)
 
+  -- ---- a call that is not refused
+
+  -- whose it is: the system's, or one for which the text says its policies
+  data Heard : Type 0 where
+    of-the-system : Wellasked question start sheet at → isSystem (q .subject) ≡ true → Heard
+    of-another : Wellasked question start sheet at → Wellformed q → Begun text table → Heard
+
+  heard-by : {n : ℕ} → n ≡ 0 → sheets.Refusal text table question q start sheet at n → Heard
+  heard-by z (no-room h) = absurd (omega arith)
+  heard-by z (no-question h e) = absurd (omega arith)
+  heard-by z (above h e l) = absurd (omega arith)
+  heard-by z (never-the-system w e) = of-the-system w e
+  heard-by z (bad-subject w e f) = absurd (omega arith)
+  heard-by z (bad-action w e f g) = absurd (omega arith)
+  heard-by z (bad-resource w e f g h) = absurd (omega arith)
+  heard-by z (not-compiled w f n) = absurd (omega arith)
+  heard-by z (none-wrong w f b) = of-another w f b
+
+  heard : sheetSays text table question q start sheet at .refusal ≡ 0 → Heard
+  heard e = heard-by e (sheet-exactly (sheetSays text table question q start sheet at .refusal) .0 refl)
+
+  well-asked : Heard → Wellasked question start sheet at
+  well-asked (of-the-system w s) = w
+  well-asked (of-another w f b) = w
+
+  -- a call with another start row is not refused either
+  starts-at : (row : ℕ) → Wellasked question row sheet at → Heard → sheets.Refusal text table question q row sheet at 0
+  starts-at row w (of-the-system v s) = never-the-system w s
+  starts-at row w (of-another v f b) = none-wrong w f b
+
+  -- who gets yes over the attributes of a combination
+  yes-there : (choices : List ℕ) → Heard → sheets.yesTo text question q choices ↔ ((isSystem (q .subject) ≡ true) ⊎ Granted text (viewOfChoices question choices) q)
+  unfolding decisionBy decisionOf isAllowed
+  yes-there choices (of-the-system w s) = (λ y. inl s, λ y. rw s)
+  yes-there choices (of-another w f b) = yes-over text (viewOfChoices question choices) q (b .value) (record { short = b .short; belongs = b .belongs })
+
+  pub combination-listed : (choices : List ℕ) → sheetSays text table question q start sheet at .refusal ≡ 0 → Combination (countsAsked question) choices
+      → List·Memᴰ (rowOf (countsAsked question) choices) (listedFrom text question q 0) ↔ ((isSystem (q .subject) ≡ true) ⊎ Granted text (viewOfChoices question choices) q)
+  unfolding ListsExactly
+  combination-listed choices e ok =
+      let h = heard e in
+      let there = sheets-proofs.lists-exactly text question q choices (well-asked h .question) ok in
+      let yes = yes-there choices h in
+      (λ m. yes .0 (there .0 m), λ y. there .1 (yes .1 y))
+
   -- ---- a page
 
-  room-by : {n : ℕ} → n ≡ 0 → sheets.Refusal text table question q start sheet at n → at + rowSize ≤ length sheet
-  room-by z (no-room h) = absurd (omega arith)
-  room-by z (no-question h e) = absurd (omega arith)
-  room-by z (above h e l) = absurd (omega arith)
-  room-by z (never-the-system w e) = w .room
-  room-by z (bad-subject w e f) = absurd (omega arith)
-  room-by z (bad-action w e f g) = absurd (omega arith)
-  room-by z (bad-resource w e f g h) = absurd (omega arith)
-  room-by z (not-compiled w f n) = absurd (omega arith)
-  room-by z (none-wrong w f b) = w .room
+  pub page-rightly : sheetSays text table question q start sheet at .refusal ≡ 0
+      → (sheetSays text table question q start sheet at .written ≡ length (pageOf text question q start sheet at))
+      × (writtenBy text table question q start sheet at ≡ bytesOf (decisions text question q) (pageOf text question q start sheet at))
+      × (sheetSays text table question q start sheet at .next ≡ getD (listedFrom text question q start) (roomIn (drop at sheet)) (rowsAsked question))
+  unfolding sheetSays pageRows nextRow
+  page-rightly e =
+      let w = sheets-proofs.page-written text table question q start sheet at e in
+      let bytes = bytesOf (decisions text question q) (pageOf text question q start sheet at) in
+      let long : length bytes ≡ rowSize * saidTo text table question q start sheet at .written = bytes-length (decisions text question q) _ ∙ ap (λ (n : ℕ). rowSize * n) (sym (w .written)) in
+      (w .written, rw (w .bytes) (take-at bytes (drop (length bytes) (drop at sheet)) (rowSize * saidTo text table question q start sheet at .written) long), w .next)
 
-  module _ (e : sheetSays text table question q start sheet at .refusal ≡ 0) where
-    abbrev rows : List ℕ
-    rows = pageOf text question q start sheet at
+-- ---- to the last page
 
-    none-given : refusalOf text table question q start sheet at ≡ 0
-    unfolding sheetSays answerOf
-    none-given = sym (number-given (refusalOf text table question q start sheet at) _ _) ∙ e
+pub none-refused : (text table question : List ℕ) (q : Request) (start : ℕ) (sheet : List ℕ) (at row : ℕ) → sheetSays text table question q start sheet at .refusal ≡ 0
+    → row ≤ rowsAsked question → sheetSays text table question q row sheet at .refusal ≡ 0
+none-refused text table question q start sheet at row e l =
+    let h = heard text table question q start sheet at e in
+    let w = well-asked text table question q start sheet at h in
+    sheet-exactly text table question q row sheet at 0 .1 (starts-at text table question q start sheet at row (record { room = w .room; question = w .question; within = l }) h)
 
-    written-is : sheetSays text table question q start sheet at .written ≡ length rows
-    unfolding sheetSays answerOf unless saidOf pageRows
-    written-is = rw none-given
+-- so many rows are left at most
+pages-left : (text table question : List ℕ) (q : Request) (sheet : List ℕ) (at left start : ℕ) → rowsAsked question ≤ start + left → start ≤ rowsAsked question
+    → sheetSays text table question q start sheet at .refusal ≡ 0 → (bytes : List ℕ) × Pages text table question q start bytes (rowsAsked question)
+pages-left text table question q sheet at zero start enough within e =
+    let last : start ≡ rowsAsked question = omega arith in
+    ([], rw (← last) no-page)
+pages-left text table question q sheet at (suc left) start enough within e = elim (decLe (rowsAsked question) start) [
+  | yes l ↦ let last : start ≡ rowsAsked question = omega arith in ([], rw (← last) no-page)
+  | no l ↦
+      let next = sheetSays text table question q start sheet at .next in
+      let on = goes-on text table question q start sheet at e in
+      let further : start < next = on .0 (omega arith) in
+      let more = pages-left text table question q sheet at left next (omega arith) (on .1) (none-refused text table question q start sheet at next e (on .1)) in
+      (writtenBy text table question q start sheet at ++ more .0, page sheet at e (more .1))
+]
 
-    next-is : sheetSays text table question q start sheet at .next ≡ getD (listedFrom text question q start) (roomIn (drop at sheet)) (rowsAsked question)
-    unfolding sheetSays answerOf unless saidOf nextRow
-    next-is = rw none-given
-
-    leaves-is : sheetLeaves text table question q start sheet at ≡ take at sheet ++ over (bytesOf (decisions text question q) rows) (drop at sheet)
-    unfolding sheetAfter unless pageRows
-    leaves-is = rw none-given
-
-    bytes-are : writtenBy text table question q start sheet at ≡ bytesOf (decisions text question q) rows
-    bytes-are =
-        let bytes = bytesOf (decisions text question q) rows in
-        let room = room-by e (sheet-exactly (sheetSays text table question q start sheet at .refusal) .0 refl) in
-        let front : length (take at sheet) ≡ at = length-take-le at sheet (omega arith) in
-        let long : length bytes ≡ rowSize * sheetSays text table question q start sheet at .written = bytes-length (decisions text question q) rows ∙ ap (λ (n : ℕ). rowSize * n) (sym written-is) in
-        rw (leaves-is, drop-at (take at sheet) (over bytes (drop at sheet)) at front) (take-at bytes (drop (length bytes) (drop at sheet)) (rowSize * sheetSays text table question q start sheet at .written) long)
-
-    pub page-rightly : (sheetSays text table question q start sheet at .written ≡ length (pageOf text question q start sheet at))
-        × (writtenBy text table question q start sheet at ≡ bytesOf (decisions text question q) (pageOf text question q start sheet at))
-        × (sheetSays text table question q start sheet at .next ≡ getD (listedFrom text question q start) (roomIn (drop at sheet)) (rowsAsked question))
-    page-rightly = (written-is, bytes-are, next-is)
+pub to-the-last : (text table question : List ℕ) (q : Request) (start : ℕ) (sheet : List ℕ) (at : ℕ) → sheetSays text table question q start sheet at .refusal ≡ 0
+    → (bytes : List ℕ) × Pages text table question q start bytes (rowsAsked question)
+to-the-last text table question q start sheet at e =
+    pages-left text table question q sheet at (rowsAsked question) start (omega arith) (well-asked text table question q start sheet at (heard text table question q start sheet at e) .within) e

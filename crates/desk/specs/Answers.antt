@@ -20,47 +20,59 @@ use Rattle.desk.specs.declared.DeskPage.{DeskPage}
 
 -- ---- compile(text, table)
 
+-- the refusal with its place, or the policies and bytes used
 abbrev pub compiledAs : compiling.Said → DeskCompiled
 compiledAs s = record { refusal = s .refusal; line = s .line; column = s .column; policies = s .policies; bytes = s .bytes }
 
+-- what is answered
 unfoldable pub compileSays : List ℕ → List ℕ → DeskCompiled
 compileSays text table = compiledAs (compiling.saidOf (compiling.compiledOf text (length table)))
 
+-- the table afterwards
 abbrev pub compileLeaves : List ℕ → List ℕ → List ℕ
 compileLeaves text table = compiling.tableAfter text table
 
 -- ---- begins(text, table)
 
+-- whether the text compiles and the table begins with its compiled bytes
 abbrev pub beginsSays : List ℕ → List ℕ → Bool
 beginsSays text table = compiling.beginsOf text table
 
 -- ---- decide(text, table, bag, subject, action, resource)
 
+-- the refusal, or the outcome and the policy
 abbrev pub decidedAs : deciding.Said → DeskDecision
 decidedAs s = record { refusal = s .refusal; outcome = s .outcome; policy = s .policy }
 
+-- what is answered
 unfoldable pub decideSays : List ℕ → List ℕ → List ℕ → Request → DeskDecision
 decideSays text table bag q = decidedAs (deciding.saidOf (deciding.answerOf text table bag q))
 
 -- ---- lookup(bag, root, path), string(bag, root, path)
 
+-- the refusal, or the kind, the number and the place
 abbrev pub foundAs : lookups.Said → DeskValue
 foundAs s = record { refusal = s .refusal; kind = s .kind; number = s .number; place = s .place }
 
+-- what the look-up answers
 unfoldable pub lookupSays : List ℕ → ℕ → List ℕ → DeskValue
 lookupSays bag root path = foundAs (lookups.said (lookups.lookupOf bag root path))
 
+-- where a string's bytes start, and how many they are; zeros for anything else
 unfoldable pub stringSays : List ℕ → ℕ → List ℕ → DeskString
 stringSays bag root path = record { start = lookups.startOf (lookups.lookupOf bag root path); length = lookups.lengthOf bag (lookups.lookupOf bag root path) }
 
 -- ---- sheet(text, table, question, subject, action, resource, start, sheet, at)
 
+-- the refusal, or the rows written and the row to go on with
 abbrev pub listedAs : sheets.Said → DeskPage
 listedAs s = record { refusal = s .refusal; written = s .written; next = s .next }
 
+-- what is answered
 unfoldable pub sheetSays : List ℕ → List ℕ → List ℕ → Request → ℕ → List ℕ → ℕ → DeskPage
 sheetSays text table question q start sheet at = listedAs (sheets.saidTo text table question q start sheet at)
 
+-- the sheet afterwards
 abbrev pub sheetLeaves : List ℕ → List ℕ → List ℕ → Request → ℕ → List ℕ → ℕ → List ℕ
 sheetLeaves text table question q start sheet at = sheets.sheetAfter text table question q start sheet at
 
@@ -71,7 +83,11 @@ rowsSay question = cond (isQuestion question) (sheets.rowsAsked question) 0
 
 -- ---- what the promises speak of
 
--- the attributes of a row: the base with each column's attribute set to its choice or removed
+-- the attributes where the columns have these choices: the base with each column's attribute set to its choice or removed
+abbrev pub viewOfChoices : List ℕ → List ℕ → View
+viewOfChoices question choices =
+    look (bagOfRow question (sheets.sectionsIn question) (sheets.columnsIn question (sheets.sectionsIn question)) (sheets.firstIn (sheets.sectionsIn question)) choices)
+
+-- the attributes of a row
 abbrev pub viewOfRow : List ℕ → ℕ → View
-viewOfRow question row = look (bagOfRow question (sheets.sectionsIn question) (sheets.columnsIn question (sheets.sectionsIn question)) (sheets.firstIn (sheets.sectionsIn question))
-    (choicesAt (sheets.countsIn question (sheets.sectionsIn question)) row))
+viewOfRow question row = viewOfChoices question (choicesAt (sheets.countsIn question (sheets.sectionsIn question)) row)

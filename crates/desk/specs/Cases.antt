@@ -24,6 +24,7 @@ blank (suc n) = 0 ∷ blank n
 abbrev pub compiled : List ℕ → DeskCompiled
 compiled text = compileSays text (blank (8 * length text))
 
+-- a refusal with its line and column
 abbrev pub refusedAt : ℕ → ℕ → ℕ → DeskCompiled
 refusedAt number line column = record { refusal = number; line = line; column = column; policies = 0; bytes = 0 }
 
@@ -42,6 +43,7 @@ K7 = record { subject = bytes "person:K7"; action = bytes "teach"; resource = by
 abbrev pub decided : List ℕ → DeskDecision
 decided text = decideSays text (bytesFor text) (0 ∷ 0 ∷ 0 ∷ []) K7
 
+-- an outcome with its policy
 abbrev pub outcome : ℕ → ℕ → DeskDecision
 outcome number policy = record { refusal = 0; outcome = number; policy = policy }
 
@@ -52,6 +54,7 @@ Holds condition = decided (P-when condition) ≡ outcome 1 1
 abbrev pub Fails : String → Type 0
 Fails condition = decided (P-when condition) ≡ outcome 3 0
 
+-- document 01's table, row by row
 pub record CasesAtoL : Type 0 where
   pub A : (compiled [] .refusal ≡ 0) × (compiled [] .policies ≡ 0)
   pub B : (compiled (P ++ bytes ";") .refusal ≡ 0) × (compiled (P ++ bytes ";") .policies ≡ 1)
@@ -68,6 +71,7 @@ pub record CasesAtoL : Type 0 where
 
 -- ---- the worked example: document 01's two policies, and the request person:K7, teach, shaft:A
 
+-- the policies
 abbrev pub rules : List ℕ
 rules =
     bytes "permit(principal is person, action, resource is shaft)\n  when { principal.grade >= 3 };\n"
@@ -84,6 +88,7 @@ question =
 abbrev pub gradeThree : List ℕ
 gradeThree = (1 ∷ 5 ∷ []) ++ bytes "grade" ++ (2 ∷ 0 ∷ 0 ∷ 0 ∷ 0 ∷ 0 ∷ 0 ∷ 8 ∷ 64 ∷ 0 ∷ 0 ∷ [])
 
+-- what document 01 prints, by the sheet's answer and bytes
 pub record WorkedExample : Type 0 where
   -- rows 9; 3 1 1; 4 1 1; allowed 2
   pub rows : (isQuestion question ≡ true) × (rowsAsked question ≡ 9)

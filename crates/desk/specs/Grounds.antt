@@ -46,6 +46,7 @@ pub record Held (question : List ℕ) (p : Sections) (choices heads : List ℕ) 
   pub grid-is : (i j : ℕ) → i < 6 → j < 8 → getD (getD grid i []) j 0 ≡ cell question (firstIn p) (columnsIn question p) i j
   pub values-are : (i : ℕ) → i < 6 → getD values i 0 ≡ cond (ltb i (columnsIn question p)) (getD (getD grid i []) (getD choices i 0) 0) 0
 
+-- the theorems, each after document 01's words
 pub record Grounds : Type 0 where
   -- The longest possible token is read, and at each place of a text stands one token, or one refusal.
   pub longest-token : (text : List ℕ) (at : ℕ) → at ≤ length text → StandsAt text at (tokenAt text at)

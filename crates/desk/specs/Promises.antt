@@ -5,7 +5,7 @@ use mathlib.Core.Path.{_≡_}
 use mathlib.Core.Logic.{_⊎_, _↔_}
 use mathlib.Core.Bool.{Bool, true, false}
 use mathlib.Core.List.{List, [], _∷_, _++_, List·Memᴰ}
-use Prim.Native.Nat.{ℕ, _+_, _*_, _≤_, _<_}
+use Prim.Native.Nat.{ℕ, suc, _+_, _*_, _≤_, _<_}
 use lib.ListN.{length, getD, take, drop}
 use denote.Ref.{RefT, now}
 use Rattle.slices.specs.Parts.{IsPart, part}
@@ -15,7 +15,11 @@ use Rattle.grammar.specs.Policies.{Policy}
 use Rattle.grammar.specs.Grammar.{RuleText, sizes}
 use Rattle.compiling.specs.Outcome.{mostBytes, roomFor, compiledBytes}
 use Rattle.compiling.specs.Promise.{RefusedThere, Begun}
-use Rattle.bags.specs.Sections.{isBag}
+use Rattle.bags.specs.Reading.{byte}
+use Rattle.bags.specs.Sections.{pathAt, kindAt, entryEnd, sectionsOf, isBag}
+use Rattle.bags.specs.declared.After.the-variants.{At}
+use Rattle.bags.specs.declared.sections.Sections.{Sections}
+use Rattle.bags.specs.declared.sections.Divided.the-variants.{In}
 use Rattle.questions.specs.Questions.{isQuestion, product}
 use Rattle.views.specs.Meaning as views
 use Rattle.views.specs.Meaning.{View, Datum}
@@ -31,7 +35,7 @@ use Rattle.pages.specs.Listing.{rowSize, roomIn, bytesOf}
 use Rattle.sheets.specs.Sheets.{decisions, rowsAsked}
 use Rattle.sheets.specs.Promise as sheets
 use Rattle.sheets.specs.Promise.{countsAsked, yesTo, listedFrom}
-use Rattle.desk.specs.Answers.{compileSays, compileLeaves, beginsSays, decideSays, lookupSays, sheetSays, sheetLeaves, viewOfRow, stringSays, rowsSay}
+use Rattle.desk.specs.Answers.{compileSays, compileLeaves, beginsSays, decideSays, lookupSays, sheetSays, sheetLeaves, viewOfChoices, viewOfRow, stringSays, rowsSay}
 use Rattle.desk.specs.declared.DeskCompiled.{DeskCompiled}
 use Rattle.desk.specs.declared.DeskDecision.{DeskDecision}
 use Rattle.desk.specs.declared.DeskValue.{DeskValue}
@@ -63,6 +67,7 @@ pub record Says (text : List ℕ) (ps : List Policy) : Type 0 where
   pub short : length text ≤ mostBytes
   pub belongs : RuleText sizes (tokensOf text) ps
 
+-- the text is a rule text within the limits
 pub record Belongs (text : List ℕ) : Type 0 where
   pub policies : List Policy
   pub says : Says text policies
@@ -156,6 +161,10 @@ pub record DemandThree : Type 0 where
   -- every combination that gets yes, and no other
   pub lists-exactly : (text question : List ℕ) (q : Request) (choices : List ℕ) → isQuestion question ≡ true → Combination (countsAsked question) choices
       → List·Memᴰ (rowOf (countsAsked question) choices) (listedFrom text question q 0) ↔ yesTo text question q choices
+  -- so of any call that is accepted: the list has the combination exactly if the subject is the system, or over its attributes some permit is satisfied and no forbid is
+  pub combination-listed : (text table question : List ℕ) (q : Request) (start : ℕ) (sheet : List ℕ) (at : ℕ) (choices : List ℕ) → sheetSays text table question q start sheet at .refusal ≡ 0
+      → Combination (countsAsked question) choices
+      → List·Memᴰ (rowOf (countsAsked question) choices) (listedFrom text question q 0) ↔ ((isSystem (q .subject) ≡ true) ⊎ Granted text (viewOfChoices question choices) q)
   pub only-combinations : (text question : List ℕ) (q : Request) (row : ℕ) → isQuestion question ≡ true → List·Memᴰ row (listedFrom text question q 0)
       → Combination (countsAsked question) (choicesAt (countsAsked question) row) × (rowOf (countsAsked question) (choicesAt (countsAsked question) row) ≡ row)
   -- each exactly once: a combination has a row of its own, and the rows ascend
@@ -165,6 +174,8 @@ pub record DemandThree : Type 0 where
       → getD (listedFrom text question q start) i 0 < getD (listedFrom text question q start) j 0
   -- first column slowest
   pub first-slowest : (n c c′ : ℕ) (ns cs cs′ : List ℕ) → Combination ns cs → c < c′ → rowOf (n ∷ ns) (c ∷ cs) < rowOf (n ∷ ns) (c′ ∷ cs′)
+  -- and where its choices are the same, the other columns order the rows among themselves
+  pub then-the-others : (n c : ℕ) (ns cs cs′ : List ℕ) → rowOf ns cs < rowOf ns cs′ → rowOf (n ∷ ns) (c ∷ cs) < rowOf (n ∷ ns) (c ∷ cs′)
   -- from a start row on: the rows of the list that are not before it
   pub from-start : (text question : List ℕ) (q : Request) (start row : ℕ) → List·Memᴰ row (listedFrom text question q start) ↔ ((start ≤ row) × List·Memᴰ row (listedFrom text question q 0))
   -- a page has as many of them as fit, their bytes from the named byte on, and as next the first that is not on it, else the number of rows
@@ -175,9 +186,13 @@ pub record DemandThree : Type 0 where
   -- the joined pages, from row 0 or any other to the last, are the list's bytes from there: row, outcome and policy of each
   pub pages-joined : (text table question : List ℕ) (q : Request) (start : ℕ) (bytes : List ℕ) → Pages text table question q start bytes (rowsAsked question)
       → bytes ≡ bytesOf (decisions text question q) (listedFrom text question q start)
-  -- whoever follows the pages gets to the last row
+  -- whoever follows the pages gets on, is refused no page, and gets to the last row
   pub goes-on : (text table question : List ℕ) (q : Request) (start : ℕ) (sheet : List ℕ) (at : ℕ) → sheetSays text table question q start sheet at .refusal ≡ 0
       → (start < rowsAsked question → start < sheetSays text table question q start sheet at .next) × (sheetSays text table question q start sheet at .next ≤ rowsAsked question)
+  pub none-refused : (text table question : List ℕ) (q : Request) (start : ℕ) (sheet : List ℕ) (at row : ℕ) → sheetSays text table question q start sheet at .refusal ≡ 0
+      → row ≤ rowsAsked question → sheetSays text table question q row sheet at .refusal ≡ 0
+  pub to-the-last : (text table question : List ℕ) (q : Request) (start : ℕ) (sheet : List ℕ) (at : ℕ) → sheetSays text table question q start sheet at .refusal ≡ 0
+      → (bytes : List ℕ) × Pages text table question q start bytes (rowsAsked question)
   -- all other bytes of the sheet stay
   pub others-stay : (text table question : List ℕ) (q : Request) (start : ℕ) (sheet : List ℕ) (at : ℕ) → sheetSays text table question q start sheet at .refusal ≡ 0
       → (take at (sheetLeaves text table question q start sheet at) ≡ take at sheet)
@@ -195,16 +210,47 @@ pub data Means (bag : List ℕ) (found : DeskValue) : Datum → Type 0 where
   a-list : found .kind ≡ 4 → found .number ≡ nought → Means bag found (views.texts (listAt bag (found .place)))
   none-found : found .kind ≡ 0 → found .number ≡ nought → found .place ≡ 0 → Means bag found views.absent
 
+-- where the section of a root byte starts, by its count byte: 1 principal, 2 resource, 3 env
+pub data SectionOf (p : Sections) : ℕ → ℕ → Type 0 where
+  principal : SectionOf p 1 0
+  resource : SectionOf p 2 (p .resource)
+  env : SectionOf p 3 (p .env)
+
+-- of n entries from a place on, one starts at the other place
+pub data EntryOf (bag : List ℕ) : ℕ → ℕ → ℕ → Type 0 where
+  the-first : {n at next : ℕ} → entryEnd bag at ≡ At next → EntryOf bag (suc n) at at
+  a-later : {n at next entry : ℕ} → entryEnd bag at ≡ At next → EntryOf bag n next entry → EntryOf bag (suc n) at entry
+
+-- an entry with exactly this path stands in the section of this root; its kind, and the place of the byte after its kind byte
+pub record StandsIn (bag : List ℕ) (root : ℕ) (path : List ℕ) (kind place : ℕ) : Type 0 where
+  pub sections : Sections
+  pub divided : sectionsOf bag ≡ In sections
+  pub start : ℕ
+  pub section : SectionOf sections root start
+  pub entry : ℕ
+  pub among : EntryOf bag (byte bag start) (start + 1) entry
+  pub path-is : pathAt bag entry ≡ path
+  pub kind-is : kind ≡ byte bag (kindAt bag entry)
+  pub place-is : place ≡ kindAt bag entry + 1
+
 -- what the contract of `string_part` allows: a string's bytes as a part of the caller's bag
 abbrev pub StringAllows : RefT (List ℕ) → ℕ → List ℕ → RefT (List ℕ) → Type 0
 StringAllows bag root path r = IsPart bag r (startOf (lookupOf (now bag) root path)) (lengthOf (now bag) (lookupOf (now bag) root path))
 
+-- what is found, where it stands, and where a string's bytes are
 pub record LookUps : Type 0 where
+  -- it is what deciding sees
   pub looked-rightly : (bag : List ℕ) (root : ℕ) (path : List ℕ) → isBag bag ≡ true → Means bag (lookupSays bag root path) (viewOf bag root path)
-  -- a string's bytes are the part of the bag that is told
+  -- an attribute is found, with its kind and its place, exactly where an entry with its path stands in its root's section
+  pub found-rightly : (bag : List ℕ) (root : ℕ) (path : List ℕ) → (lookupSays bag root path .kind ≡ 0 → ⊥)
+      → StandsIn bag root path (lookupSays bag root path .kind) (lookupSays bag root path .place)
+  pub found-where-it-stands : (bag : List ℕ) (root : ℕ) (path : List ℕ) (kind place : ℕ) → isBag bag ≡ true → StandsIn bag root path kind place → lookupSays bag root path .kind ≡ 0 → ⊥
+  -- a string's bytes are the part of the bag that is told, behind the length byte at its place
   pub string-rightly : (bag : List ℕ) (root : ℕ) (path : List ℕ) → lookupSays bag root path .kind ≡ 1
       → (viewOf bag root path ≡ views.text (part bag (stringSays bag root path .start) (stringSays bag root path .length)))
       × (stringSays bag root path .start + stringSays bag root path .length ≤ length bag)
+  pub string-placed : (bag : List ℕ) (root : ℕ) (path : List ℕ) → lookupSays bag root path .kind ≡ 1
+      → (stringSays bag root path .start ≡ lookupSays bag root path .place + 1) × (stringSays bag root path .length ≡ byte bag (lookupSays bag root path .place))
   -- `string_part` gives that part itself
   pub part-rightly : (bag : RefT (List ℕ)) (root : ℕ) (path : List ℕ) (r : RefT (List ℕ)) → StringAllows bag root path r
       → IsPart bag r (stringSays (now bag) root path .start) (stringSays (now bag) root path .length)
@@ -214,6 +260,7 @@ pub record LookUps : Type 0 where
 
 -- ---- Refusals. Each is given exactly when document 01 says, in its order, with zeros beside its number.
 
+-- when each number is given, and what stands beside it
 pub record Refusals : Type 0 where
   pub too-long : (text table : List ℕ) → (compileSays text table .refusal ≡ 1) ↔ (mostBytes < length text)
   pub no-room : (text table : List ℕ) → (compileSays text table .refusal ≡ 2) ↔ ((length text ≤ mostBytes) × (length table < roomFor text))
@@ -237,14 +284,17 @@ pub record Refusals : Type 0 where
 
 -- ---- One result. What a call's contract allows, for each call; any two allowed results coincide, refusals included, and so do what they leave.
 
+-- what the contract of compiling allows: the answer, and the table afterwards
 pub record CompileAllows (text before after : List ℕ) (r : DeskCompiled) : Type 0 where
   pub answered : r ≡ compileSays text before
   pub table : after ≡ compileLeaves text before
 
+-- what the contract of the sheet allows: the answer, and the sheet afterwards
 pub record SheetAllows (text table question : List ℕ) (q : Request) (start : ℕ) (before : List ℕ) (at : ℕ) (after : List ℕ) (r : DeskPage) : Type 0 where
   pub answered : r ≡ sheetSays text table question q start before at
   pub sheet : after ≡ sheetLeaves text table question q start before at
 
+-- two results that a contract allows are the same
 pub record OneResult : Type 0 where
   pub of-compile : (text before after after′ : List ℕ) (r r′ : DeskCompiled) → CompileAllows text before after r → CompileAllows text before after′ r′ → (r ≡ r′) × (after ≡ after′)
   pub of-begins : (text table : List ℕ) (r r′ : Bool) → r ≡ beginsSays text table → r′ ≡ beginsSays text table → r ≡ r′

@@ -10,6 +10,7 @@ use lib.ListN.{length, getD, set, replicate, length-set, length-replicate, getD-
 use lib.Seq.{getD-set-same, getD-set-other}
 use Rattle.grammar.specs.Policies.{Policy}
 use Rattle.bags.specs.declared.sections.Sections.{Sections}
+use Rattle.questions.specs.Questions.{cell}
 use Rattle.questions.proofs.PlaceLaws.{set-cases}
 use Rattle.views.specs.Rows.{rowView}
 use Rattle.meaning.specs.Targets.{Request}
@@ -22,18 +23,18 @@ use Rattle.marks.proofs.Numbering.{numbered-one}
 
 module _ (t s : List ℕ) (n : ℕ) (heads : List ℕ) (ps : List Policy) (buts : List ℕ) where
   -- the depths of the policies above a number are right
-  pub record Found (number : ℕ) (lows : List ℕ) : Type 0 where
-    pub long : length lows ≡ 64
-    pub few : (i : ℕ) → getD lows i 0 ≤ 6
-    pub steady : (m : ℕ) (policy : Policy) → Numbered m policy ps → number < m → Steady t s n heads policy (ownOf buts m) (getD lows (m - 1) 0)
+  pub record Found (number : ℕ) (others : List ℕ) : Type 0 where
+    pub long : length others ≡ 64
+    pub few : (i : ℕ) → getD others i 0 ≤ 6
+    pub steady : (m : ℕ) (policy : Policy) → Numbered m policy ps → number < m → Steady t s n heads policy (ownOf buts m) (getD others (m - 1) 0)
 
-  pub found-more : (number : ℕ) (lows : List ℕ) (policy : Policy) (low : ℕ) → 1 ≤ number → number ≤ 64 → Numbered number policy ps → low ≤ 6
-      → Steady t s n heads policy (ownOf buts number) low → Found number lows → Found (number - 1) (set lows (number - 1) low)
-  found-more number lows policy low some few here small st f = record {
-    long = length-set lows (number - 1) low ∙ f .long;
-    few = λ i. set-cases lows (number - 1) low 0 fits (λ x. x ≤ 6) i (λ e. small) (λ d. f .few i);
+  pub found-more : (number : ℕ) (others : List ℕ) (policy : Policy) (low : ℕ) → 1 ≤ number → number ≤ 64 → Numbered number policy ps → low ≤ 6
+      → Steady t s n heads policy (ownOf buts number) low → Found number others → Found (number - 1) (set others (number - 1) low)
+  found-more number others policy low some few here small st f = record {
+    long = length-set others (number - 1) low ∙ f .long;
+    few = λ i. set-cases others (number - 1) low 0 fits (λ x. x ≤ 6) i (λ e. small) (λ d. f .few i);
     steady = λ m policy′ h l.
-        set-cases lows (number - 1) low 0 fits (λ x. Steady t s n heads policy′ (ownOf buts m) x) (m - 1)
+        set-cases others (number - 1) low 0 fits (λ x. Steady t s n heads policy′ (ownOf buts m) x) (m - 1)
         (λ e.
         let k : m ≡ number = let z = numbered-some h in omega arith in
         let same : policy ≡ policy′ = numbered-one here (subst (λ (k : ℕ). Numbered k policy′ ps) k h) in
@@ -41,7 +42,7 @@ module _ (t s : List ℕ) (n : ℕ) (heads : List ℕ) (ps : List Policy) (buts 
         (λ d. f .steady m policy′ h (let k : m ≡ number → ⊥ = λ e. d (ap (λ (x : ℕ). x - 1) e) in omega arith));
   }
     where
-      fits : number - 1 < length lows
+      fits : number - 1 < length others
       fits = let e = f .long in omega arith
 
 -- a list of zeros has no other number
@@ -136,16 +137,16 @@ set-own [] i v e = refl
 set-own (x ∷ l) zero v e = rw e
 set-own (x ∷ l) (suc i) v e = rw (set-own l i v e)
 
-module _ (t s : List ℕ) (p : Sections) (n : ℕ) (heads : List ℕ) (grid : List (List ℕ)) (q : Request) where
+module _ (t s : List ℕ) (p : Sections) (n : ℕ) (heads : List ℕ) (q : Request) where
   -- in the row's own choice
-  pub sat-here : (choices values : List ℕ) (column : ℕ) (policy : Policy) → column < 6 → Chosen grid choices values
-      → satBy t s p n heads grid q values column policy (getD choices column 0) ≡ satisfied t (rowView s p n heads values) q policy
+  pub sat-here : (choices values : List ℕ) (column : ℕ) (policy : Policy) → column < 6 → Chosen s p n choices values
+      → satBy t s p n heads q values column policy (getD choices column 0) ≡ satisfied t (rowView s p n heads values) q policy
   unfolding satBy
-  sat-here choices values column policy h c = rw (set-own values column _ (sym (c .picked .picked column h)))
+  sat-here choices values column policy h c = rw (set-own values column _ (sym (c .picked column h)))
 
   -- in two rows that choose alike
   sat-alike : (before values : List ℕ) (column low from : ℕ) (policy : Policy) → length before ≡ 6 → length values ≡ 6 → column < 6 → Steady t s n heads policy column low → low ≤ from
-      → Alike from before values → (c : ℕ) → satBy t s p n heads grid q before column policy c ≡ satBy t s p n heads grid q values column policy c
+      → Alike from before values → (c : ℕ) → satBy t s p n heads q before column policy c ≡ satBy t s p n heads q values column policy c
   unfolding satBy
   sat-alike before values column low from policy six six′ small st h a c =
       st .same p q (set before column v) (set values column v)
@@ -153,34 +154,34 @@ module _ (t s : List ℕ) (p : Sections) (n : ℕ) (heads : List ℕ) (grid : Li
       (getD-set-same before column v 0 (omega arith) ∙ sym (getD-set-same values column v 0 (omega arith)))
     where
       v : ℕ
-      v = getD (getD grid column []) c 0
+      v = cell s (p .end + 1) n column c
 
       go : (j : ℕ) → j < low → (b : Bool) → eqb j column ≡ b → getD (set before column v) j 0 ≡ getD (set values column v) j 0
       go j l true e = rw (eqb-true j column e) (getD-set-same before column v 0 (omega arith) ∙ sym (getD-set-same values column v 0 (omega arith)))
       go j l false e =
           getD-set-other before column j v 0 (eqb-false j column e) ∙ a .alike j (omega arith) ∙ sym (getD-set-other values column j v 0 (eqb-false j column e))
 
-  module _ (ps : List Policy) (deeps values : List ℕ) (from number : ℕ) (policy : Policy) (some : 1 ≤ number) (here : Numbered number policy ps) where
+  module _ (ps : List Policy) (owns values : List ℕ) (from number : ℕ) (policy : Policy) (some : 1 ≤ number) (here : Numbered number policy ps) where
     abbrev own : ℕ
-    own = ownOf deeps number
+    own = ownOf owns number
 
     -- a mark that is not stale holds for the row
-    pub mark-holds : (lows : List ℕ) (marks : List ℕ) → length values ≡ 6 → own < 6 → Depths t s n heads ps deeps lows → Carried t s p n heads grid q ps deeps values from number marks
-        → ltb from (getD lows (number - 1) 0) ≡ false → RowSays marks (number - 1) (satBy t s p n heads grid q values own policy)
-    mark-holds lows marks six small d k fresh =
+    pub mark-holds : (others : List ℕ) (marks : List ℕ) → length values ≡ 6 → own < 6 → Depths t s n heads ps owns others → Carried t s p n heads q ps owns values from number marks
+        → ltb from (getD others (number - 1) 0) ≡ false → RowSays marks (number - 1) (satBy t s p n heads q values own policy)
+    mark-holds others marks six small d k fresh =
         let r = k .marked .right number policy here (omega arith) (omega arith) in
         record {
           says = λ c h.
               subst (Says (getD marks (8 * (number - 1) + c) 0))
-              (sat-alike (k .before) values own (getD lows (number - 1) 0) from policy (k .six) six small (d .steady number policy here) (ltb-false from (getD lows (number - 1) 0) fresh) (k .alike) c) (r .says c h);
+              (sat-alike (k .before) values own (getD others (number - 1) 0) from policy (k .six) six small (d .steady number policy here) (ltb-false from (getD others (number - 1) 0) fresh) (k .alike) c) (r .says c h);
         }
 
-    module _ {choice : ℕ} {marks after : List ℕ} {r : Bool} (met : Met (satBy t s p n heads grid q values own policy) (number - 1) choice marks r after) where
+    module _ {choice : ℕ} {marks after : List ℕ} {r : Bool} (met : Met (satBy t s p n heads q values own policy) (number - 1) choice marks r after) where
       kept : (m : ℕ) → 0 < m → (m ≡ number → ⊥) → (sat : ℕ → Bool) → RowSays marks (m - 1) sat → RowSays after (m - 1) sat
       kept m l d sat old = rows-kept (λ c h. met .others (m - 1) c (λ e. d (omega arith)) h) old
 
       -- the marks of the policies left, and of those met
-      pub left-carried : Carried t s p n heads grid q ps deeps values from number marks → Carried t s p n heads grid q ps deeps values from (number - 1) after
+      pub left-carried : Carried t s p n heads q ps owns values from number marks → Carried t s p n heads q ps owns values from (number - 1) after
       left-carried k = record {
         before = k .before;
         six = k .six;
@@ -189,11 +190,11 @@ module _ (t s : List ℕ) (p : Sections) (n : ℕ) (heads : List ℕ) (grid : Li
         long = met .long;
       }
 
-      pub met-right : (high : ℕ) → Marked t s p n heads grid q ps deeps values number high marks → Marked t s p n heads grid q ps deeps values (number - 1) high after
+      pub met-right : (high : ℕ) → Marked t s p n heads q ps owns values number high marks → Marked t s p n heads q ps owns values (number - 1) high after
       met-right high k = record { right = λ m policy′ h l u. go m policy′ h l u (eqb m number) refl }
         where
           go : (m : ℕ) (policy′ : Policy) → Numbered m policy′ ps → number - 1 < m → m ≤ high → (b : Bool) → eqb m number ≡ b
-              → RowSays after (m - 1) (satBy t s p n heads grid q values (ownOf deeps m) policy′)
+              → RowSays after (m - 1) (satBy t s p n heads q values (ownOf owns m) policy′)
           go m policy′ h l u true e =
               let is : m ≡ number = eqb-true m number e in
               let same : policy ≡ policy′ = numbered-one here (subst (λ (k : ℕ). Numbered k policy′ ps) is h) in

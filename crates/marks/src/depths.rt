@@ -12,6 +12,7 @@ use table::Entry;
 use table::entry_at;
 use views::names;
 
+// The root byte of an entry's kind: attributes have kinds 1 to 4, those of `has` 5 to 8.
 fn root_by(kind: u8) -> u8
     ensures { λ r. ⌜ r ≡ rootBy kind ⌝ }
 {
@@ -36,7 +37,7 @@ fn column_naming(s: &[u8], n: usize, heads: &[usize; 6], root: u8, path: &[u8]) 
     0
 }
 
-// The column that an entry names.
+// The column that an entry names: only entries of a kind up to 8 have a path.
 fn column_of(text: &[u8], x: Entry, s: &[u8], n: usize, heads: &[usize; 6]) -> u8
     requires { ⌜ Counted (now s) n (now heads) ⌝ }
     ensures { λ r. ⌜ r ≡ columnOf (now (text .entry)) (now (s .entry)) n (now (heads .entry)) x ⌝ }
@@ -50,6 +51,7 @@ fn column_of(text: &[u8], x: Entry, s: &[u8], n: usize, heads: &[usize; 6]) -> u
     0
 }
 
+// The larger of two columns, where the second is not the column `but`.
 fn deeper_of(but: u8, a: u8, k: u8) -> u8
     ensures { λ r. ⌜ r ≡ deeper but a k ⌝ }
 {

@@ -38,12 +38,14 @@ fn forget(stale: bool, marks: &mut [u8; 512], at: usize)
     }
 }
 
-fn own_column(deep: u8) -> usize
-    ensures { λ r. ⌜ r ≡ deep - 1 ⌝ }
+// A policy's own column, from 0 on; 0 also where it names none.
+fn own_column(own: u8) -> usize
+    ensures { λ r. ⌜ r ≡ own - 1 ⌝ }
 {
-    if deep == 0 { 0 } else { (deep - 1) as usize }
+    if own == 0 { 0 } else { (own - 1) as usize }
 }
 
+// The mark that says yes, and the one that says no.
 fn mark_of(hit: bool) -> u8
     ensures { λ r. ⌜ r ≡ cond hit 2 1 ⌝ }
 {
@@ -110,13 +112,12 @@ fn met<'a>(
 }
 
 // What the policies decide whose entries end before number `entries`, in the row. The marks are those of a row that chooses alike in the columns before
-// number `from`, and are then this row's. `grid`, the places of all candidates, is there for the contract alone.
+// number `from`, and are then this row's. `owns` has the last column that each policy's condition names, its own, from 1 on, and `others` the last but that.
 pub fn decision_from<'a>(
     from: usize,
-    deeps: &[u8; 64],
-    lows: &[u8; 64],
+    owns: &[u8; 64],
+    others: &[u8; 64],
     marks: &mut [u8; 512],
-    grid: &[[usize; 8]; 6],
     choices: &[u8; 6],
     text: &'a [u8],
     table: &[u8],
@@ -139,13 +140,13 @@ pub fn decision_from<'a>(
     requires { ⌜ «subject_type» ≡ typeIn principalTypes (now subject) ⌝ }
     requires { ⌜ «resource_type» ≡ typeIn resourceTypes (now resource) ⌝ }
     requires { ⌜ policies ≤ 64 ⌝ }
-    requires { ⌜ ((i : ℕ) → getD (now deeps) i 0 ≤ 6) ⌝ }
-    requires { ⌜ Depths (now text) (now s) n (now heads) (policiesAt (now table) entries) (now deeps) (now lows) ⌝ }
-    requires { ⌜ Chosen (now grid) (now choices) (now values) ⌝ }
-    requires { ⌜ Carried (now text) (now s) p n (now heads) (now grid) (request (now subject) (now action) (now resource)) (policiesAt (now table) entries)
-        (now deeps) (now values) from policies (now marks) ⌝ }
-    ensures { λ r. ⌜ DecidedFrom (now (text .entry)) (now (s .entry)) p n (now (heads .entry)) (now (grid .entry))
-        (request (now (subject .entry)) (now (action .entry)) (now (resource .entry))) (policiesAt (now (table .entry)) entries) (now (deeps .entry)) (now (values .entry))
+    requires { ⌜ ((i : ℕ) → getD (now owns) i 0 ≤ 6) ⌝ }
+    requires { ⌜ Depths (now text) (now s) n (now heads) (policiesAt (now table) entries) (now owns) (now others) ⌝ }
+    requires { ⌜ Chosen (now s) p n (now choices) (now values) ⌝ }
+    requires { ⌜ Carried (now text) (now s) p n (now heads) (request (now subject) (now action) (now resource)) (policiesAt (now table) entries)
+        (now owns) (now values) from policies (now marks) ⌝ }
+    ensures { λ r. ⌜ DecidedFrom (now (text .entry)) (now (s .entry)) p n (now (heads .entry))
+        (request (now (subject .entry)) (now (action .entry)) (now (resource .entry))) (policiesAt (now (table .entry)) entries) (now (owns .entry)) (now (values .entry))
         r (now (marks .exit)) ⌝ }
 {
     let mut end = entries;
@@ -155,8 +156,8 @@ pub fn decision_from<'a>(
     while 0 < end {
         let x = entry_at(table, end - 1);
         let i = number - 1;
-        let stale = from < lows[i] as usize;
-        let column = own_column(deeps[i]);
+        let stale = from < others[i] as usize;
+        let column = own_column(owns[i]);
         let choice = choices[column];
         let satisfied = met(
             stale,
@@ -178,7 +179,7 @@ pub fn decision_from<'a>(
             resource,
             resource_type,
         );
-        let permits = x.kind == 34;
+        let permits = x.kind == 34; // the kind of a permit's last entry
         let hit = !((0 < forbid) & permits) & satisfied;
         forbid = number_if(hit & !permits, number, forbid);
         permit = number_if(hit & permits, number, permit);

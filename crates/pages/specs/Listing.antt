@@ -9,6 +9,7 @@ use Rattle.meaning.specs.Decisions.{outcomeOf, policyOf, isAllowed}
 use Rattle.meaning.specs.declared.Decision.{Decision}
 use Rattle.pages.specs.declared.Page.{Page}
 
+-- a row in front of others, where the test holds
 abbrev pub consIf : Bool → ℕ → List ℕ → List ℕ
 consIf true row rows = row ∷ rows
 consIf false row rows = rows
@@ -30,13 +31,15 @@ pageRows d rows start room = take room (listed d rows start)
 unfoldable pub nextRow : (ℕ → Decision) → ℕ → ℕ → ℕ → ℕ
 nextRow d rows start room = getD (listed d rows start) room rows
 
--- a listed row: row number, four bytes, little-endian; outcome; policy
+-- a listed row has six bytes: row number, four bytes, little-endian; outcome; policy
 abbrev pub rowSize : ℕ
 rowSize = 6
 
+-- the bytes of a row with its decision
 abbrev pub rowBytes : ℕ → Decision → List ℕ
 rowBytes row d = row % 256 ∷ row / 256 % 256 ∷ row / 65536 % 256 ∷ row / 16777216 % 256 ∷ outcomeOf d ∷ policyOf d ∷ []
 
+-- and of rows, one after the other
 unfoldable pub bytesOf : (ℕ → Decision) → List ℕ → List ℕ
 bytesOf d [] = []
 bytesOf d (row ∷ rows) = rowBytes row (d row) ++ bytesOf d rows

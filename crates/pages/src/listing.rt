@@ -19,6 +19,7 @@ pub fn is_allowed(d: Decision) -> bool
     }
 }
 
+// Document 01's number of a decision.
 fn outcome(d: Decision) -> u8
     ensures { λ r. ⌜ r ≡ outcomeOf d ⌝ }
 {
@@ -30,6 +31,7 @@ fn outcome(d: Decision) -> u8
     }
 }
 
+// The policy that decided, 0 where none did.
 fn policy(d: Decision) -> u8
     requires { ⌜ policyOf d < 256 ⌝ }
     ensures { λ r. ⌜ r ≡ policyOf d ⌝ }

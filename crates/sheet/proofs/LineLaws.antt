@@ -7,10 +7,10 @@ use Prim.Native.Char.{code}
 use native.Mathlib.Numerals.{add-one}
 use native.Mathlib.Omega.{arith}
 use lib.Dec.{eqb}
-use lib.ListN.{length, getD, take, drop, drop-of-length-le}
+use lib.ListN.{length, getD, take, drop, length-drop, drop-of-length-le}
 use lib.Seq.{drop-cons, drop-drop}
 use Rattle.targets.specs.Matching.{request}
-use Rattle.sheets.specs.declared.Answer.{Answer}
+use Rattle.sheet.specs.declared.Printed.{Printed}
 use Rattle.sheet.specs.Lines.{upToFeed, pastFeed, lineOf, requestIn, lineEnd, EndsAt, GoesOnAt}
 use Rattle.sheet.specs.Printed.{printedFor}
 
@@ -56,6 +56,10 @@ module _ (s : List ℕ) (i : ℕ) where
 pub none-left : {s : List ℕ} {end : ℕ} → end ≤ length s → length s ≤ end → GoesOnAt s end end
 none-left {s} {end} h g = record { bytes = drop-of-length-le s g ∙ sym (drop-of-length-le s {i = end + 1} (omega arith)); low = omega arith; high = h }
 
+-- there is one place to go on at
+pub one-next : {s : List ℕ} {end next next′ : ℕ} → GoesOnAt s end next → GoesOnAt s end next′ → next ≡ next′
+one-next {s} {end} {next} {next′} g h = omega (arith, ap length (g .bytes ∙ sym (h .bytes)), length-drop next s, length-drop next′ s)
+
 module _ {s : List ℕ} {at end : ℕ} (e : EndsAt s at end) where
   -- the bytes from a line's start to its end
   pub cut : take (end - at) (drop at s) ≡ upToFeed (drop at s)
@@ -86,7 +90,7 @@ module _ {s : List ℕ} {a b c d e : ℕ} (first : EndsAt s 0 a) (on : GoesOnAt 
   lines-cut : request (take a s) (take (c - b) (drop b s)) (take (e - d) (drop d s)) ≡ requestIn s
   lines-cut = λ i. request (line-0 i) (line-1 i) (line-2 i)
 
-pub printed-for-lines : (text table question : List ℕ) {s : List ℕ} {a b c d e : ℕ} {r : Answer}
+pub printed-for-lines : (text table question : List ℕ) {s : List ℕ} {a b c d e : ℕ} {r : Printed}
     → r ≡ printedFor text table question (request (take a s) (take (c - b) (drop b s)) (take (e - d) (drop d s)))
     → EndsAt s 0 a → GoesOnAt s a b → EndsAt s b c → GoesOnAt s c d → EndsAt s d e → r ≡ printedFor text table question (requestIn s)
 printed-for-lines text table question p first on second on-again third = p ∙ ap (printedFor text table question) (lines-cut first on second on-again third)

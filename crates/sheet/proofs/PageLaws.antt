@@ -15,6 +15,8 @@ use Rattle.pages.proofs.Listed.{next-lists, next-within, next-past}
 use Rattle.sheets.specs.Sheets.{rowsAsked, decisions, requestRefusal, refusalOf, unless, answerOf, SheetListed}
 use Rattle.sheets.specs.declared.Answer.{Answer}
 use Rattle.sheets.specs.declared.Answer.the-variants.{Listed, Refused}
+use Rattle.sheet.specs.declared.Printed.{Printed}
+use Rattle.sheet.specs.declared.Printed.the-variants.{Rows, Refusal}
 use Rattle.sheet.specs.Printed.{refusalFor, Accepted, PagePrinted, pageRoom, allListed, printedFor}
 
 -- ---- refusals
@@ -67,17 +69,17 @@ accepted {text} {table} {s} {q} r h e few =
 
 -- ---- what is printed in all
 
-some-told : (n : ℕ) (a : Answer) {m : ℕ} → m ≡ n → 0 < m → Refused m ≡ unless n a Refused
+some-told : (n : ℕ) (a : Printed) {m : ℕ} → m ≡ n → 0 < m → Refusal m ≡ unless n a Refusal
 unfolding unless
 some-told zero a e h = absurd (omega arith)
-some-told (suc n) a e h = ap Refused e
+some-told (suc n) a e h = ap Refusal e
 
-pub refusal-printed : (text table s : List ℕ) (q : Request) {number : ℕ} → number ≡ refusalFor text table s q → 0 < number → Refused number ≡ printedFor text table s q
+pub refusal-printed : (text table s : List ℕ) (q : Request) {number : ℕ} → number ≡ refusalFor text table s q → 0 < number → Refusal number ≡ printedFor text table s q
 unfolding printedFor
 refusal-printed text table s q e h = some-told (refusalFor text table s q) _ e h
 
 pub rows-printed : (text table s : List ℕ) (q : Request) {rows all : ℕ} → refusalFor text table s q ≤ 0 → rows ≡ cond (isQuestion s) (rowsAsked s) 0 → rows ≤ 262144 → all ≡ allListed text s q rows
-    → Listed all rows ≡ printedFor text table s q
+    → Rows rows all ≡ printedFor text table s q
 unfolding printedFor unless
 rows-printed text table s q {rows} h counted few e =
     let a : Accepted text table s q rows = accepted refl h counted few in

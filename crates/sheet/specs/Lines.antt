@@ -32,6 +32,7 @@ requestIn s = request (lineOf 0 s) (lineOf 1 s) (lineOf 2 s)
 abbrev pub lineEnd : List ℕ → ℕ → ℕ
 lineEnd s at = at + length (upToFeed (drop at s))
 
+-- it ends there, inside the bytes
 pub record EndsAt (s : List ℕ) (at end : ℕ) : Type 0 where
   pub place : end ≡ lineEnd s at
   pub low : at ≤ end

@@ -9,8 +9,8 @@ use Rattle.meaning.specs.Targets.{Request}
 use Rattle.pages.specs.Listing.{listed, pageRows, nextRow}
 use Rattle.pages.specs.declared.Page.{Page}
 use Rattle.sheets.specs.Sheets.{decisions, rowsAsked, requestRefusal, unless}
-use Rattle.sheets.specs.declared.Answer.{Answer}
-use Rattle.sheets.specs.declared.Answer.the-variants.{Listed, Refused}
+use Rattle.sheet.specs.declared.Printed.{Printed}
+use Rattle.sheet.specs.declared.Printed.the-variants.{Rows, Refusal}
 
 -- the sheet's refusal number, and 0 where it gets none: the program has room for a row, and starts with row 0
 unfoldable pub refusalFor : List ℕ → List ℕ → List ℕ → Request → ℕ
@@ -26,6 +26,7 @@ pub record Accepted (text table s : List ℕ) (q : Request) (rows : ℕ) : Type 
 abbrev pub pageRoom : ℕ
 pageRoom = 1000
 
+-- a page's rows and the row to go on with are those of the sheet
 pub record PagePrinted (text s : List ℕ) (q : Request) (rows start : ℕ) (page : Page) : Type 0 where
   pub written : page .written ≡ length (pageRows (decisions text s q) rows start pageRoom)
   pub next : page .next ≡ nextRow (decisions text s q) rows start pageRoom
@@ -34,6 +35,6 @@ pub record PagePrinted (text s : List ℕ) (q : Request) (rows start : ℕ) (pag
 abbrev pub allListed : List ℕ → List ℕ → Request → ℕ → ℕ
 allListed text s q rows = length (listed (decisions text s q) rows 0)
 
--- what is printed of a sheet: its refusal's number, or how many rows are listed and how many there are
-unfoldable pub printedFor : List ℕ → List ℕ → List ℕ → Request → Answer
-printedFor text table s q = unless (refusalFor text table s q) (Listed (allListed text s q (rowsAsked s)) (rowsAsked s)) Refused
+-- what is printed of a sheet: its refusal's number, or how many rows there are and how many of them are listed
+unfoldable pub printedFor : List ℕ → List ℕ → List ℕ → Request → Printed
+printedFor text table s q = unless (refusalFor text table s q) (Rows (rowsAsked s) (allListed text s q (rowsAsked s))) Refusal

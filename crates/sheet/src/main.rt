@@ -14,6 +14,12 @@ use sheets::Answer;
 use sheets::row_count;
 use sheets::sheet;
 
+// What is printed of a sheet: how many rows there are and how many of them are allowed; or the refusal's number.
+pub enum Printed {
+    Rows(usize, usize),
+    Refusal(u8),
+}
+
 // Reads a file from its beginning, as much as fits, and gives how many bytes came. A missing file is empty.
 fn read_file(name: &[u8], buf: &mut [u8]) -> usize
     ensures { λ r. ⌜ Counts r (now (buf .exit)) ⌝ }
@@ -111,7 +117,7 @@ fn print_page<'a>(
     requires { ⌜ start < rows ⌝ }
     ensures { λ r. ⌜ PagePrinted (now (text .entry)) (now (question .entry)) (request (now (subject .entry)) (now (action .entry)) (now (resource .entry))) rows start r ⌝ }
 {
-    let mut page = [0u8; 6000];
+    let mut page = [0u8; 6000]; // room for 1,000 rows
     match sheet(
         text,
         table,
@@ -195,7 +201,7 @@ fn refusal<'a>(
     }
 }
 
-// Prints the sheet, and gives what it printed: the refusal's number, or how many rows were listed and how many there are.
+// Prints the sheet, and gives what it printed.
 fn print_sheet<'a>(
     text: &'a [u8],
     table: &[u8],
@@ -203,13 +209,13 @@ fn print_sheet<'a>(
     subject: &[u8],
     action: &'a [u8],
     resource: &[u8],
-) -> Answer
+) -> Printed
     ensures { λ r. ⌜ r ≡ printedFor (now (text .entry)) (now (table .entry)) (now (question .entry)) (request (now (subject .entry)) (now (action .entry)) (now (resource .entry))) ⌝ }
 {
     let number = refusal(text, table, question, subject, action, resource);
     if 0 < number {
         print_refusal(number, 0, 0);
-        return Answer::Refused(number);
+        return Printed::Refusal(number);
     }
     let rows = row_count(question);
     io::write_all(STDOUT_FILENO, b"rows ");
@@ -217,16 +223,11 @@ fn print_sheet<'a>(
     let listed = print_pages(text, table, question, subject, action, resource, rows);
     io::write_all(STDOUT_FILENO, b"allowed ");
     print_number(listed, b"\n");
-    Answer::Listed(listed, rows)
+    Printed::Rows(rows, listed)
 }
 
 // The sheet of a request that has its three lines: subject, action, resource.
-fn print_request<'a>(
-    text: &'a [u8],
-    table: &[u8],
-    question: &'a [u8],
-    lines: &'a [u8],
-) -> Answer
+fn print_request<'a>(text: &'a [u8], table: &[u8], question: &'a [u8], lines: &'a [u8]) -> Printed
     ensures { λ r. ⌜ r ≡ printedFor (now (text .entry)) (now (table .entry)) (now (question .entry)) (requestIn (now (lines .entry))) ⌝ }
 {
     let subject = line_end(lines, 0);

@@ -112,7 +112,8 @@ module _ (text table s : List ℕ) (q : Request) (start : ℕ) (sheet : List ℕ
   part-is = rw after-is (drop-at (take at sheet) (writtenOver d (rowsAsked s) start (drop at sheet)) at front)
 
   -- the page on the part
-  page-written : PageWritten d (rowsAsked s) start (drop at sheet) (record { written = said .written; next = said .next }) (drop at (sheetAfter text table s q start sheet at))
+  pub page-written : PageWritten (decisions text s q) (rowsAsked s) start (drop at sheet)
+      (record { written = saidTo text table s q start sheet at .written; next = saidTo text table s q start sheet at .next }) (drop at (sheetAfter text table s q start sheet at))
   page-written = record { written = sym written-is; next = sym next-is; bytes = part-is }
 
   gets-on : (start < rowsAsked s → start < said .next) × (said .next ≤ rowsAsked s)

@@ -25,7 +25,7 @@ use Rattle.meaning.specs.declared.Decision.{Decision}
 use Rattle.meaning.specs.declared.Decision.the-variants.{System}
 use Rattle.meaning.proofs.Deciding.{numbered-few, named-rightly}
 use Rattle.pages.specs.Rows.{countsOf, Combination, rowOf, choicesAt, countsBy, Few, Counted, Picked, Placed, Moved}
-use Rattle.marks.specs.Marks.{Depths, DecidedFrom}
+use Rattle.marks.specs.Marks.{Depths, Chosen, DecidedFrom}
 use Rattle.marks.proofs.Marking.{zeros-say}
 use Rattle.pages.proofs.Combinations.{choices-combine, row-of-choices, choice-below}
 use Rattle.pages.proofs.Digits.{counts-length, count-is, rows-some}
@@ -71,10 +71,10 @@ stands-next {ends = ends} {choices = choices} {row = row} h s m =
 
 -- ---- what is kept from row to row
 
-module _ {text s : List ℕ} {p : Sections} {n : ℕ} {starts : List ℕ} {grid : List (List ℕ)} {q : Request} {ps : List Policy} {policies : ℕ} {deeps lows : List ℕ} where
+module _ {text s : List ℕ} {p : Sections} {n : ℕ} {starts : List ℕ} {q : Request} {ps : List Policy} {policies : ℕ} {owns others : List ℕ} where
   -- before the first row no mark says anything
-  pub kept-first : (values : List ℕ) → length values ≡ 6 → ((i : ℕ) → getD deeps i 0 ≤ 6) → Depths text s n starts ps deeps lows
-      → Kept text s p n starts grid q ps policies deeps lows values 0 (replicate 512 0)
+  pub kept-first : (values : List ℕ) → length values ≡ 6 → ((i : ℕ) → getD owns i 0 ≤ 6) → Depths text s n starts ps owns others
+      → Kept text s p n starts q ps policies owns others values 0 (replicate 512 0)
   kept-first values six few d = record {
     few = few;
     depths = d;
@@ -88,10 +88,10 @@ module _ {text s : List ℕ} {p : Sections} {n : ℕ} {starts : List ℕ} {grid 
   }
 
   -- the next row chooses alike in the columns before the one that moves
-  pub kept-next : {ends choices choices' values values' marks marks' : List ℕ} {from column : ℕ} {d : Decision} → policies ≡ length ps
-      → Kept text s p n starts grid q ps policies deeps lows values from marks → DecidedFrom text s p n starts grid q ps deeps values d marks'
-      → Picked grid choices values → Moved grid ends choices column choices' values' → Kept text s p n starts grid q ps policies deeps lows values' column marks'
-  kept-next {values = values} many k d v m = record {
+  pub kept-next : {grid : List (List ℕ)} {ends choices choices' values values' marks marks' : List ℕ} {from column : ℕ} {d : Decision} → policies ≡ length ps
+      → Kept text s p n starts q ps policies owns others values from marks → DecidedFrom text s p n starts q ps owns values d marks'
+      → Picked grid choices values → Moved grid ends choices column choices' values' → Kept text s p n starts q ps policies owns others values' column marks'
+  kept-next {grid = grid} {values = values} many k d v m = record {
     few = k .few;
     depths = k .depths;
     carried = record {
@@ -155,6 +155,12 @@ module _ {s : List ℕ} {p : Sections} {all start n : ℕ} {starts ends : List �
         go false q =
             simp q (st .values-are .picked i l ∙ laid .grid-is i (getD choices i 0) l (choices-small ends choices row (st .choices-are) ends-few i l) ∙ simp q)
 
+    -- the values stand where the question's columns have the choices
+    pub chosen-there : Chosen s p n choices values
+    chosen-there =
+        let small = choices-small ends choices row (st .choices-are) ends-few in
+        record { small = small; six = st .values-are .six; picked = λ i l. st .values-are .picked i l ∙ laid .grid-is i (getD choices i 0) l (small i l) }
+
     pub stands-there : Stands s p n starts values
     stands-there =
         row-stands s p n (firstIn p) (asked .question .last) most columns chosen-row chooses starts values grid (laid .starts-are) (laid .grid-is) values-chosen
@@ -189,7 +195,7 @@ module _ (text : List ℕ) (view : View) (q : Request) (ps : List Policy) where
   unfolding NamedRightly
   other-fits h = omega (arith, named-few (named-rightly text view q ps))
 
-pub policy-fits : {system : Bool} {text table subject resource : List ℕ} {policies entries sort resource-sort : ℕ} → Decidable system text table policies entries subject sort resource resource-sort
+pub policy-fits : {system : Bool} {text table subject resource : List ℕ} {policies entries subject-type resource-type : ℕ} → Decidable system text table policies entries subject subject-type resource resource-type
     → (s : List ℕ) (p : Sections) (action : List ℕ) (row : ℕ)
     → policyOf (decisionAt text s p (record { subject = subject; action = action; resource = resource }) (policiesAt table entries) row) < 256
 unfolding decisionBy

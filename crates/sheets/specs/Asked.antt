@@ -27,16 +27,17 @@ pub record Asked (s : List ℕ) (p : Sections) (all start : ℕ) : Type 0 where
   pub within : start ≤ all
 
 -- for any subject but the system: a table of at most 64 policies that can be evaluated, and the types of subject and resource
-pub record Readable (text table : List ℕ) (policies entries : ℕ) (subject : List ℕ) (sort : ℕ) (resource : List ℕ) (resource-sort : ℕ) : Type 0 where
+pub record Readable (text table : List ℕ) (policies entries : ℕ) (subject : List ℕ) (subject-type : ℕ) (resource : List ℕ) (resource-type : ℕ) : Type 0 where
   pub ready : ReadyPolicies text table entries
   pub many : policies ≡ length (policiesAt table entries)
   pub few : policies ≤ 64
-  pub subject-sort-is : sort ≡ typeIn principalTypes subject
-  pub resource-sort-is : resource-sort ≡ typeIn resourceTypes resource
+  pub subject-type-is : subject-type ≡ typeIn principalTypes subject
+  pub resource-type-is : resource-type ≡ typeIn resourceTypes resource
 
-pub record Decidable (system : Bool) (text table : List ℕ) (policies entries : ℕ) (subject : List ℕ) (sort : ℕ) (resource : List ℕ) (resource-sort : ℕ) : Type 0 where
+-- what is needed to decide the rows: whose they are, and for any subject but the system all that
+pub record Decidable (system : Bool) (text table : List ℕ) (policies entries : ℕ) (subject : List ℕ) (subject-type : ℕ) (resource : List ℕ) (resource-type : ℕ) : Type 0 where
   pub whose : system ≡ isSystem subject
-  pub others : system ≡ false → Readable text table policies entries subject sort resource resource-sort
+  pub others : system ≡ false → Readable text table policies entries subject subject-type resource resource-type
 
 -- the places of the question's columns and candidates, and the last choice of each column
 pub record Laid (s : List ℕ) (p : Sections) (n : ℕ) (starts : List ℕ) (grid : List (List ℕ)) (ends : List ℕ) : Type 0 where
@@ -48,21 +49,21 @@ pub record Laid (s : List ℕ) (p : Sections) (n : ℕ) (starts : List ℕ) (gri
 
 -- all of it
 pub record RowsAsked (system : Bool) (text table : List ℕ) (policies entries : ℕ) (s : List ℕ) (p : Sections) (n : ℕ) (starts : List ℕ) (grid : List (List ℕ)) (ends : List ℕ)
-    (subject : List ℕ) (sort : ℕ) (resource : List ℕ) (resource-sort : ℕ) (all start : ℕ) : Type 0 where
+    (subject : List ℕ) (subject-type : ℕ) (resource : List ℕ) (resource-type : ℕ) (all start : ℕ) : Type 0 where
   pub asked : Asked s p all start
   pub laid : Laid s p n starts grid ends
-  pub decidable : Decidable system text table policies entries subject sort resource resource-sort
+  pub decidable : Decidable system text table policies entries subject subject-type resource resource-type
 
 -- What is kept from row to row, for any subject but the system: which columns can matter to each policy, and marks that are right for a row that chooses alike in the columns
 -- before number `from`.
-pub record Kept (text s : List ℕ) (p : Sections) (n : ℕ) (starts : List ℕ) (grid : List (List ℕ)) (q : Request) (ps : List Policy) (policies : ℕ) (deeps lows values : List ℕ) (from : ℕ)
+pub record Kept (text s : List ℕ) (p : Sections) (n : ℕ) (starts : List ℕ) (q : Request) (ps : List Policy) (policies : ℕ) (owns others values : List ℕ) (from : ℕ)
     (marks : List ℕ) : Type 0 where
-  pub few : (i : ℕ) → getD deeps i 0 ≤ 6
-  pub depths : Depths text s n starts ps deeps lows
-  pub carried : Carried text s p n starts grid q ps deeps values from policies marks
+  pub few : (i : ℕ) → getD owns i 0 ≤ 6
+  pub depths : Depths text s n starts ps owns others
+  pub carried : Carried text s p n starts q ps owns values from policies marks
 
 -- a row's decision; for any subject but the system the marks are then right for the row
-pub record RowDecided (system : Bool) (text s : List ℕ) (p : Sections) (n : ℕ) (starts : List ℕ) (grid : List (List ℕ)) (q : Request) (ps : List Policy) (deeps values : List ℕ) (d : Decision)
+pub record RowDecided (system : Bool) (text s : List ℕ) (p : Sections) (n : ℕ) (starts : List ℕ) (q : Request) (ps : List Policy) (owns values : List ℕ) (d : Decision)
     (marks : List ℕ) : Type 0 where
   pub is : d ≡ cond system System (policiesDecide text (rowView s p n starts values) q ps)
-  pub others : system ≡ false → DecidedFrom text s p n starts grid q ps deeps values d marks
+  pub others : system ≡ false → DecidedFrom text s p n starts q ps owns values d marks

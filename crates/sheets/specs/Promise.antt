@@ -15,10 +15,11 @@ use Rattle.pages.specs.Listing.{listed, rowSize, bytesOf}
 use Rattle.sheets.specs.Sheets.{countsIn, sectionsIn, decisionBy, decisions, rowsAsked, sheetAfter, SheetListed, saidOf, saidTo}
 use Rattle.sheets.specs.declared.Answer.{Answer}
 
--- the counts of a question's columns, and what is decided where its columns have these choices
+-- how many candidates each column of a question has
 abbrev pub countsAsked : List ℕ → List ℕ
 countsAsked s = countsIn s (sectionsIn s)
 
+-- where its columns have these choices, the answer is yes
 abbrev pub yesTo : List ℕ → List ℕ → Request → List ℕ → Type 0
 yesTo text s q choices = isAllowed (decisionBy text s (sectionsIn s) q (policiesOf text) choices) ≡ true
 
@@ -44,11 +45,12 @@ pub record ListedRow (text s : List ℕ) (q : Request) (start row : ℕ) : Type 
 unfoldable pub ListedRightly : Type 0
 ListedRightly = (text s : List ℕ) (q : Request) (start row : ℕ) → isQuestion s ≡ true → List·Memᴰ row (listedFrom text s q start) ↔ ListedRow text s q start row
 
--- Two combinations with one row are the same: each is listed once, since the list ascends.
+-- Two combinations with one row are the same.
 unfoldable pub OneRow : Type 0
 OneRow = (s choices choices′ : List ℕ) → isQuestion s ≡ true → Combination (countsAsked s) choices → Combination (countsAsked s) choices′
     → rowOf (countsAsked s) choices ≡ rowOf (countsAsked s) choices′ → choices ≡ choices′
 
+-- The list ascends: with that, each combination is listed once.
 unfoldable pub Ascends : Type 0
 Ascends = (text s : List ℕ) (q : Request) (start i j : ℕ) → i < j → j < length (listedFrom text s q start)
     → getD (listedFrom text s q start) i 0 < getD (listedFrom text s q start) j 0
@@ -126,9 +128,10 @@ pub data Refusal (text table s : List ℕ) (q : Request) (start : ℕ) (sheet : 
   not-compiled : Wellasked s start sheet at → Wellformed q → (Begun text table → ⊥) → Refusal text table s q start sheet at 20
   none-wrong : Wellasked s start sheet at → Wellformed q → Begun text table → Refusal text table s q start sheet at 0
 
+-- The answer has the number that applies.
 unfoldable pub RefusedRightly : Type 0
 RefusedRightly = (text table s : List ℕ) (q : Request) (start : ℕ) (sheet : List ℕ) (at : ℕ) → Refusal text table s q start sheet at (saidTo text table s q start sheet at .refusal)
 
--- So each refusal is given exactly there.
+-- No two numbers apply: so each refusal is given exactly there.
 unfoldable pub OneRefusal : Type 0
 OneRefusal = (text table s : List ℕ) (q : Request) (start : ℕ) (sheet : List ℕ) (at m n : ℕ) → Refusal text table s q start sheet at m → Refusal text table s q start sheet at n → m ≡ n

@@ -26,16 +26,19 @@ use Rattle.sheets.specs.declared.Answer.the-variants.{Listed, Refused}
 
 -- ---- the rows of a question, and what is decided in each
 
--- the count byte of the columns stands at the sections' end; how many columns, where the first starts, and their candidates' counts
+-- how many columns: their count byte stands at the sections' end
 abbrev pub columnsIn : List ℕ → Sections → ℕ
 columnsIn s p = byte s (p .end)
 
+-- where the first column starts
 abbrev pub firstIn : Sections → ℕ
 firstIn p = p .end + 1
 
+-- how many candidates each column has
 abbrev pub countsIn : List ℕ → Sections → List ℕ
 countsIn s p = countsOf (columnsIn s p) s (firstIn p)
 
+-- how many rows
 abbrev pub rowsIn : List ℕ → Sections → ℕ
 rowsIn s p = rowsOf (columnsIn s p) s (firstIn p)
 
@@ -47,11 +50,12 @@ decisionBy text s p q ps choices = decisionOf text (look (bagOfRow s p (columnsI
 abbrev pub decisionAt : List ℕ → List ℕ → Sections → Request → List Policy → ℕ → Decision
 decisionAt text s p q ps row = decisionBy text s p q ps (choicesAt (countsIn s p) row)
 
--- the sections of a question
+-- sections as they are divided, and none where they are broken
 unfoldable pub dividedAs : Divided → Sections
 dividedAs (In p) = p
 dividedAs Broken = record { resource = 0; env = 0; end = 0 }
 
+-- the sections of a question
 abbrev pub sectionsIn : List ℕ → Sections
 sectionsIn s = dividedAs (sectionsOf s)
 
@@ -94,6 +98,7 @@ pub record PartListed (text table s : List ℕ) (p : Sections) (q : Request) (st
 abbrev pub decisions : List ℕ → List ℕ → Request → ℕ → Decision
 decisions text s q = decisionAt text s (sectionsIn s) q (policiesOf text)
 
+-- how many rows the question has
 abbrev pub rowsAsked : List ℕ → ℕ
 rowsAsked s = rowsIn s (sectionsIn s)
 
@@ -117,9 +122,11 @@ pub record Said : Type 0 where
   pub written : ℕ
   pub next : ℕ
 
+-- document 01's numbers for each answer
 unfoldable pub saidOf : Answer → Said
 saidOf (Listed written next) = record { refusal = 0; written = written; next = next }
 saidOf (Refused number) = record { refusal = number; written = 0; next = 0 }
 
+-- what the call says
 abbrev pub saidTo : List ℕ → List ℕ → List ℕ → Request → ℕ → List ℕ → ℕ → Said
 saidTo text table s q start sheet at = saidOf (answerOf text table s q start sheet at)

@@ -31,6 +31,7 @@ pub enum Answer {
     Refused(u8),
 }
 
+// The answer that a written page gives.
 fn listed(page: Page) -> Answer
     ensures { λ r. ⌜ r ≡ Listed (page .written) (page .next) ⌝ }
 {
@@ -57,15 +58,15 @@ fn page_for_other<'a>(
     ensures { λ r. ⌜ PartListed (now (text .entry)) (now (table .entry)) (now (s .entry)) p (request (now (subject .entry)) (now (action .entry)) (now (resource .entry)))
         start (now (part .entry)) r (now (part .exit)) ⌝ }
 {
-    let subject_sort = subject_type(subject);
-    if subject_sort == 0 {
+    let subject_type = subject_type(subject);
+    if subject_type == 0 {
         return Answer::Refused(21);
     }
     if !is_action(action) {
         return Answer::Refused(22);
     }
-    let resource_sort = resource_type(resource);
-    if resource_sort == 0 {
+    let resource_type = resource_type(resource);
+    if resource_type == 0 {
         return Answer::Refused(23);
     }
     match held_policies(classes, text, table) {
@@ -79,10 +80,10 @@ fn page_for_other<'a>(
             s,
             p,
             subject,
-            subject_sort,
+            subject_type,
             action,
             resource,
-            resource_sort,
+            resource_type,
             all,
             start,
             part,
@@ -161,6 +162,7 @@ pub fn sheet<'a>(
     if sheet.len() < at {
         return Answer::Refused(25);
     }
+    // no room for the six bytes of a row
     if sheet.len() - at < 6 {
         return Answer::Refused(25);
     }

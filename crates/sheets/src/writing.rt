@@ -56,10 +56,9 @@ fn depths_unless(
 fn row_decision<'a>(
     system: bool,
     from: usize,
-    deeps: &[u8; 64],
-    lows: &[u8; 64],
+    owns: &[u8; 64],
+    others: &[u8; 64],
     marks: &mut [u8; 512],
-    grid: &[[usize; 8]; 6],
     choices: &[u8; 6],
     text: &'a [u8],
     table: &[u8],
@@ -71,18 +70,18 @@ fn row_decision<'a>(
     starts: &[usize; 6],
     values: &[usize; 6],
     subject: &[u8],
-    subject_sort: usize,
+    subject_type: usize,
     action: &'a [u8],
     resource: &[u8],
-    resource_sort: usize,
+    resource_type: usize,
 ) -> Decision
     requires { ⌜ Stands (now s) p n (now starts) (now values) ⌝ }
-    requires { ⌜ Decidable system (now text) (now table) policies entries (now subject) «subject_sort» (now resource) «resource_sort» ⌝ }
-    requires { ⌜ Chosen (now grid) (now choices) (now values) ⌝ }
-    requires { ⌜ (system ≡ false → Kept (now text) (now s) p n (now starts) (now grid) (request (now subject) (now action) (now resource)) (policiesAt (now table) entries)
-        policies (now deeps) (now lows) (now values) from (now marks)) ⌝ }
-    ensures { λ r. ⌜ RowDecided system (now (text .entry)) (now (s .entry)) p n (now (starts .entry)) (now (grid .entry))
-        (request (now (subject .entry)) (now (action .entry)) (now (resource .entry))) (policiesAt (now (table .entry)) entries) (now (deeps .entry)) (now (values .entry))
+    requires { ⌜ Decidable system (now text) (now table) policies entries (now subject) «subject_type» (now resource) «resource_type» ⌝ }
+    requires { ⌜ Chosen (now s) p n (now choices) (now values) ⌝ }
+    requires { ⌜ (system ≡ false → Kept (now text) (now s) p n (now starts) (request (now subject) (now action) (now resource)) (policiesAt (now table) entries)
+        policies (now owns) (now others) (now values) from (now marks)) ⌝ }
+    ensures { λ r. ⌜ RowDecided system (now (text .entry)) (now (s .entry)) p n (now (starts .entry))
+        (request (now (subject .entry)) (now (action .entry)) (now (resource .entry))) (policiesAt (now (table .entry)) entries) (now (owns .entry)) (now (values .entry))
         r (now (marks .exit)) ⌝ }
 {
     if system {
@@ -90,10 +89,9 @@ fn row_decision<'a>(
     }
     decision_from(
         from,
-        deeps,
-        lows,
+        owns,
+        others,
         marks,
-        grid,
         choices,
         text,
         table,
@@ -105,10 +103,10 @@ fn row_decision<'a>(
         starts,
         values,
         subject,
-        subject_sort,
+        subject_type,
         action,
         resource,
-        resource_sort,
+        resource_type,
     )
 }
 
@@ -126,23 +124,23 @@ fn write_rows<'a>(
     grid: [[usize; 8]; 6],
     ends: &[u8; 6],
     subject: &[u8],
-    subject_sort: usize,
+    subject_type: usize,
     action: &'a [u8],
     resource: &[u8],
-    resource_sort: usize,
+    resource_type: usize,
     all: usize,
     start: usize,
     part: &mut [u8],
 ) -> Page
-    requires { ⌜ RowsAsked system (now text) (now table) policies entries (now s) p n (now starts) grid (now ends) (now subject) «subject_sort» (now resource) «resource_sort» all start ⌝ }
+    requires { ⌜ RowsAsked system (now text) (now table) policies entries (now s) p n (now starts) grid (now ends) (now subject) «subject_type» (now resource) «resource_type» all start ⌝ }
     ensures { λ r. ⌜ PageWritten (decisionAt (now (text .entry)) (now (s .entry)) p (request (now (subject .entry)) (now (action .entry)) (now (resource .entry)))
         (policiesAt (now (table .entry)) entries)) all start (now (part .entry)) r (now (part .exit)) ⌝ }
 {
     let mut choices = choices_of(ends, start);
     let mut values = chosen(grid, 6, &choices);
     let none = [0u8; 64];
-    let deeps = depths_unless(system, text, table, policies, entries, s, n, starts, &none);
-    let lows = depths_unless(system, text, table, policies, entries, s, n, starts, &deeps);
+    let owns = depths_unless(system, text, table, policies, entries, s, n, starts, &none);
+    let others = depths_unless(system, text, table, policies, entries, s, n, starts, &owns);
     let mut marks = [0u8; 512];
     let mut from = 0;
     let mut written = 0;
@@ -153,10 +151,9 @@ fn write_rows<'a>(
         let d = row_decision(
             system,
             from,
-            &deeps,
-            &lows,
+            &owns,
+            &others,
             &mut marks,
-            &grid,
             &choices,
             text,
             table,
@@ -168,10 +165,10 @@ fn write_rows<'a>(
             starts,
             &values,
             subject,
-            subject_sort,
+            subject_type,
             action,
             resource,
-            resource_sort,
+            resource_type,
         );
         from = step(&grid, ends, &mut choices, &mut values);
         row += 1;
@@ -203,16 +200,16 @@ pub fn write_page<'a>(
     s: &'a [u8],
     p: Sections,
     subject: &[u8],
-    subject_sort: usize,
+    subject_type: usize,
     action: &'a [u8],
     resource: &[u8],
-    resource_sort: usize,
+    resource_type: usize,
     all: usize,
     start: usize,
     part: &mut [u8],
 ) -> Page
     requires { ⌜ Asked (now s) p all start ⌝ }
-    requires { ⌜ Decidable system (now text) (now table) policies entries (now subject) «subject_sort» (now resource) «resource_sort» ⌝ }
+    requires { ⌜ Decidable system (now text) (now table) policies entries (now subject) «subject_type» (now resource) «resource_type» ⌝ }
     ensures { λ r. ⌜ PageWritten (decisionAt (now (text .entry)) (now (s .entry)) p (request (now (subject .entry)) (now (action .entry)) (now (resource .entry)))
         (policiesAt (now (table .entry)) entries)) all start (now (part .entry)) r (now (part .exit)) ⌝ }
 {
@@ -235,10 +232,10 @@ pub fn write_page<'a>(
         grid,
         &ends,
         subject,
-        subject_sort,
+        subject_type,
         action,
         resource,
-        resource_sort,
+        resource_type,
         all,
         start,
         part,

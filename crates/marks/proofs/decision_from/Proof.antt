@@ -20,14 +20,14 @@ use Rattle.marks.proofs.decision_from.Statement.{statement}
 use Rattle.marks.proofs.decision_from.Tie as tie
 
 abbrev Inv-loop : tie.InvT-loop
-Inv-loop from deeps lows marks₀ grid choices text table policies entries s p n heads values subject subject-type action resource resource-type end₀ number₀ forbid₀ permit₀ marks end number forbid permit = Left text table entries end number
+Inv-loop from owns others marks₀ choices text table policies entries s p n heads values subject subject-type action resource resource-type end₀ number₀ forbid₀ permit₀ marks end number forbid permit = Left text table entries end number
     × (decidesFrom text (rowView s p n heads values) (request subject action resource) (policiesAt table end) forbid permit
     ≡ policiesDecide text (rowView s p n heads values) (request subject action resource) (policiesAt table entries))
-    × Carried text s p n heads grid (request subject action resource) (policiesAt table entries) deeps values from number marks
-    × Marked text s p n heads grid (request subject action resource) (policiesAt table entries) deeps values number policies marks
+    × Carried text s p n heads (request subject action resource) (policiesAt table entries) owns values from number marks
+    × Marked text s p n heads (request subject action resource) (policiesAt table entries) owns values number policies marks
 
 abbrev μ-loop : tie.MeasureT-loop
-μ-loop from deeps lows marks₀ grid choices text table policies entries s p n heads values subject subject-type action resource resource-type end₀ number₀ forbid₀ permit₀ marks end number forbid permit = end
+μ-loop from owns others marks₀ choices text table policies entries s p n heads values subject subject-type action resource resource-type end₀ number₀ forbid₀ permit₀ marks end number forbid permit = end
 
 loop-holds : tie.Need-loop-holds Inv-loop μ-loop
 loop-holds c = (all-left (c .before .before .before .before .before .before .pre .0) (c .before .before .before .before .before .before .pre .1 .0) (c .before .before .before .before .before .before .pre .1 .1 .1 .1 .1 .0), none-known _ _ _ _, c .before .before .before .before .before .before .pre .1 .1 .1 .1 .1 .1 .1 .1 .1, record { right = λ m policy h l u. absurd (omega arith) })
@@ -71,26 +71,25 @@ loop-again c = let start = c .before .before .before .before .before .before .be
     let p = start .args .p in
     let n = start .args .n in
     let heads = start .args .heads .now in
-    let grid = start .args .grid .now in
     let values = start .args .values .now in
-    let deeps = start .args .deeps .now in
+    let owns = start .args .owns .now in
     let q = request (start .args .subject .now) (start .args .action .now) (start .args .resource .now) in
     let ps = policiesAt (start .args .table .now) (start .args .entries) in
     let policy = policyOf (start .args .table .now) (at-loop .loop .end) (c .before .before .before .before .before .before .before .before .before .entry-at .result) in
     let some = one-left left last in
     let there = last-numbered left last in
-    let own : getD deeps (number - 1) 0 - 1 < 6 = omega (arith, start .pre .1 .1 .1 .1 .1 .1 .0 (number - 1)) in
+    let own : getD owns (number - 1) 0 - 1 < 6 = omega (arith, start .pre .1 .1 .1 .1 .1 .1 .0 (number - 1)) in
     let chosen = start .pre .1 .1 .1 .1 .1 .1 .1 .1 .0 in
-    let here : satBy t s p n heads grid q values (getD deeps (number - 1) 0 - 1) policy (getD (start .args .choices .now) (c .before .before .before .before .before .before .own-column .result) 0) ≡ satisfied t (rowView s p n heads values) q policy = rw (c .before .before .before .before .before .before .own-column .ensures) (sat-here t s p n heads grid q (start .args .choices .now) values (getD deeps (number - 1) 0 - 1) policy own chosen) in
-    let is = c .before .before .before .met .ensures (satBy t s p n heads grid q values (getD deeps (number - 1) 0 - 1) policy) here
-    (mark-holds t s p n heads grid q ps deeps values (start .args .from) number policy some there (start .args .lows .now) (at-loop .loop .marks) (chosen .picked .six) own
+    let here : satBy t s p n heads q values (getD owns (number - 1) 0 - 1) policy (getD (start .args .choices .now) (c .before .before .before .before .before .before .own-column .result) 0) ≡ satisfied t (rowView s p n heads values) q policy = rw (c .before .before .before .before .before .before .own-column .ensures) (sat-here t s p n heads q (start .args .choices .now) values (getD owns (number - 1) 0 - 1) policy own chosen) in
+    let is = c .before .before .before .met .ensures (satBy t s p n heads q values (getD owns (number - 1) 0 - 1) policy) here
+    (mark-holds t s p n heads q ps owns values (start .args .from) number policy some there (start .args .others .now) (at-loop .loop .marks) (chosen .six) own
     (start .pre .1 .1 .1 .1 .1 .1 .1 .0) (at-loop .loop .inv .2)) in (
       fewer-left left last,
       met-one last (left .count) (rowView s p n heads values) q (at-loop .loop .forbid) (at-loop .loop .permit) (c .before .number-if .result) (c .number-if2 .result) _
           (ap (λ (b : Bool). not (ltb 0 (at-loop .loop .forbid) && eqb (c .before .before .before .before .before .before .before .before .before .entry-at .result .kind) 34) && b) (is .is ∙ here)) (c .before .number-if .ensures) (c .number-if2 .ensures)
           ∙ at-loop .loop .inv .1,
-      left-carried t s p n heads grid q ps deeps values (start .args .from) number policy some there is (at-loop .loop .inv .2),
-      met-right t s p n heads grid q ps deeps values (start .args .from) number policy some there is (start .args .policies) (at-loop .loop .inv .3),
+      left-carried t s p n heads q ps owns values (start .args .from) number policy some there is (at-loop .loop .inv .2),
+      met-right t s p n heads q ps owns values (start .args .from) number policy some there is (start .args .policies) (at-loop .loop .inv .3),
     )
 
 returns : tie.Need-returns Inv-loop μ-loop

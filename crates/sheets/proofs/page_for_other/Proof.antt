@@ -30,8 +30,8 @@ write-page-requires c κs =
           ready = held-ready _ _ _ _ h;
           many = held-many _ _ _ _ h;
           few = held-few _ _ _ _ h;
-          subject-sort-is = typed-number _ _ _ (c .before .before .before .before .before .before .before .before .before .before .subject-type .ensures) (c .before .before .before .before .before .before .before .before .before .if1 .left);
-          resource-sort-is = typed-number _ _ _ (c .before .before .before .before .before .before .resource-type .ensures) (c .before .before .before .before .before .if3 .left);
+          subject-type-is = typed-number _ _ _ (c .before .before .before .before .before .before .before .before .before .before .subject-type .ensures) (c .before .before .before .before .before .before .before .before .before .if1 .left);
+          resource-type-is = typed-number _ _ _ (c .before .before .before .before .before .before .resource-type .ensures) (c .before .before .before .before .before .if3 .left);
         };
       },
     )
