@@ -9,6 +9,7 @@ ghost use Rattle.pages.specs.Rows.{Counted};
 ghost use Rattle.marks.specs.Columns.{naming, rootBy, columnOf, deeper, depthFrom};
 ghost use Rattle.marks.specs.Marks.{Depths};
 use table::Entry;
+use table::entries;
 use table::entry_at;
 use views::names;
 
@@ -16,7 +17,7 @@ use views::names;
 fn root_by(kind: u8) -> u8
     ensures { λ r. ⌜ r ≡ rootBy kind ⌝ }
 {
-    if kind <= 4 { kind } else { kind - 4 }
+    if kind <= entries::ACTION { kind } else { kind - entries::ROOTS }
 }
 
 // The first of `n` columns that names this attribute, from 1 on; 0 where none does.
@@ -44,7 +45,7 @@ fn column_of(text: &[u8], x: Entry, s: &[u8], n: usize, heads: &[usize; 6]) -> u
 {
     let start = x.first;
     let end = x.second;
-    if (x.kind <= 8) & (start <= end) & (end <= text.len()) {
+    if (x.kind <= entries::HAS_ACTION) & (start <= end) & (end <= text.len()) {
         let root = root_by(x.kind);
         return column_naming(s, n, heads, root, &text[start..end]);
     }

@@ -20,6 +20,7 @@ use deciding::row::counts;
 use deciding::row::number_if;
 use meaning::Decision;
 use table::Entry;
+use table::entries;
 use table::entry_at;
 
 // Sets the eight marks from `at` on to 0, where `stale`.
@@ -179,7 +180,7 @@ pub fn decision_from<'a>(
             resource,
             resource_type,
         );
-        let permits = x.kind == 34; // the kind of a permit's last entry
+        let permits = x.kind == entries::PERMIT;
         let hit = !((0 < forbid) & permits) & satisfied;
         forbid = number_if(hit & !permits, number, forbid);
         permit = number_if(hit & permits, number, permit);
