@@ -10,7 +10,7 @@ ghost use Rattle.reading.specs.Reader.{need, before};
 ghost use Rattle.grammar.specs.Parser.{noPolicy, read-principal, read-action, read-resource, read-when, read-policy, read-text};
 ghost use Rattle.table.specs.Entries.{partEntry, actionEntries, conditionEntries, policyEntries, effectKind};
 ghost use Rattle.tokens.specs.Kinds as kinds;
-ghost use Rattle.parts.specs.Answers.{Ready, Done};
+ghost use Rattle.parts.specs.Answers.{ReadyToRead, Done};
 ghost use Rattle.compiling.specs.Whole.{Told};
 use conditions::read_whole;
 use heads::read_action;
@@ -62,7 +62,7 @@ fn read_first(
     number: usize,
     same: bool,
 ) -> Answer
-    requires { ⌜ Ready (now classes) (now text) (number + 1) t ⌝ }
+    requires { ⌜ ReadyToRead (now classes) (now text) (number + 1) t ⌝ }
     ensures { λ r. ⌜ Done (λ e p. partEntry p ∷ []) (now (text .entry)) (now (seen .entry)) (t .start + 1) number same (now (table .entry)) (now (table .exit))
         (need kinds.leftRound (need kinds.principalWord (before kinds.comma read-principal)) (stream (now (text .entry)) t)) r ⌝ }
 {
@@ -85,7 +85,7 @@ fn read_second(
     number: usize,
     same: bool,
 ) -> Answer
-    requires { ⌜ Ready (now classes) (now text) (number + 1) t ⌝ }
+    requires { ⌜ ReadyToRead (now classes) (now text) (number + 1) t ⌝ }
     ensures { λ r. ⌜ Done (λ e. actionEntries) (now (text .entry)) (now (seen .entry)) (t .start) number same (now (table .entry)) (now (table .exit))
         (need kinds.actionWord (before kinds.comma read-action) (stream (now (text .entry)) t)) r ⌝ }
 {
@@ -107,7 +107,7 @@ fn read_third(
     number: usize,
     same: bool,
 ) -> Answer
-    requires { ⌜ Ready (now classes) (now text) (number + 1) t ⌝ }
+    requires { ⌜ ReadyToRead (now classes) (now text) (number + 1) t ⌝ }
     ensures { λ r. ⌜ Done (λ e p. partEntry p ∷ []) (now (text .entry)) (now (seen .entry)) (t .start) number same (now (table .entry)) (now (table .exit))
         (need kinds.resourceWord (before kinds.rightRound read-resource) (stream (now (text .entry)) t)) r ⌝ }
 {
@@ -134,7 +134,7 @@ fn read_when(
     number: usize,
     same: bool,
 ) -> Answer
-    requires { ⌜ Ready (now classes) (now text) (number + 1) t × (length (now text) ≤ 8192) ⌝ }
+    requires { ⌜ ReadyToRead (now classes) (now text) (number + 1) t × (length (now text) ≤ 8192) ⌝ }
     ensures { λ r. ⌜ Done conditionEntries (now (text .entry)) (now (seen .entry)) (t .start - 1) number same (now (table .entry)) (now (table .exit))
         (read-when (stream (now (text .entry)) t)) r ⌝ }
 {
@@ -161,7 +161,7 @@ fn read_policy(
     number: usize,
     same: bool,
 ) -> Answer
-    requires { ⌜ Ready (now classes) (now text) (number + 1) t × (length (now text) ≤ 8192) ⌝ }
+    requires { ⌜ ReadyToRead (now classes) (now text) (number + 1) t × (length (now text) ≤ 8192) ⌝ }
     ensures { λ r. ⌜ Done policyEntries (now (text .entry)) (now (seen .entry)) (t .start - 1) number same (now (table .entry)) (now (table .exit))
         (read-policy permits (stream (now (text .entry)) t)) r ⌝ }
 {

@@ -11,7 +11,7 @@ ghost use Rattle.tokens.specs.Tokens.{tokenAt, Reads};
 ghost use Rattle.reading.specs.Lexemes.{lexeme, stream};
 ghost use Rattle.grammar.specs.Parser.{noLevel, read-condition, read-conjunction, read-disjunction, read-negated, read-bracketed, read-conditional};
 ghost use Rattle.table.specs.Entries.{treeEntries};
-ghost use Rattle.parts.specs.Answers.{Ready, Done, freeOf, turnedAway};
+ghost use Rattle.parts.specs.Answers.{ReadyToRead, Done, freeOf, turnedAway};
 ghost use Rattle.conditions.specs.Joining.{ReadyAt, Closes, Joins, wordAfter};
 ghost use Rattle.conditions.specs.Shortened.{wide, shortOf, token, tokenOf, withEntries};
 use leaves::read_operator;
@@ -180,7 +180,7 @@ fn read_flat(
     number: usize,
     same: bool,
 ) -> Answer
-    requires { ⌜ Ready (now classes) (now text) number t ⌝ }
+    requires { ⌜ ReadyToRead (now classes) (now text) number t ⌝ }
     ensures { λ r. ⌜ Done treeEntries (now (text .entry)) (now (seen .entry)) (t .start) number same (now (table .entry)) (now (table .exit))
         (read-condition 0 (stream (now (text .entry)) t)) r ⌝ }
 {
@@ -215,7 +215,7 @@ fn read_plain(
     number: usize,
     same: bool,
 ) -> Short
-    requires { ⌜ Ready (now classes) (now (now text)) number (token kind start end) × (length (now (now text)) ≤ 8192) ⌝ }
+    requires { ⌜ ReadyToRead (now classes) (now (now text)) number (token kind start end) × (length (now (now text)) ≤ 8192) ⌝ }
     ensures done { λ r. ⌜ Done treeEntries (now (now (text .entry))) (now (now (seen .entry))) start number same (now (table .entry)) (now (table .exit))
         (read-condition 0 (stream (now (now (text .entry))) (token kind start end))) (wide r) ⌝ }
     ensures plain { λ r. ⌜ r ≡ shortOf (wide r) ⌝ }

@@ -10,7 +10,7 @@ use Rattle.table.specs.Entries.{policiesEntries}
 use Rattle.slices.specs.Parts.{Begins}
 use Rattle.table.specs.Layout.{bytesOf}
 use Rattle.table.proofs.Holding.{starts-decides, held-starts}
-use Rattle.stored.specs.Stored.{Says}
+use Rattle.stored.specs.Stored.{TextSays}
 use Rattle.stored.specs.ReadBack.{policiesAt}
 use Rattle.stored.specs.Ready.{ReadyPolicies}
 use Rattle.stored.proofs.Theorems.{compiled-says, compiled-ready}
@@ -44,7 +44,7 @@ module _ (text table : List ℕ) (policies entries : ℕ) (h : heldOf text table
   unfolding HeldRightly
   holds = held-rightly text table policies entries h
 
-  says : Says text (holds .value)
+  says : TextSays text (holds .value)
   unfolding said
   says = record { short = holds .short; read = holds .is }
 

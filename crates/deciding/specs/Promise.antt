@@ -13,7 +13,7 @@ use Rattle.compiling.specs.Outcome.{mostBytes, compiledBytes}
 use Rattle.compiling.specs.Promise.{Begun}
 use Rattle.bags.specs.Sections.{isBag}
 use Rattle.meaning.specs.Targets.{Request, isSystem, isSubject, isAction, isResource}
-use Rattle.meaning.specs.Decisions.{Some, Names}
+use Rattle.meaning.specs.Decisions.{SomeSatisfied, NamesPolicy}
 use Rattle.deciding.specs.Answers.{viewOf, answerOf, saidOf, saysYes}
 use Rattle.deciding.specs.declared.Answer.{Answer}
 
@@ -58,8 +58,8 @@ pub record Heard (text table bag : List ℕ) (q : Request) (ps : List Policy) : 
 pub record Granted (text table bag : List ℕ) (q : Request) : Type 0 where
   pub policies : List Policy
   pub heard : Heard text table bag q policies
-  pub permit : Some text (viewOf bag) q policies true
-  pub no-forbid : Some text (viewOf bag) q policies false → ⊥
+  pub permit : SomeSatisfied text (viewOf bag) q policies true
+  pub no-forbid : SomeSatisfied text (viewOf bag) q policies false → ⊥
 
 -- A request gets yes exactly if the subject is the system, or some permit is satisfied and no forbid is.
 unfoldable pub YesExactly : Type 0
@@ -67,7 +67,7 @@ YesExactly = (text table bag : List ℕ) (q : Request) → (saysYes (answerOf te
 
 -- For any subject but the system the answer names the lowest-numbered satisfied forbid, else the lowest-numbered satisfied permit, else none; for the system it names none.
 unfoldable pub NamedRightly : Type 0
-NamedRightly = (text table bag : List ℕ) (q : Request) (ps : List Policy) → Heard text table bag q ps → Names text (viewOf bag) q ps (saidOf (answerOf text table bag q) .policy)
+NamedRightly = (text table bag : List ℕ) (q : Request) (ps : List Policy) → Heard text table bag q ps → NamesPolicy text (viewOf bag) q ps (saidOf (answerOf text table bag q) .policy)
 
 -- The system gets outcome 4 and no policy, whatever else is given.
 unfoldable pub SystemNamesNone : Type 0

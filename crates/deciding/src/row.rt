@@ -5,7 +5,7 @@ ghost use lib.ListN.{length};
 ghost use Rattle.grammar.specs.Rules.{principalTypes, resourceTypes};
 ghost use Rattle.stored.specs.ReadBack.{policiesAt};
 ghost use Rattle.stored.specs.Ready.{ReadyPolicies, Last};
-ghost use Rattle.views.specs.Rows.{rowView, Stands};
+ghost use Rattle.views.specs.Rows.{rowView, RowStands};
 ghost use Rattle.meaning.specs.Conditions.{isYes};
 ghost use Rattle.meaning.specs.Targets.{typeIn};
 ghost use Rattle.meaning.specs.Decisions.{byNumbers, policiesDecide};
@@ -51,7 +51,7 @@ pub fn counts<'a>(
     resource_type: usize,
 ) -> bool
     requires { ⌜ Last (now text) (now table) end x ⌝ }
-    requires { ⌜ Stands (now s) p n (now heads) (now values) ⌝ }
+    requires { ⌜ RowStands (now s) p n (now heads) (now values) ⌝ }
     requires { ⌜ «subject_type» ≡ typeIn principalTypes (now subject) ⌝ }
     requires { ⌜ «resource_type» ≡ typeIn resourceTypes (now resource) ⌝ }
     ensures { λ r. ⌜ r ≡ countsOf known (now (text .entry)) (rowView (now (s .entry)) p n (now (heads .entry)) (now (values .entry)))
@@ -121,7 +121,7 @@ pub fn decision<'a>(
 ) -> Decision
     requires { ⌜ ReadyPolicies (now text) (now table) entries ⌝ }
     requires { ⌜ policies ≡ length (policiesAt (now table) entries) ⌝ }
-    requires { ⌜ Stands (now s) p n (now heads) (now values) ⌝ }
+    requires { ⌜ RowStands (now s) p n (now heads) (now values) ⌝ }
     requires { ⌜ «subject_type» ≡ typeIn principalTypes (now subject) ⌝ }
     requires { ⌜ «resource_type» ≡ typeIn resourceTypes (now resource) ⌝ }
     ensures { λ r. ⌜ r ≡ policiesDecide (now (text .entry)) (rowView (now (s .entry)) p n (now (heads .entry)) (now (values .entry)))

@@ -16,7 +16,7 @@ use Rattle.compiling.proofs.Promised.{begins-exactly}
 use Rattle.bags.specs.Sections.{isBag}
 use Rattle.views.specs.Meaning.{View}
 use Rattle.meaning.specs.Targets.{Request, isSystem}
-use Rattle.meaning.specs.Decisions.{Numbered, first, later, Some, Names, the-system as nobody, a-forbid, a-permit, none-named, byNumbers, policiesDecide, decisionOf, outcomeOf, policyOf, isAllowed}
+use Rattle.meaning.specs.Decisions.{Numbered, first, later, SomeSatisfied, NamesPolicy, the-system as nobody, a-forbid, a-permit, none-named, byNumbers, policiesDecide, decisionOf, outcomeOf, policyOf, isAllowed}
 use Rattle.meaning.specs.Decisions as meaning
 use Rattle.meaning.specs.declared.Decision.{Decision}
 use Rattle.meaning.specs.declared.Decision.the-variants.{Allowed, Forbidden, Nothing}
@@ -95,20 +95,20 @@ module _ (text : List ℕ) (view : View) (q : Request) (ps : List Policy) where
   unfolding decisionOf outcomeOf
   four-for-system s = rw s
 
-  allowed-then : isSystem (q .subject) ≡ false → isAllowed decision ≡ true → Some text view q ps false → ⊥
+  allowed-then : isSystem (q .subject) ≡ false → isAllowed decision ≡ true → SomeSatisfied text view q ps false → ⊥
   unfolding meaning.YesExactly
   allowed-then s y = ⊎-elim (λ t. absurd (meaning-proofs.never s t)) (λ w. w .1) (meaning-proofs.yes-exactly text view q ps .0 y)
 
-  permit-allowed : Some text view q ps true → (Some text view q ps false → ⊥) → isAllowed decision ≡ true
+  permit-allowed : SomeSatisfied text view q ps true → (SomeSatisfied text view q ps false → ⊥) → isAllowed decision ≡ true
   unfolding meaning.YesExactly
   permit-allowed p f = meaning-proofs.yes-exactly text view q ps .1 (inr (p, f))
 
-  outcome-named : (n : ℕ) → policyOf decision ≡ n → Names text view q ps n → OutcomeIs text view q ps (outcomeOf decision) n
+  outcome-named : (n : ℕ) → policyOf decision ≡ n → NamesPolicy text view q ps n → OutcomeIs text view q ps (outcomeOf decision) n
   outcome-named n e (nobody s) = rw (four-for-system s) (by-system s)
   outcome-named n e (a-forbid s l) =
-      let named : 0 < policyOf decision = rw e (from-one (l .bites .numbered)) in
-      rw (two-if-named (by-policies s) (λ y. allowed-then s y (record { number = n; bites = l .bites })) named) (by-forbid s l)
-  outcome-named n e (a-permit s f l) = rw (one-if-allowed (by-policies s) (permit-allowed (record { number = n; bites = l .bites }) f)) (by-permit s f l)
+      let named : 0 < policyOf decision = rw e (from-one (l .satisfied-as .numbered)) in
+      rw (two-if-named (by-policies s) (λ y. allowed-then s y (record { number = n; satisfied-as = l .satisfied-as })) named) (by-forbid s l)
+  outcome-named n e (a-permit s f l) = rw (one-if-allowed (by-policies s) (permit-allowed (record { number = n; satisfied-as = l .satisfied-as }) f)) (by-permit s f l)
   outcome-named n e (none-named s f g) = rw (three-if-none (by-policies s) e) (by-none s f g)
 
 -- what the policies that a text says decide over a view
@@ -127,7 +127,7 @@ yes-over text view q ps says = rw (policies-said text ps (read-as text ps says))
   λ y. meaning-proofs.yes-exactly text view q ps .1 (⊎-elim inl (λ g. inr (of-these g)) y),
 )
   where
-    of-these : Granted text view q → Some text view q ps true × (Some text view q ps false → ⊥)
+    of-these : Granted text view q → SomeSatisfied text view q ps true × (SomeSatisfied text view q ps false → ⊥)
     of-these g = rw (← one-reading text (g .policies) ps (g .says) says) (g .permit, g .no-forbid)
 
 -- ---- deciding
@@ -212,15 +212,15 @@ module _ (text table bag : List ℕ) (q : Request) where
   unfolding decideSays saidOf outcomeOf policyOf
   system-names-none s = rw (← the-system text table bag q s)
 
-  names-nobody : isSystem (q .subject) ≡ true → (ps : List Policy) → Names text (viewOf bag) q ps (decideSays text table bag q .policy)
+  names-nobody : isSystem (q .subject) ≡ true → (ps : List Policy) → NamesPolicy text (viewOf bag) q ps (decideSays text table bag q .policy)
   names-nobody s ps = rw (system-names-none s) (nobody s)
 
-  names : Heard → (ps : List Policy) → Says text ps → Names text (viewOf bag) q ps (decideSays text table bag q .policy)
+  names : Heard → (ps : List Policy) → Says text ps → NamesPolicy text (viewOf bag) q ps (decideSays text table bag q .policy)
   unfolding decideSays deciding.NamedRightly
   names (of-the-system s) ps says = names-nobody s ps
   names (of-another h) ps says = deciding-proofs.named-rightly text table bag q ps (h ps says)
 
-  pub named-rightly : (ps : List Policy) → decideSays text table bag q .refusal ≡ 0 → Says text ps → Names text (viewOf bag) q ps (decideSays text table bag q .policy)
+  pub named-rightly : (ps : List Policy) → decideSays text table bag q .refusal ≡ 0 → Says text ps → NamesPolicy text (viewOf bag) q ps (decideSays text table bag q .policy)
   named-rightly ps e = names (heard e) ps
 
   -- ---- over a view that is the bag's

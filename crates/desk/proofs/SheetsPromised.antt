@@ -55,10 +55,10 @@ row-listed text question q ps row says =
     let yes = yes-over text (viewOfRow question row) q ps says in
     (λ m. let h = both .0 m in (h .1, yes .0 (h .2)), λ h. both .1 (zero-le, h .0, yes .1 (h .1)))
 
-pub decided-alike : (text table question : List ℕ) (q : Request) (row : ℕ) (bag : List ℕ) → isQuestion question ≡ true → decideSays text table bag q .refusal ≡ 0
+pub decided-alike : (text table question : List ℕ) (q : Request) (row : ℕ) (bag : List ℕ) → decideSays text table bag q .refusal ≡ 0
     → Shows bag question row → (decideSays text table bag q .outcome ≡ outcomeOf (decisions text question q row)) × (decideSays text table bag q .policy ≡ policyOf (decisions text question q row))
 unfolding decisionBy
-decided-alike text table question q row bag form e shows = decided-over text table bag q e (viewOfRow question row) shows
+decided-alike text table question q row bag e shows = decided-over text table bag q e (viewOfRow question row) shows
 
 -- a decision is yes by its outcome
 no-yes : {r : DeskDecision} → (r .outcome ≡ 1 → ⊥) → (r .outcome ≡ 4 → ⊥) → Yes r → ⊥
@@ -72,11 +72,11 @@ yes-by-outcome (Forbidden n) e = (λ y. absurd (never y), λ y. absurd (no-yes (
 yes-by-outcome Nothing e = (λ y. absurd (never y), λ y. absurd (no-yes (λ z. omega arith) (λ z. omega arith) y))
 yes-by-outcome System e = (λ y. system e, λ y. refl)
 
-pub listed-alike : (text table question : List ℕ) (q : Request) (row : ℕ) (bag : List ℕ) → isQuestion question ≡ true → decideSays text table bag q .refusal ≡ 0
+pub listed-alike : (text table question : List ℕ) (q : Request) (row : ℕ) (bag : List ℕ) → decideSays text table bag q .refusal ≡ 0
     → Shows bag question row → row < rowsAsked question → List·Memᴰ row (listedFrom text question q 0) ↔ Yes (decideSays text table bag q)
-listed-alike text table question q row bag form e shows below =
+listed-alike text table question q row bag e shows below =
     let both = lists-yes (decisions text question q) (rowsAsked question) 0 row in
-    let yes = yes-by-outcome (decisions text question q row) (decided-alike text table question q row bag form e shows .0) in
+    let yes = yes-by-outcome (decisions text question q row) (decided-alike text table question q row bag e shows .0) in
     (λ m. yes .0 (both .0 m .2), λ y. both .1 (zero-le, below, yes .1 y))
 
 pub system-rows : (text question : List ℕ) (q : Request) (row : ℕ) → isSystem (q .subject) ≡ true

@@ -25,7 +25,7 @@ use Rattle.views.specs.Meaning as views
 use Rattle.views.specs.Meaning.{View, Datum}
 use Rattle.views.specs.Values.{stringAt, listAt}
 use Rattle.meaning.specs.Targets.{Request, isSystem}
-use Rattle.meaning.specs.Decisions.{Some, Lowest, Names, outcomeOf, policyOf}
+use Rattle.meaning.specs.Decisions.{SomeSatisfied, LowestSatisfied, NamesPolicy, outcomeOf, policyOf}
 use Rattle.deciding.specs.Answers.{viewOf}
 use Rattle.deciding.specs.Promise as deciding
 use Rattle.lookups.specs.Lookups.{lookupOf, startOf, lengthOf}
@@ -83,14 +83,14 @@ pub data Yes : DeskDecision → Type 0 where
 pub record Granted (text : List ℕ) (view : View) (q : Request) : Type 0 where
   pub policies : List Policy
   pub says : Says text policies
-  pub permit : Some text view q policies true
-  pub no-forbid : Some text view q policies false → ⊥
+  pub permit : SomeSatisfied text view q policies true
+  pub no-forbid : SomeSatisfied text view q policies false → ⊥
 
 -- outcome and policy: 1 where a permit decides, 2 where a forbid does, 3 where nothing is satisfied, 4 for the system; the policy number is 0 for 3 and 4
 pub data OutcomeIs (text : List ℕ) (view : View) (q : Request) (ps : List Policy) : ℕ → ℕ → Type 0 where
-  by-permit : {n : ℕ} → isSystem (q .subject) ≡ false → (Some text view q ps false → ⊥) → Lowest text view q ps true n → OutcomeIs text view q ps 1 n
-  by-forbid : {n : ℕ} → isSystem (q .subject) ≡ false → Lowest text view q ps false n → OutcomeIs text view q ps 2 n
-  by-none : isSystem (q .subject) ≡ false → (Some text view q ps false → ⊥) → (Some text view q ps true → ⊥) → OutcomeIs text view q ps 3 0
+  by-permit : {n : ℕ} → isSystem (q .subject) ≡ false → (SomeSatisfied text view q ps false → ⊥) → LowestSatisfied text view q ps true n → OutcomeIs text view q ps 1 n
+  by-forbid : {n : ℕ} → isSystem (q .subject) ≡ false → LowestSatisfied text view q ps false n → OutcomeIs text view q ps 2 n
+  by-none : isSystem (q .subject) ≡ false → (SomeSatisfied text view q ps false → ⊥) → (SomeSatisfied text view q ps true → ⊥) → OutcomeIs text view q ps 3 0
   by-system : isSystem (q .subject) ≡ true → OutcomeIs text view q ps 4 0
 
 pub record DemandTwo : Type 0 where
@@ -113,7 +113,7 @@ pub record DemandTwo : Type 0 where
       → Yes (decideSays text table bag q) ↔ ((isSystem (q .subject) ≡ true) ⊎ Granted text (viewOf bag) q)
   -- For any subject but the system the answer names the lowest-numbered satisfied forbid, else the lowest-numbered satisfied permit, else none; for the system it names none.
   pub named-rightly : (text table bag : List ℕ) (q : Request) (ps : List Policy) → decideSays text table bag q .refusal ≡ 0 → Says text ps
-      → Names text (viewOf bag) q ps (decideSays text table bag q .policy)
+      → NamesPolicy text (viewOf bag) q ps (decideSays text table bag q .policy)
   -- with its outcome
   pub outcome-rightly : (text table bag : List ℕ) (q : Request) (ps : List Policy) → decideSays text table bag q .refusal ≡ 0 → Says text ps
       → OutcomeIs text (viewOf bag) q ps (decideSays text table bag q .outcome) (decideSays text table bag q .policy)
@@ -149,9 +149,9 @@ pub record DemandThree : Type 0 where
   pub row-listed : (text question : List ℕ) (q : Request) (ps : List Policy) (row : ℕ) → Says text ps
       → List·Memᴰ row (listedFrom text question q 0) ↔ ((row < rowsAsked question) × ((isSystem (q .subject) ≡ true) ⊎ Granted text (viewOfRow question row) q))
   -- a row is decided as demand 2 decides over a bag that has its attributes, and is listed exactly if demand 2 answers that with yes
-  pub decided-alike : (text table question : List ℕ) (q : Request) (row : ℕ) (bag : List ℕ) → isQuestion question ≡ true → decideSays text table bag q .refusal ≡ 0 → Shows bag question row
+  pub decided-alike : (text table question : List ℕ) (q : Request) (row : ℕ) (bag : List ℕ) → decideSays text table bag q .refusal ≡ 0 → Shows bag question row
       → (decideSays text table bag q .outcome ≡ outcomeOf (decisions text question q row)) × (decideSays text table bag q .policy ≡ policyOf (decisions text question q row))
-  pub listed-alike : (text table question : List ℕ) (q : Request) (row : ℕ) (bag : List ℕ) → isQuestion question ≡ true → decideSays text table bag q .refusal ≡ 0 → Shows bag question row
+  pub listed-alike : (text table question : List ℕ) (q : Request) (row : ℕ) (bag : List ℕ) → decideSays text table bag q .refusal ≡ 0 → Shows bag question row
       → row < rowsAsked question → List·Memᴰ row (listedFrom text question q 0) ↔ Yes (decideSays text table bag q)
   -- a question has as many rows as its columns' candidates have combinations
   pub rows-counted : (question : List ℕ) → isQuestion question ≡ true → (rowsSay question ≡ rowsAsked question) × (rowsAsked question ≡ product (countsAsked question))

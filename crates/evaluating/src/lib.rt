@@ -4,7 +4,7 @@ ghost use mathlib.Core.Path.{_≡_};
 ghost use mathlib.Core.Bool.{cond, not, _&&_, _||_};
 ghost use Prim.Native.Nat.{_-_, _<_};
 ghost use lib.Dec.{eqb, ltb};
-ghost use Rattle.views.specs.Rows.{rowView, Stands};
+ghost use Rattle.views.specs.Rows.{rowView, RowStands};
 ghost use Rattle.stored.specs.ReadBack.{treeAt};
 ghost use Rattle.stored.specs.Ready.{Ready};
 ghost use Rattle.meaning.specs.Values.{withAction};
@@ -106,7 +106,7 @@ pub fn evaluate<'a>(
     action: &'a [u8],
 ) -> Verdict
     requires { ⌜ Ready (now text) (now table) end ⌝ }
-    requires { ⌜ Stands (now s) p n (now heads) (now values) ⌝ }
+    requires { ⌜ RowStands (now s) p n (now heads) (now values) ⌝ }
     ensures { λ r. ⌜ r ≡ verdict (now (text .entry)) (withAction (now (action .entry)) (rowView (now (s .entry)) p n (now (heads .entry)) (now (values .entry)))) (treeAt (now (table .entry)) end) ⌝ }
 {
     let mut at = end;

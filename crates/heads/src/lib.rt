@@ -8,7 +8,7 @@ ghost use Rattle.reading.specs.Lexemes.{stream};
 ghost use Rattle.grammar.specs.Rules.{typeAmong, principalTypes, resourceTypes};
 ghost use Rattle.grammar.specs.Parser.{read-type, read-principal, read-action, read-resource};
 ghost use Rattle.table.specs.Entries.{partEntry, actionEntries};
-ghost use Rattle.parts.specs.Answers.{Ready, Done};
+ghost use Rattle.parts.specs.Answers.{ReadyToRead, Done};
 ghost use Rattle.parts.specs.Names.{typesOf};
 use parts::answers::Answer;
 use parts::answers::counted;
@@ -70,7 +70,7 @@ fn read_type(
     number: usize,
     same: bool,
 ) -> Answer
-    requires { ⌜ Ready (now classes) (now text) number t ⌝ }
+    requires { ⌜ ReadyToRead (now classes) (now text) number t ⌝ }
     ensures { λ r. ⌜ Done (λ e p. partEntry p ∷ []) (now (text .entry)) (now (seen .entry)) (t .start) number same (now (table .entry)) (now (table .exit))
         (read-type (typesOf resource) (stream (now (text .entry)) t)) r ⌝ }
 {
@@ -108,7 +108,7 @@ pub fn read_principal(
     number: usize,
     same: bool,
 ) -> Answer
-    requires { ⌜ Ready (now classes) (now text) (number + 1) t ⌝ }
+    requires { ⌜ ReadyToRead (now classes) (now text) (number + 1) t ⌝ }
     ensures { λ r. ⌜ Done (λ e p. partEntry p ∷ []) (now (text .entry)) (now (seen .entry)) (t .start - 1) number same (now (table .entry)) (now (table .exit))
         (read-principal (stream (now (text .entry)) t)) r ⌝ }
 {
@@ -140,7 +140,7 @@ pub fn read_action(
     number: usize,
     same: bool,
 ) -> Answer
-    requires { ⌜ Ready (now classes) (now text) (number + 1) t ⌝ }
+    requires { ⌜ ReadyToRead (now classes) (now text) (number + 1) t ⌝ }
     ensures { λ r. ⌜ Done (λ e. actionEntries) (now (text .entry)) (now (seen .entry)) (t .start - 1) number same (now (table .entry)) (now (table .exit))
         (read-action (stream (now (text .entry)) t)) r ⌝ }
 {
@@ -177,7 +177,7 @@ pub fn read_resource(
     number: usize,
     same: bool,
 ) -> Answer
-    requires { ⌜ Ready (now classes) (now text) (number + 1) t ⌝ }
+    requires { ⌜ ReadyToRead (now classes) (now text) (number + 1) t ⌝ }
     ensures { λ r. ⌜ Done (λ e p. partEntry p ∷ []) (now (text .entry)) (now (seen .entry)) (t .start - 1) number same (now (table .entry)) (now (table .exit))
         (read-resource (stream (now (text .entry)) t)) r ⌝ }
 {

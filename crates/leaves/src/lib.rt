@@ -12,7 +12,7 @@ ghost use Rattle.grammar.specs.Policies.{Span, span, Root, Comparator, Operand,
 ghost use Rattle.grammar.specs.Parser as parser;
 ghost use Rattle.grammar.specs.Parser.{read-operand, read-bare, read-in, read-pattern, read-operator, read-call, read-rest, read-rooted, noOperator, spannedBy};
 ghost use Rattle.table.specs.Entries.{operandEntry, treeEntries, comparatorKind, whichKind};
-ghost use Rattle.parts.specs.Answers.{Ready, Done, callAfter};
+ghost use Rattle.parts.specs.Answers.{ReadyToRead, Done, callAfter};
 ghost use Rattle.parts.specs.Names.{rootFrom, comparing};
 use crate::likes::is_pattern;
 use parts::answers::Answer;
@@ -83,7 +83,7 @@ fn read_compared(
     number: usize,
     same: bool,
 ) -> Answer
-    requires { ⌜ Ready (now classes) (now text) (number + 2) t ⌝ }
+    requires { ⌜ ReadyToRead (now classes) (now text) (number + 2) t ⌝ }
     ensures { λ r. ⌜ ((a : Operand) → operandEntry a ≡ left → (c : Comparator) → comparatorKind c ≡ kind → Done treeEntries (now (text .entry)) (now (seen .entry)) (t .start - 2) number same
         (now (table .entry)) (now (table .exit)) (mapped (compare c a) read-operand (stream (now (text .entry)) t)) r) ⌝ }
 {
@@ -112,7 +112,7 @@ fn read_pattern(
     number: usize,
     same: bool,
 ) -> Answer
-    requires { ⌜ Ready (now classes) (now text) (number + 2) t ⌝ }
+    requires { ⌜ ReadyToRead (now classes) (now text) (number + 2) t ⌝ }
     ensures { λ r. ⌜ ((a : Operand) → operandEntry a ≡ left → Done treeEntries (now (text .entry)) (now (seen .entry)) (t .start - 2) number same
         (now (table .entry)) (now (table .exit)) (read-pattern a (stream (now (text .entry)) t)) r) ⌝ }
 {
@@ -150,7 +150,7 @@ fn read_in(
     number: usize,
     same: bool,
 ) -> Answer
-    requires { ⌜ Ready (now classes) (now text) (number + 2) t ⌝ }
+    requires { ⌜ ReadyToRead (now classes) (now text) (number + 2) t ⌝ }
     ensures { λ r. ⌜ ((a : Operand) → operandEntry a ≡ left → Done treeEntries (now (text .entry)) (now (seen .entry)) (t .start - 2) number same
         (now (table .entry)) (now (table .exit)) (read-in a (stream (now (text .entry)) t)) r) ⌝ }
 {
@@ -212,7 +212,7 @@ pub fn read_operator(
     number: usize,
     same: bool,
 ) -> Answer
-    requires { ⌜ Ready (now classes) (now text) (number + 1) t ⌝ }
+    requires { ⌜ ReadyToRead (now classes) (now text) (number + 1) t ⌝ }
     ensures { λ r. ⌜ ((a : Operand) → operandEntry a ≡ left → Done treeEntries (now (text .entry)) (now (seen .entry)) (t .start - 1) number same
         (now (table .entry)) (now (table .exit)) (read-operator a (stream (now (text .entry)) t)) r) ⌝ }
 {
@@ -254,7 +254,7 @@ fn read_call(
     number: usize,
     same: bool,
 ) -> Answer
-    requires { ⌜ Ready (now classes) (now text) (number + 1) t ⌝ }
+    requires { ⌜ ReadyToRead (now classes) (now text) (number + 1) t ⌝ }
     ensures { λ r. ⌜ ((w : Which) → whichKind w ≡ kind → (root : Root) (p : Span) → operandEntry (attribute root p) ≡ left → Done treeEntries (now (text .entry)) (now (seen .entry)) (t .start - 1) number same
         (now (table .entry)) (now (table .exit)) (read-call w root p (stream (now (text .entry)) t)) r) ⌝ }
 {
@@ -283,7 +283,7 @@ fn read_rest(
     number: usize,
     same: bool,
 ) -> Answer
-    requires { ⌜ Ready (now classes) (now text) (number + 1) (path .next) ⌝ }
+    requires { ⌜ ReadyToRead (now classes) (now text) (number + 1) (path .next) ⌝ }
     ensures { λ r. ⌜ ((way : parser.Way) → spannedBy way ≡ span (path .start) (path .end) → callAfter way ≡ path .call → Done treeEntries (now (text .entry)) (now (seen .entry))
         (path .next .start - 1) number same (now (table .entry)) (now (table .exit)) (read-rest (rootFrom root) way (stream (now (text .entry)) (path .next))) r) ⌝ }
 {
@@ -319,7 +319,7 @@ pub fn read_rooted(
     number: usize,
     same: bool,
 ) -> Answer
-    requires { ⌜ Ready (now classes) (now text) (number + 1) t ⌝ }
+    requires { ⌜ ReadyToRead (now classes) (now text) (number + 1) t ⌝ }
     ensures { λ r. ⌜ Done treeEntries (now (text .entry)) (now (seen .entry)) (t .start - 1) number same (now (table .entry)) (now (table .exit))
         (read-rooted (rootFrom root) (stream (now (text .entry)) t)) r ⌝ }
 {

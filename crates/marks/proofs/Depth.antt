@@ -13,7 +13,7 @@ use Rattle.table.specs.declared.Entry.{Entry}
 use Rattle.table.specs.Entries.{entry, effectKind, conditionEntries, targetEntries, policyEntries, policiesEntries}
 use Rattle.table.specs.Layout.{entryAt}
 use Rattle.table.proofs.Counting.{policies-append}
-use Rattle.stored.specs.Stored.{Stands, StoredPolicies, StoredPolicy}
+use Rattle.stored.specs.Stored.{EntriesStand, StoredPolicies, StoredPolicy}
 use Rattle.stored.specs.ReadBack.{spanOf, policyOf, policiesAt}
 use Rattle.stored.specs.Ready.{ReadyPolicies, Last}
 use Rattle.stored.proofs.Standing.{stands-right, stands-head, stands-tail, stands-before, stands-last}
@@ -100,7 +100,7 @@ module _ (t table s : List ℕ) (n : ℕ) (heads : List ℕ) (but : ℕ) where
 
 -- ---- entries that stand in a table
 
-each-stands : {T : List ℕ} {P : Entry → Type 0} (first end : ℕ) (es : List Entry) → Stands T first end es → ((i : ℕ) → first ≤ i → i < end → P (entryAt T i)) → Each P es
+each-stands : {T : List ℕ} {P : Entry → Type 0} (first end : ℕ) (es : List Entry) → EntriesStand T first end es → ((i : ℕ) → first ≤ i → i < end → P (entryAt T i)) → Each P es
 each-stands first end [] s f = none-left
 each-stands {P = P} first end (x ∷ es) s f =
     let e = s .ends in
@@ -108,7 +108,7 @@ each-stands {P = P} first end (x ∷ es) s f =
 
 -- the condition of a policy stands between the entry that its own entry says and its own
 condition-stands : {T : List ℕ} {end : ℕ} (p : Policy) → StoredPolicy T end p
-    → Stands T (entryAt T (end - 1) .second) (end - 1) (conditionEntries (entryAt T (end - 1) .second) (p .condition))
+    → EntriesStand T (entryAt T (end - 1) .second) (end - 1) (conditionEntries (entryAt T (end - 1) .second) (p .condition))
 unfolding policyEntries
 condition-stands {T} {end} p h =
     let first = h .first in let s = h .stands in
@@ -117,12 +117,12 @@ condition-stands {T} {end} p h =
     let x = entry (effectKind (p .permits)) first m in
     let inner = stands-before (target ++ conditionEntries m (p .condition)) x s in
     let is = stands-last (target ++ conditionEntries m (p .condition)) x s in
-    subst (λ (y : Entry). Stands T (y .second) (end - 1) (conditionEntries (y .second) (p .condition))) (sym is) (stands-right target (conditionEntries m (p .condition)) inner)
+    subst (λ (y : Entry). EntriesStand T (y .second) (end - 1) (conditionEntries (y .second) (p .condition))) (sym is) (stands-right target (conditionEntries m (p .condition)) inner)
 
 stored-last : {T : List ℕ} {end : ℕ} (ps : List Policy) (p : Policy) → StoredPolicies T end (ps ++ p ∷ []) → StoredPolicy T end p
 stored-last {T} {end} ps p h =
     let f = 0 + length (policiesEntries 0 ps) in
-    record { first = f; stands = stands-right (policiesEntries 0 ps) (policyEntries f p) (subst (Stands T 0 end) (policies-append 0 ps p) (h .stands)) }
+    record { first = f; stands = stands-right (policiesEntries 0 ps) (policyEntries f p) (subst (EntriesStand T 0 end) (policies-append 0 ps p) (h .stands)) }
 
 -- ---- the last policy is steady
 
@@ -145,7 +145,7 @@ pub last-steady : {t table : List ℕ} {end : ℕ} {x : Entry} → ReadyPolicies
     → Steady t s n heads (policyOf table end x) (but - 1) (depthFrom (end - 1 - x .second) t table s n heads but (x .second) 0)
 last-steady {t} {table} {end} {x} r is last s n heads but =
     let stored = stored-last (policiesAt table (x .first)) (policyOf table end x) (subst (StoredPolicies table end) (last .is) (r .stored)) in
-    let stands : Stands table (x .second) (end - 1) (conditionEntries (x .second) (policyOf table end x .condition)) = rw is (rw is at (condition-stands (policyOf table end x) stored)) in
+    let stands : EntriesStand table (x .second) (end - 1) (conditionEntries (x .second) (policyOf table end x .condition)) = rw is (rw is at (condition-stands (policyOf table end x) stored)) in
     record {
       same = λ p q u v a own.
           policy-agrees t (rowView s p n heads u) (rowView s p n heads v) q (policyOf table end x) (last .placed) (x .second)

@@ -15,7 +15,7 @@ use Rattle.questions.proofs.PlaceLaws.{set-cases}
 use Rattle.views.specs.Rows.{rowView}
 use Rattle.meaning.specs.Targets.{Request}
 use Rattle.meaning.specs.Decisions.{satisfied, Numbered}
-use Rattle.marks.specs.Marks.{Alike, Steady, ownOf, Depths, Says, RowSays, satBy, Marked, Carried, Chosen, Met}
+use Rattle.marks.specs.Marks.{Alike, Steady, ownOf, Depths, MarkSays, RowSays, satBy, Marked, Carried, ChosenThere, Met}
 use Rattle.meaning.proofs.Deciding.{numbered-some}
 use Rattle.marks.proofs.Numbering.{numbered-one}
 
@@ -82,22 +82,22 @@ module _ (at j x : ℕ) where
 
 -- ---- marks
 
-says-yes : (b : Bool) → Says (cond b 2 1) b
+says-yes : (b : Bool) → MarkSays (cond b 2 1) b
 says-yes true = record { told = λ n. refl }
 says-yes false = record { told = λ n. refl }
 
 rows-kept : {before after : List ℕ} {i : ℕ} {sat : ℕ → Bool} → ((c : ℕ) → c < 8 → getD after (8 * i + c) 0 ≡ getD before (8 * i + c) 0) → RowSays before i sat → RowSays after i sat
-rows-kept {sat = sat} k r = record { says = λ c h. subst (λ (m : ℕ). Says m (sat c)) (sym (k c h)) (r .says c h) }
+rows-kept {sat = sat} k r = record { says = λ c h. subst (λ (m : ℕ). MarkSays m (sat c)) (sym (k c h)) (r .says c h) }
 
 module _ (stale : Bool) (before mid : List ℕ) (i : ℕ) (forgot : (j : ℕ) → getD mid j 0 ≡ cond (stale && (leb (8 * i) j && ltb j (8 * i + 8))) 0 (getD before j 0)) where
   forgot-says : (sat : ℕ → Bool) → (stale ≡ false → RowSays before i sat) → RowSays mid i sat
   forgot-says sat old = record { says = λ c h. go stale refl c h }
     where
-      go : (b : Bool) → stale ≡ b → (c : ℕ) → c < 8 → Says (getD mid (8 * i + c) 0) (sat c)
+      go : (b : Bool) → stale ≡ b → (c : ℕ) → c < 8 → MarkSays (getD mid (8 * i + c) 0) (sat c)
       go true e c h =
           let z : getD mid (8 * i + c) 0 ≡ 0 = forgot (8 * i + c) ∙ rw (e, le-leb (8 * i) (8 * i + c) (omega arith), lt-ltb (8 * i + c) (8 * i + 8) (omega arith)) in
           record { told = λ n. absurd (n z) }
-      go false e c h = subst (λ (m : ℕ). Says m (sat c)) (sym (forgot (8 * i + c) ∙ rw e)) (old e .says c h)
+      go false e c h = subst (λ (m : ℕ). MarkSays m (sat c)) (sym (forgot (8 * i + c) ∙ rw e)) (old e .says c h)
 
   forgot-others : (i′ c : ℕ) → (i′ ≡ i → ⊥) → c < 8 → getD mid (8 * i′ + c) 0 ≡ getD before (8 * i′ + c) 0
   forgot-others i′ c n h = forgot (8 * i′ + c) ∙ go stale (leb (8 * i) (8 * i′ + c)) (ltb (8 * i′ + c) (8 * i + 8)) refl refl
@@ -119,7 +119,7 @@ module _ (stale : Bool) (before mid : List ℕ) (i : ℕ) (forgot : (j : ℕ) �
       is = is;
       says = record {
         says = λ c l.
-            set-cases mid (8 * i + choice) (cond hit 2 1) 0 fits (λ m. Says m (sat c)) (8 * i + c)
+            set-cases mid (8 * i + choice) (cond hit 2 1) 0 fits (λ m. MarkSays m (sat c)) (8 * i + c)
             (λ e. let k : c ≡ choice = omega arith in rw (k, ← is) (says-yes hit))
             (λ d. forgot-says sat old .says c l);
       };
@@ -139,7 +139,7 @@ set-own (x ∷ l) (suc i) v e = rw (set-own l i v e)
 
 module _ (t s : List ℕ) (p : Sections) (n : ℕ) (heads : List ℕ) (q : Request) where
   -- in the row's own choice
-  pub sat-here : (choices values : List ℕ) (column : ℕ) (policy : Policy) → column < 6 → Chosen s p n choices values
+  pub sat-here : (choices values : List ℕ) (column : ℕ) (policy : Policy) → column < 6 → ChosenThere s p n choices values
       → satBy t s p n heads q values column policy (getD choices column 0) ≡ satisfied t (rowView s p n heads values) q policy
   unfolding satBy
   sat-here choices values column policy h c = rw (set-own values column _ (sym (c .picked column h)))
@@ -172,7 +172,7 @@ module _ (t s : List ℕ) (p : Sections) (n : ℕ) (heads : List ℕ) (q : Reque
         let r = k .marked .right number policy here (omega arith) (omega arith) in
         record {
           says = λ c h.
-              subst (Says (getD marks (8 * (number - 1) + c) 0))
+              subst (MarkSays (getD marks (8 * (number - 1) + c) 0))
               (sat-alike (k .before) values own (getD others (number - 1) 0) from policy (k .six) six small (d .steady number policy here) (ltb-false from (getD others (number - 1) 0) fresh) (k .alike) c) (r .says c h);
         }
 

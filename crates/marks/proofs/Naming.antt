@@ -8,7 +8,7 @@ use borrow.Author.Tests.{leb-true}
 use lib.Dec.{eqb, leb}
 use lib.ListN.{length, getD}
 use Rattle.slices.specs.Same.{same}
-use Rattle.tokens.specs.Table.{listed}
+use Rattle.tokens.specs.Table.{valuesFrom}
 use Rattle.bags.specs.Reading.{byte}
 use Rattle.bags.specs.declared.sections.Sections.{Sections}
 use Rattle.lookups.specs.Values.{valueAt}
@@ -52,7 +52,7 @@ module _ (s heads : List ℕ) (root : ℕ) (path : List ℕ) where
 
   -- what the columns from number i on show of two rows
   abbrev shown : View → List ℕ → ℕ → ℕ → Datum
-  shown base values i n = columnsFirst (map (chosenMeant s) (listed (λ i. chosenAt s (getD heads i 0) (getD values i 0)) i n)) base root path
+  shown base values i n = columnsFirst (map (chosenMeant s) (valuesFrom (λ i. chosenAt s (getD heads i 0) (getD values i 0)) i n)) base root path
 
   naming-shows : (base : View) (u v : List ℕ) (n i : ℕ) → ((j : ℕ) → naming n s heads i root path ≡ j + 1 → getD u j 0 ≡ getD v j 0) → shown base u i n ≡ shown base v i n
   unfolding columnsFirst naming

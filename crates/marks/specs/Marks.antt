@@ -36,12 +36,12 @@ pub record Depths (t s : List ℕ) (n : ℕ) (heads : List ℕ) (ps : List Polic
 -- ---- marks
 
 -- the mark 0 says nothing, 2 says yes and any other no
-pub record Says (mark : ℕ) (b : Bool) : Type 0 where
+pub record MarkSays (mark : ℕ) (b : Bool) : Type 0 where
   pub told : (mark ≡ 0 → ⊥) → eqb mark 2 ≡ b
 
 -- A policy has eight marks, one for each choice in its own column: row i of them says what is so by choice.
 pub record RowSays (marks : List ℕ) (i : ℕ) (sat : ℕ → Bool) : Type 0 where
-  pub says : (c : ℕ) → c < 8 → Says (getD marks (8 * i + c) 0) (sat c)
+  pub says : (c : ℕ) → c < 8 → MarkSays (getD marks (8 * i + c) 0) (sat c)
 
 -- whether a policy is satisfied in the row with these values, but with choice c in its own column
 unfoldable pub satBy : List ℕ → List ℕ → Sections → ℕ → List ℕ → Request → List ℕ → ℕ → Policy → ℕ → Bool
@@ -63,7 +63,7 @@ pub record Carried (t s : List ℕ) (p : Sections) (n : ℕ) (heads : List ℕ) 
   pub long : length marks ≡ 512
 
 -- the row's choices are among eight, and its values stand at their places in the question's columns, which begin behind the sections
-pub record Chosen (s : List ℕ) (p : Sections) (n : ℕ) (choices values : List ℕ) : Type 0 where
+pub record ChosenThere (s : List ℕ) (p : Sections) (n : ℕ) (choices values : List ℕ) : Type 0 where
   pub small : (i : ℕ) → i < 6 → getD choices i 0 < 8
   pub six : length values ≡ 6
   pub picked : (i : ℕ) → i < 6 → getD values i 0 ≡ cell s (p .end + 1) n i (getD choices i 0)

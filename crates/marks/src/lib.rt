@@ -9,11 +9,11 @@ ghost use lib.ListN.{length, getD};
 ghost use Rattle.grammar.specs.Rules.{principalTypes, resourceTypes};
 ghost use Rattle.stored.specs.ReadBack.{policyOf, policiesAt};
 ghost use Rattle.stored.specs.Ready.{ReadyPolicies, Last};
-ghost use Rattle.views.specs.Rows.{rowView, Stands};
+ghost use Rattle.views.specs.Rows.{rowView, RowStands};
 ghost use Rattle.meaning.specs.Targets.{typeIn};
 ghost use Rattle.meaning.specs.Decisions.{satisfied};
 ghost use Rattle.targets.specs.Matching.{request};
-ghost use Rattle.marks.specs.Marks.{Depths, RowSays, Carried, Chosen, Met, DecidedFrom};
+ghost use Rattle.marks.specs.Marks.{Depths, RowSays, Carried, ChosenThere, Met, DecidedFrom};
 use bags::sections::Sections;
 use deciding::row::by_numbers;
 use deciding::row::counts;
@@ -77,7 +77,7 @@ fn met<'a>(
 ) -> bool
     requires { ⌜ (i < 64) × (choice < 8) × (length (now marks) ≡ 512) ⌝ }
     requires { ⌜ Last (now text) (now table) end x ⌝ }
-    requires { ⌜ Stands (now s) p n (now heads) (now values) ⌝ }
+    requires { ⌜ RowStands (now s) p n (now heads) (now values) ⌝ }
     requires { ⌜ «subject_type» ≡ typeIn principalTypes (now subject) ⌝ }
     requires { ⌜ «resource_type» ≡ typeIn resourceTypes (now resource) ⌝ }
     ensures { λ r. ⌜ ((sat : ℕ → Bool) → sat choice ≡ satisfied (now (text .entry)) (rowView (now (s .entry)) p n (now (heads .entry)) (now (values .entry)))
@@ -137,13 +137,13 @@ pub fn decision_from<'a>(
 ) -> Decision
     requires { ⌜ ReadyPolicies (now text) (now table) entries ⌝ }
     requires { ⌜ policies ≡ length (policiesAt (now table) entries) ⌝ }
-    requires { ⌜ Stands (now s) p n (now heads) (now values) ⌝ }
+    requires { ⌜ RowStands (now s) p n (now heads) (now values) ⌝ }
     requires { ⌜ «subject_type» ≡ typeIn principalTypes (now subject) ⌝ }
     requires { ⌜ «resource_type» ≡ typeIn resourceTypes (now resource) ⌝ }
     requires { ⌜ policies ≤ 64 ⌝ }
     requires { ⌜ ((i : ℕ) → getD (now owns) i 0 ≤ 6) ⌝ }
     requires { ⌜ Depths (now text) (now s) n (now heads) (policiesAt (now table) entries) (now owns) (now others) ⌝ }
-    requires { ⌜ Chosen (now s) p n (now choices) (now values) ⌝ }
+    requires { ⌜ ChosenThere (now s) p n (now choices) (now values) ⌝ }
     requires { ⌜ Carried (now text) (now s) p n (now heads) (request (now subject) (now action) (now resource)) (policiesAt (now table) entries)
         (now owns) (now values) from policies (now marks) ⌝ }
     ensures { λ r. ⌜ DecidedFrom (now (text .entry)) (now (s .entry)) p n (now (heads .entry))

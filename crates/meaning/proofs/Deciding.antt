@@ -10,7 +10,7 @@ use borrow.Author.Tests.{not-true}
 use Rattle.grammar.specs.Policies.{Policy}
 use Rattle.views.specs.Meaning.{View}
 use Rattle.meaning.specs.Targets.{Request, isSystem}
-use Rattle.meaning.specs.Decisions.{satisfied, firstOf, byNumbers, forbids, permits, policiesDecide, decisionOf, policyOf, isAllowed, Numbered, first, later, Bites, Some, Lowest, YesExactly, Names, the-system, a-forbid, a-permit, none-named, NamedRightly, OneName}
+use Rattle.meaning.specs.Decisions.{satisfied, firstOf, byNumbers, forbids, permits, policiesDecide, decisionOf, policyOf, isAllowed, Numbered, first, later, SatisfiedAs, SomeSatisfied, LowestSatisfied, YesExactly, NamesPolicy, the-system, a-forbid, a-permit, none-named, NamedRightly, OneName}
 use Rattle.meaning.specs.declared.Decision.{Decision}
 use Rattle.meaning.specs.declared.Decision.the-variants.{Allowed, Forbidden, Nothing, System}
 
@@ -81,16 +81,16 @@ module _ (t : List ℕ) (view : View) (q : Request) (ps : List Policy) where
   }
 
   module _ {effect : Bool} {test : Policy → Bool} (w : Tells effect test) where
-    bites : {m : ℕ} {p : Policy} → Numbered m p ps → test p ≡ true → Bites t view q ps effect m
-    bites {p = p} h e = record { policy = p; numbered = h; effect = w .tells p e .0; satisfied-there = w .tells p e .1 }
+    satisfied-as : {m : ℕ} {p : Policy} → Numbered m p ps → test p ≡ true → SatisfiedAs t view q ps effect m
+    satisfied-as {p = p} h e = record { policy = p; numbered = h; effect = w .tells p e .0; satisfied-there = w .tells p e .1 }
 
     -- no policy of the effect is satisfied, or there is a lowest number of one
-    none-bites : ((m : ℕ) (p : Policy) → Numbered m p ps → test p ≡ true → ⊥) → Some t view q ps effect → ⊥
-    none-bites f s = let b = s .bites in f (s .number) (b .policy) (b .numbered) (w .sees (b .policy) (b .effect) (b .satisfied-there))
+    none-bites : ((m : ℕ) (p : Policy) → Numbered m p ps → test p ≡ true → ⊥) → SomeSatisfied t view q ps effect → ⊥
+    none-bites f s = let b = s .satisfied-as in f (s .number) (b .policy) (b .numbered) (w .sees (b .policy) (b .effect) (b .satisfied-there))
 
-    lowest-bites : {m : ℕ} {p : Policy} → Numbered m p ps → test p ≡ true → ((l : ℕ) (r : Policy) → Numbered l r ps → test r ≡ true → m ≤ l) → Lowest t view q ps effect m
+    lowest-bites : {m : ℕ} {p : Policy} → Numbered m p ps → test p ≡ true → ((l : ℕ) (r : Policy) → Numbered l r ps → test r ≡ true → m ≤ l) → LowestSatisfied t view q ps effect m
     lowest-bites h e low =
-        record { bites = bites h e; lowest = λ l b. low l (b .policy) (b .numbered) (w .sees (b .policy) (b .effect) (b .satisfied-there)) }
+        record { satisfied-as = satisfied-as h e; lowest = λ l b. low l (b .policy) (b .numbered) (w .sees (b .policy) (b .effect) (b .satisfied-there)) }
 
 -- ---- the decision
 
@@ -114,9 +114,9 @@ by-forbid (suc f) g h = refl
 -- what is decided, and why
 data Decided (t : List ℕ) (view : View) (q : Request) (ps : List Policy) (d : Decision) : Type 0 where
   by-system : isSystem (q .subject) ≡ true → d ≡ System → Decided t view q ps d
-  by-a-forbid : (n : ℕ) → isSystem (q .subject) ≡ false → Lowest t view q ps false n → d ≡ Forbidden n → Decided t view q ps d
-  by-a-permit : (n : ℕ) → isSystem (q .subject) ≡ false → (Some t view q ps false → ⊥) → Lowest t view q ps true n → d ≡ Allowed n → Decided t view q ps d
-  by-nobody : isSystem (q .subject) ≡ false → (Some t view q ps false → ⊥) → (Some t view q ps true → ⊥) → d ≡ Nothing → Decided t view q ps d
+  by-a-forbid : (n : ℕ) → isSystem (q .subject) ≡ false → LowestSatisfied t view q ps false n → d ≡ Forbidden n → Decided t view q ps d
+  by-a-permit : (n : ℕ) → isSystem (q .subject) ≡ false → (SomeSatisfied t view q ps false → ⊥) → LowestSatisfied t view q ps true n → d ≡ Allowed n → Decided t view q ps d
+  by-nobody : isSystem (q .subject) ≡ false → (SomeSatisfied t view q ps false → ⊥) → (SomeSatisfied t view q ps true → ⊥) → d ≡ Nothing → Decided t view q ps d
 
 module _ (t : List ℕ) (view : View) (q : Request) (ps : List Policy) where
   others : (f g : ℕ) → isSystem (q .subject) ≡ false → First (forbids t view q) 0 ps f → First (permits t view q) 0 ps g → Decided t view q ps (byNumbers f g)
@@ -140,17 +140,17 @@ module _ (t : List ℕ) (view : View) (q : Request) (ps : List Policy) where
 -- ---- demand 2
 
 -- the lowest number is one
-same-lowest : {t : List ℕ} {view : View} {q : Request} {ps : List Policy} {effect : Bool} {m n : ℕ} → Lowest t view q ps effect m → Lowest t view q ps effect n → m ≡ n
-same-lowest {m = m} {n = n} a b = let x : m ≤ n = a .lowest n (b .bites) in let y : n ≤ m = b .lowest m (a .bites) in omega arith
+same-lowest : {t : List ℕ} {view : View} {q : Request} {ps : List Policy} {effect : Bool} {m n : ℕ} → LowestSatisfied t view q ps effect m → LowestSatisfied t view q ps effect n → m ≡ n
+same-lowest {m = m} {n = n} a b = let x : m ≤ n = a .lowest n (b .satisfied-as) in let y : n ≤ m = b .lowest m (a .satisfied-as) in omega arith
 
-some-of : {t : List ℕ} {view : View} {q : Request} {ps : List Policy} {effect : Bool} {n : ℕ} → Lowest t view q ps effect n → Some t view q ps effect
-some-of {n = n} l = record { number = n; bites = l .bites }
+some-of : {t : List ℕ} {view : View} {q : Request} {ps : List Policy} {effect : Bool} {n : ℕ} → LowestSatisfied t view q ps effect n → SomeSatisfied t view q ps effect
+some-of {n = n} l = record { number = n; satisfied-as = l .satisfied-as }
 
 pub yes-exactly : YesExactly
 unfolding YesExactly isAllowed
 yes-exactly t view q ps = go (decisionOf t view q ps) (decided t view q ps)
   where
-    go : (d : Decision) → Decided t view q ps d → (isAllowed d ≡ true) ↔ ((isSystem (q .subject) ≡ true) ⊎ (Some t view q ps true × (Some t view q ps false → ⊥)))
+    go : (d : Decision) → Decided t view q ps d → (isAllowed d ≡ true) ↔ ((isSystem (q .subject) ≡ true) ⊎ (SomeSatisfied t view q ps true × (SomeSatisfied t view q ps false → ⊥)))
     go d (by-system s e) = rw e ((λ _. inl s), (λ _. refl))
     go d (by-a-forbid n s l e) = rw e ((λ z. absurd (never refl z)), (λ w. ⊎-elim (λ z. absurd (never s z)) (λ z. absurd (z .1 (some-of l))) w))
     go d (by-a-permit n s f l e) = rw e ((λ _. inr (some-of l, f)), (λ _. refl))
@@ -160,7 +160,7 @@ pub named-rightly : NamedRightly
 unfolding NamedRightly policyOf
 named-rightly t view q ps = go (decisionOf t view q ps) (decided t view q ps)
   where
-    go : (d : Decision) → Decided t view q ps d → Names t view q ps (policyOf d)
+    go : (d : Decision) → Decided t view q ps d → NamesPolicy t view q ps (policyOf d)
     go d (by-system s e) = rw e (the-system s)
     go d (by-a-forbid n s l e) = rw e (a-forbid s l)
     go d (by-a-permit n s f l e) = rw e (a-permit s f l)

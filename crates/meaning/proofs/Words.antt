@@ -16,7 +16,7 @@ use Rattle.numbers.specs.Literals.{numberIn}
 use Rattle.slices.specs.Same.{same}
 use Rattle.views.specs.Meaning.{View, Datum, text as aText, number as aNumber, flag, texts, absent}
 use Rattle.meaning.specs.Values.{rootByte, withAction, literalValue, attributeValue, operandValue, ifText, ifTexts, compares}
-use Rattle.meaning.specs.Conditions.{some as someOf, all, asked, listed, given, settled, verdict, isYes}
+use Rattle.meaning.specs.Conditions.{some as someOf, all, asked, amongStrings, given, settled, verdict, isYes}
 use Rattle.meaning.specs.Targets.{partMatches, isString, actionMatches}
 use Rattle.meaning.specs.Decisions.{targetMatches, conditionHolds, satisfied, firstOf, forbids, permits, policiesDecide, decisionOf}
 use Rattle.meaning.specs.Words.{literalPlaces, listPlaces, operandPlaces, treePlaces, partPlaces, actionPlaces, conditionPlaces, policyPlaces, SameAt, SatisfiedAlike, DecidedAlike}
@@ -99,7 +99,7 @@ module _ (t t' : List ℕ) where
     verdict-alike (contains w root s ls) h =
         rw (attribute-alike root s (each-first h))
         (ap (λ (b : Bool). settled (given (attributeValue t' view root s) b))
-        (texts-alike (attributeValue t' view root s) (λ x. asked-alike w (each-literal (λ l k. ap (λ (d : Datum). ifText d (listed x)) (literal-alike l k)) ls (each-rest h)))))
+        (texts-alike (attributeValue t' view root s) (λ x. asked-alike w (each-literal (λ l k. ap (λ (d : Datum). ifText d (amongStrings x)) (literal-alike l k)) ls (each-rest h)))))
     verdict-alike (has root s) h = rw (attribute-alike root s (each-first h))
     verdict-alike (not a) h = rw (verdict-alike a h)
     verdict-alike (brackets a) h = verdict-alike a h

@@ -78,8 +78,8 @@ asked All test xs = all test xs
 asked Any test xs = some test xs
 
 -- a string among the strings of a list
-abbrev pub listed : List (List ℕ) → List ℕ → Bool
-listed l x = some (same x) l
+abbrev pub amongStrings : List (List ℕ) → List ℕ → Bool
+amongStrings l x = some (same x) l
 
 -- ---- operators, by the values that they met
 
@@ -97,11 +97,11 @@ inList t d ls = settled (given d (some (λ l. compares Equal d (literalValue t l
 
 -- `in` an attribute: a string among a list of strings
 abbrev pub inAttribute : Datum → Datum → Verdict
-inAttribute d e = settled (givenBoth d e (ifText d λ x. ifTexts e λ l. listed l x))
+inAttribute d e = settled (givenBoth d e (ifText d λ x. ifTexts e λ l. amongStrings l x))
 
 -- containsAll: each literal is a string of the list; containsAny: one is
 abbrev pub contained : List ℕ → Which → Datum → List Literal → Verdict
-contained t w d ls = settled (given d (ifTexts d λ l. asked w (λ x. ifText (literalValue t x) (listed l)) ls))
+contained t w d ls = settled (given d (ifTexts d λ l. asked w (λ x. ifText (literalValue t x) (amongStrings l)) ls))
 
 -- `has`: there is such an entry
 abbrev pub had : Datum → Verdict

@@ -87,38 +87,38 @@ pub data Numbered : ℕ → Policy → List Policy → Type 0 where
   later : {n : ℕ} {p q : Policy} {ps : List Policy} → Numbered n p ps → Numbered (suc n) p (q ∷ ps)
 
 -- policy number n has this effect and is satisfied
-pub record Bites (t : List ℕ) (view : View) (q : Request) (ps : List Policy) (permits : Bool) (n : ℕ) : Type 0 where
+pub record SatisfiedAs (t : List ℕ) (view : View) (q : Request) (ps : List Policy) (permits : Bool) (n : ℕ) : Type 0 where
   pub policy : Policy
   pub numbered : Numbered n policy ps
   pub effect : policy .permits ≡ permits
   pub satisfied-there : satisfied t view q policy ≡ true
 
 -- some policy of this effect is satisfied
-pub record Some (t : List ℕ) (view : View) (q : Request) (ps : List Policy) (permits : Bool) : Type 0 where
+pub record SomeSatisfied (t : List ℕ) (view : View) (q : Request) (ps : List Policy) (permits : Bool) : Type 0 where
   pub number : ℕ
-  pub bites : Bites t view q ps permits number
+  pub satisfied-as : SatisfiedAs t view q ps permits number
 
 -- n is the lowest number of a satisfied policy of this effect
-pub record Lowest (t : List ℕ) (view : View) (q : Request) (ps : List Policy) (permits : Bool) (n : ℕ) : Type 0 where
-  pub bites : Bites t view q ps permits n
-  pub lowest : (m : ℕ) → Bites t view q ps permits m → n ≤ m
+pub record LowestSatisfied (t : List ℕ) (view : View) (q : Request) (ps : List Policy) (permits : Bool) (n : ℕ) : Type 0 where
+  pub satisfied-as : SatisfiedAs t view q ps permits n
+  pub lowest : (m : ℕ) → SatisfiedAs t view q ps permits m → n ≤ m
 
 -- A request gets yes exactly if the subject is the system, or some permit is satisfied and no forbid is.
 unfoldable pub YesExactly : Type 0
 YesExactly = (t : List ℕ) (view : View) (q : Request) (ps : List Policy)
-    → (isAllowed (decisionOf t view q ps) ≡ true) ↔ ((isSystem (q .subject) ≡ true) ⊎ (Some t view q ps true × (Some t view q ps false → ⊥)))
+    → (isAllowed (decisionOf t view q ps) ≡ true) ↔ ((isSystem (q .subject) ≡ true) ⊎ (SomeSatisfied t view q ps true × (SomeSatisfied t view q ps false → ⊥)))
 
 -- For any subject but the system the answer names the lowest-numbered satisfied forbid, else the lowest-numbered satisfied permit, else none; for the system it names none.
-pub data Names (t : List ℕ) (view : View) (q : Request) (ps : List Policy) : ℕ → Type 0 where
-  the-system : isSystem (q .subject) ≡ true → Names t view q ps 0
-  a-forbid : {n : ℕ} → isSystem (q .subject) ≡ false → Lowest t view q ps false n → Names t view q ps n
-  a-permit : {n : ℕ} → isSystem (q .subject) ≡ false → (Some t view q ps false → ⊥) → Lowest t view q ps true n → Names t view q ps n
-  none-named : isSystem (q .subject) ≡ false → (Some t view q ps false → ⊥) → (Some t view q ps true → ⊥) → Names t view q ps 0
+pub data NamesPolicy (t : List ℕ) (view : View) (q : Request) (ps : List Policy) : ℕ → Type 0 where
+  the-system : isSystem (q .subject) ≡ true → NamesPolicy t view q ps 0
+  a-forbid : {n : ℕ} → isSystem (q .subject) ≡ false → LowestSatisfied t view q ps false n → NamesPolicy t view q ps n
+  a-permit : {n : ℕ} → isSystem (q .subject) ≡ false → (SomeSatisfied t view q ps false → ⊥) → LowestSatisfied t view q ps true n → NamesPolicy t view q ps n
+  none-named : isSystem (q .subject) ≡ false → (SomeSatisfied t view q ps false → ⊥) → (SomeSatisfied t view q ps true → ⊥) → NamesPolicy t view q ps 0
 
 -- What is decided names so.
 unfoldable pub NamedRightly : Type 0
-NamedRightly = (t : List ℕ) (view : View) (q : Request) (ps : List Policy) → Names t view q ps (policyOf (decisionOf t view q ps))
+NamedRightly = (t : List ℕ) (view : View) (q : Request) (ps : List Policy) → NamesPolicy t view q ps (policyOf (decisionOf t view q ps))
 
 -- And there is one such number.
 unfoldable pub OneName : Type 0
-OneName = (t : List ℕ) (view : View) (q : Request) (ps : List Policy) (m n : ℕ) → Names t view q ps m → Names t view q ps n → m ≡ n
+OneName = (t : List ℕ) (view : View) (q : Request) (ps : List Policy) (m n : ℕ) → NamesPolicy t view q ps m → NamesPolicy t view q ps n → m ≡ n

@@ -21,18 +21,18 @@ pub record Request : Type 0 where
 -- ---- the forms of subjects, actions and resources
 
 -- what stands before the first colon; all, where there is none
-unfoldable pub kindOf : List ℕ → List ℕ
-kindOf [] = []
-kindOf (b ∷ rest) = cond (eqb b (code ":")) [] (b ∷ kindOf rest)
+unfoldable pub beforeColon : List ℕ → List ℕ
+beforeColon [] = []
+beforeColon (b ∷ rest) = cond (eqb b (code ":")) [] (b ∷ beforeColon rest)
 
 -- what stands after the first colon; nothing, where there is none
-unfoldable pub idOf : List ℕ → List ℕ
-idOf [] = []
-idOf (b ∷ rest) = cond (eqb b (code ":")) rest (idOf rest)
+unfoldable pub afterColon : List ℕ → List ℕ
+afterColon [] = []
+afterColon (b ∷ rest) = cond (eqb b (code ":")) rest (afterColon rest)
 
 -- the number of what stands before the first colon among some types, from 1 on; 0 where it is none of them
 abbrev pub typeIn : List (List ℕ) → List ℕ → ℕ
-typeIn types s = typeAmong types 1 (kindOf s)
+typeIn types s = typeAmong types 1 (beforeColon s)
 
 -- subject, action and resource have at most 100 bytes
 abbrev pub atMostHundred : List ℕ → Bool
@@ -40,7 +40,7 @@ atMostHundred s = leb (length s) 100
 
 -- a type, a colon, and an id of at least one byte
 unfoldable pub isTyped : List (List ℕ) → List ℕ → Bool
-isTyped types s = atMostHundred s && not (eqb (typeIn types s) 0) && ltb 0 (length (idOf s))
+isTyped types s = atMostHundred s && not (eqb (typeIn types s) 0) && ltb 0 (length (afterColon s))
 
 -- the system: these six bytes alone
 abbrev pub isSystem : List ℕ → Bool

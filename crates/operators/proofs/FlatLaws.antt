@@ -16,7 +16,7 @@ use Rattle.stored.specs.ReadBack.{spanOf, rootOf, comparatorOf, operandOf, lite
 use Rattle.stored.specs.Ready.{Room, Node}
 use Rattle.stored.proofs.Nodes.{as-has, as-compare, as-like, as-among, as-within, as-contains-all, as-contains-any}
 use Rattle.meaning.specs.Values.{literalValue, attributeValue, operandValue, ifText, ifTexts, compares}
-use Rattle.meaning.specs.Conditions.{told, some, asked, listed, verdict}
+use Rattle.meaning.specs.Conditions.{told, some, asked, amongStrings, verdict}
 use Rattle.meaning.specs.declared.Verdict.{Verdict}
 use Rattle.operators.specs.Operands.{leftAt, whichOf}
 use Rattle.operators.proofs.VerdictLaws.{constant-told, compare-told, like-told, among-told, within-told, contains-told, has-told}
@@ -154,14 +154,14 @@ module _ (t : List ℕ) (view : View) (r : Verdict) (h : Bool) (e : r ≡ told h
     flat-among a k i q = verdict-is _ _ _ (as-among (treeAt table) table end x k) (among-told t view (operandOf (ownerAt table end x)) (listAt table end x)) (q ∙ rw i)
 
     pub flat-within : (a b : Entry) → x .kind ≡ 21 → a ≡ entryAt table (end - 3) → b ≡ entryAt table (end - 2)
-        → h ≡ ifText (operandValue t view (operandOf a)) (λ x. ifTexts (attributeValue t view (rootOf (b .kind)) (spanOf b)) (λ l. listed l x))
+        → h ≡ ifText (operandValue t view (operandOf a)) (λ x. ifTexts (attributeValue t view (rootOf (b .kind)) (spanOf b)) (λ l. amongStrings l x))
         → r ≡ verdict t view (treeOf (treeAt table) table end x)
     flat-within a b k i j q =
         verdict-is _ _ _ (as-within (treeAt table) table end x k)
         (within-told t view (operandOf (entryAt table (end - 3))) (rootOf (entryAt table (end - 2) .kind)) (spanOf (entryAt table (end - 2)))) (q ∙ rw (i, j))
 
     pub flat-contains : (b : Entry) → 22 ≤ x .kind → x .kind ≤ 23 → b ≡ ownerAt table end x
-        → h ≡ ifTexts (attributeValue t view (rootOf (b .kind)) (spanOf b)) (λ l. asked (whichOf (eqb (x .kind) 23)) (λ o. ifText (literalValue t o) (listed l)) (literalsAt (x .first) table (end - x .first - 1)))
+        → h ≡ ifTexts (attributeValue t view (rootOf (b .kind)) (spanOf b)) (λ l. asked (whichOf (eqb (x .kind) 23)) (λ o. ifText (literalValue t o) (amongStrings l)) (literalsAt (x .first) table (end - x .first - 1)))
         → r ≡ verdict t view (treeOf (treeAt table) table end x)
     flat-contains b l k i q =
         verdict-is _ _ _ (as-contains table end x l k)

@@ -22,7 +22,7 @@ use Rattle.table.specs.declared.Entry.{Entry}
 use Rattle.table.specs.Layout.{entryAt}
 use Rattle.stored.specs.ReadBack.{spanOf, literalOf, literalsAt}
 use Rattle.meaning.specs.Values.{literalValue, ifText, sameFlag, compares}
-use Rattle.meaning.specs.Conditions.{some, all, asked, listed}
+use Rattle.meaning.specs.Conditions.{some, all, asked, amongStrings}
 use Rattle.operators.specs.Operands.{whichOf}
 use Rattle.operators.proofs.OperandLaws.{string-cut}
 
@@ -33,7 +33,7 @@ abbrev pub isSame : List ℕ → Value → List ℕ → List (List ℕ) → Lite
 isSame t v x l o = compares Equal (datumOf v x l) (literalValue t o)
 
 abbrev pub isListed : List ℕ → List ℕ → ℕ → Literal → Bool
-isListed t s place o = ifText (literalValue t o) (listed (listAt s place))
+isListed t s place o = ifText (literalValue t o) (amongStrings (listAt s place))
 
 -- the first of some literals, and those after it
 pub record FirstPlaced (t : List ℕ) (n : ℕ) (table : List ℕ) (e : ℕ) : Type 0 where
@@ -113,15 +113,15 @@ at-entry table e test o r b h is q = ap (λ (o : Entry). test (literalOf o)) (sy
 -- ---- a literal and a list
 
 module _ (t : List ℕ) (o : Entry) (l : List (List ℕ)) where
-  pub no-string : (o .kind ≡ 9 → ⊥) → false ≡ ifText (literalValue t (literalOf o)) (listed l)
+  pub no-string : (o .kind ≡ 9 → ⊥) → false ≡ ifText (literalValue t (literalOf o)) (amongStrings l)
   unfolding literalOf literalValue
   no-string n = simp (ne-eqb _ _ n) (go (eqb (o .kind) 10) (eqb (o .kind) 11))
     where
-      go : (a b : Bool) → false ≡ ifText (literalValue t (cond a (numberLiteral (spanOf o)) (truth b))) (listed l)
+      go : (a b : Bool) → false ≡ ifText (literalValue t (cond a (numberLiteral (spanOf o)) (truth b))) (amongStrings l)
       go true b = refl
       go false b = refl
 
-  pub a-string : (r : Bool) (x : List ℕ) → o .kind ≡ 9 → x ≡ quotedAt t (spanOf o) → r ≡ listed l x → r ≡ ifText (literalValue t (literalOf o)) (listed l)
+  pub a-string : (r : Bool) (x : List ℕ) → o .kind ≡ 9 → x ≡ quotedAt t (spanOf o) → r ≡ amongStrings l x → r ≡ ifText (literalValue t (literalOf o)) (amongStrings l)
   unfolding literalOf literalValue
   a-string r x k q e = simp k (rw (← q) e)
 
@@ -156,6 +156,6 @@ cut-same s x at r b h q = ap (same x) (sym (string-cut s at)) ∙ sym h ∙ q
 pub list-counted : (s : List ℕ) (at e : ℕ) → listEnd s at ≡ At e → Strings s at e
 list-counted s at e h = as-list 4 s at e (sym (value-list 4 s at refl) ∙ h) (λ k. omega arith) (λ k. omega arith) (λ k. omega arith)
 
-pub listed-at : (s x : List ℕ) (at : ℕ) (r : Bool) → r ≡ among x s (byte s at) (at + 1) → r ≡ listed (listAt s at) x
+pub listed-at : (s x : List ℕ) (at : ℕ) (r : Bool) → r ≡ among x s (byte s at) (at + 1) → r ≡ amongStrings (listAt s at) x
 unfolding listAt
 listed-at s x at r e = e

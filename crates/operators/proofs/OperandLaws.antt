@@ -22,7 +22,7 @@ use Rattle.lookups.specs.declared.values.Value.{Value}
 use Rattle.lookups.proofs.StepLaws.{as-string}
 use Rattle.views.specs.Meaning.{Datum, text, number, flag, View}
 use Rattle.views.specs.Values.{stringAt, listAt, datumOf}
-use Rattle.views.specs.Rows.{rowValue, rowView, Stands}
+use Rattle.views.specs.Rows.{rowValue, rowView, RowStands}
 use Rattle.views.proofs.RowLaws.{row-reads}
 use Rattle.grammar.specs.Policies.{Root.Principal, Root.Resource, Root.Env, Root.Action, Literal, text as textLiteral, number as numberLiteral, truth, Operand, attribute, literal}
 use Rattle.placing.specs.Placed.{bytesAt, quotedAt, pathAt, StringPlaced, NumberPlaced, PathPlaced, LiteralPlaced, a-string, a-number, a-truth, OperandPlaced, an-attribute, a-literal}
@@ -230,7 +230,7 @@ module _ (t s : List ℕ) (p : Sections) (n : ℕ) (heads values : List ℕ) (ac
   unfolding attributeValue withAction
   seen-action b placed = let e = other-root (o .kind) b in rw (placed .action e, e) (simp (same-itself (bytes "name")))
 
-module _ (t s : List ℕ) (p : Sections) (n : ℕ) (heads values : List ℕ) (stands : Stands s p n heads values) where
+module _ (t s : List ℕ) (p : Sections) (n : ℕ) (heads values : List ℕ) (stands : RowStands s p n heads values) where
   pub attribute-is : (action : List ℕ) (o : Entry) (v : Value) → PathPlaced t (rootOf (o .kind)) (spanOf o) → v ≡ attributeRead t s p n heads values o
       → datumOf v (stringUnder s action o v) (listAt s (v .place)) ≡ attributeValue t (withAction action (rowView s p n heads values)) (rootOf (o .kind)) (spanOf o)
   attribute-is action o v placed e = go (ofBag (o .kind)) refl
@@ -317,7 +317,7 @@ outside o v h = let l : 3 < o .kind = omega arith in rw (lt-leb (o .kind) 3 l) (
     go true false = refl
     go false b = refl
 
-module _ (t s : List ℕ) (p : Sections) (n : ℕ) (heads values : List ℕ) (stands : Stands s p n heads values) where
+module _ (t s : List ℕ) (p : Sections) (n : ℕ) (heads values : List ℕ) (stands : RowStands s p n heads values) where
   pub operand-is : (action : List ℕ) (o : Entry) (v : Value) (x : List ℕ) → OperandPlaced t (operandOf o) → v ≡ operandRead t s p n heads values o → x ≡ stringOf t s action o v
       → datumOf v x (listAt s (v .place)) ≡ meant t s p n heads values action o
   operand-is action o v x placed e string = go (leb (o .kind) 4) refl

@@ -7,7 +7,7 @@ use Rattle.bags.specs.declared.sections.Sections.{Sections}
 use Rattle.lookups.specs.declared.values.Value.{Value}
 use Rattle.views.specs.Meaning.{Datum, present}
 use Rattle.views.specs.Values.{listAt, datumOf}
-use Rattle.views.specs.Rows.{rowView, Stands}
+use Rattle.views.specs.Rows.{rowView, RowStands}
 use Rattle.grammar.specs.Policies.{Comparator.Equal, Literal}
 use Rattle.placing.specs.Placed.{quotedAt, PathPlaced, OperandPlaced}
 use Rattle.table.specs.declared.Entry.{Entry}
@@ -28,7 +28,7 @@ literal-compares t k o v w x y r e q f l = f l l ∙ rw (literal-is t o w y l e 
 pub same-by-13 : {r : Bool} (d e : Datum) → r ≡ compares (comparatorOf 13) d e → r ≡ compares Equal d e
 same-by-13 d e h = h ∙ rw (← equal-13 13 refl)
 
-module _ (t s : List ℕ) (p : Sections) (n : ℕ) (heads values : List ℕ) (stands : Stands s p n heads values) (action : List ℕ) where
+module _ (t s : List ℕ) (p : Sections) (n : ℕ) (heads values : List ℕ) (stands : RowStands s p n heads values) (action : List ℕ) where
   pub compare-is : (k : ℕ) (a b : Entry) (v w : Value) (x y : List ℕ) (r : Bool) → OperandPlaced t (operandOf a) → OperandPlaced t (operandOf b)
       → v ≡ operandRead t s p n heads values a → w ≡ operandRead t s p n heads values b → x ≡ stringOf t s action a v → y ≡ stringOf t s action b w
       → ((l m : List (List ℕ)) → r ≡ compares (comparatorOf k) (datumOf v x l) (datumOf w y m))

@@ -8,7 +8,7 @@ use Rattle.grammar.specs.Policies.{Span, Root, Comparator, Comparator.Equal, Li
 use Rattle.placing.specs.Placed.{quotedAt}
 use Rattle.views.specs.Meaning.{Datum, text, number, flag, texts, absent, present, View}
 use Rattle.meaning.specs.Values.{literalValue, attributeValue, operandValue, ifText, ifTexts, compares}
-use Rattle.meaning.specs.Conditions.{told, given, givenBoth, settled, some, asked, listed, verdict}
+use Rattle.meaning.specs.Conditions.{told, given, givenBoth, settled, some, asked, amongStrings, verdict}
 use Rattle.meaning.specs.declared.Verdict.the-variants.{Yes, No}
 
 pub told-yes : (b : Bool) → b ≡ true → Yes ≡ told b
@@ -53,7 +53,7 @@ unfolding some compares
 none-same t d [] e = refl
 none-same t d (l ∷ ls) e = simp e (none-same t absent ls refl)
 
-no-list : (d e : Datum) → e ≡ absent → (ifText d λ x. ifTexts e λ l. listed l x) ≡ false
+no-list : (d e : Datum) → e ≡ absent → (ifText d λ x. ifTexts e λ l. amongStrings l x) ≡ false
 no-list (text x) e h = rw h
 no-list (number x) e h = refl
 no-list (flag x) e h = refl
@@ -80,17 +80,17 @@ module _ (t : List ℕ) (view : View) where
   among-told a ls = settled-given (operandValue t view a) (some (λ l. compares Equal (operandValue t view a) (literalValue t l)) ls) (none-same t (operandValue t view a) ls)
 
   pub within-told : (a : Operand) (root : Root) (s : Span)
-      → verdict t view (within a root s) ≡ told (ifText (operandValue t view a) λ x. ifTexts (attributeValue t view root s) λ l. listed l x)
+      → verdict t view (within a root s) ≡ told (ifText (operandValue t view a) λ x. ifTexts (attributeValue t view root s) λ l. amongStrings l x)
   unfolding verdict
   within-told a root s =
-      settled-both (operandValue t view a) (attributeValue t view root s) (ifText (operandValue t view a) λ x. ifTexts (attributeValue t view root s) λ l. listed l x)
+      settled-both (operandValue t view a) (attributeValue t view root s) (ifText (operandValue t view a) λ x. ifTexts (attributeValue t view root s) λ l. amongStrings l x)
       (λ e. rw e) (no-list (operandValue t view a) (attributeValue t view root s))
 
   pub contains-told : (w : Which) (root : Root) (s : Span) (ls : List Literal)
-      → verdict t view (contains w root s ls) ≡ told (ifTexts (attributeValue t view root s) λ l. asked w (λ x. ifText (literalValue t x) (listed l)) ls)
+      → verdict t view (contains w root s ls) ≡ told (ifTexts (attributeValue t view root s) λ l. asked w (λ x. ifText (literalValue t x) (amongStrings l)) ls)
   unfolding verdict
   contains-told w root s ls =
-      settled-given (attributeValue t view root s) (ifTexts (attributeValue t view root s) λ l. asked w (λ x. ifText (literalValue t x) (listed l)) ls) (λ e. rw e)
+      settled-given (attributeValue t view root s) (ifTexts (attributeValue t view root s) λ l. asked w (λ x. ifText (literalValue t x) (amongStrings l)) ls) (λ e. rw e)
 
   pub has-told : (root : Root) (s : Span) → verdict t view (has root s) ≡ told (present (attributeValue t view root s))
   unfolding verdict

@@ -4,7 +4,7 @@ ghost use mathlib.Core.List.{List};
 ghost use Prim.Native.Nat.{ℕ, _+_, _*_, _<_, _≤_};
 ghost use lib.ListN.{length};
 ghost use Rattle.views.specs.Meaning.{present};
-ghost use Rattle.views.specs.Rows.{rowView, Stands};
+ghost use Rattle.views.specs.Rows.{rowView, RowStands};
 ghost use Rattle.patterns.specs.Likes.{likes};
 ghost use Rattle.grammar.specs.Policies.{Comparator.Equal};
 ghost use Rattle.placing.specs.Placed.{quotedAt, Each, Lies, StringPlaced, PathPlaced, LiteralPlaced, OperandPlaced};
@@ -12,7 +12,7 @@ ghost use Rattle.table.specs.Layout.{entryAt};
 ghost use Rattle.stored.specs.ReadBack.{spanOf, rootOf, comparatorOf, operandOf, literalsAt, treeOf, treeAt};
 ghost use Rattle.stored.specs.Ready.{Room, Node};
 ghost use Rattle.meaning.specs.Values.{withAction, literalValue, attributeValue, ifText, ifTexts, compares};
-ghost use Rattle.meaning.specs.Conditions.{told, some, asked, listed, verdict};
+ghost use Rattle.meaning.specs.Conditions.{told, some, asked, amongStrings, verdict};
 ghost use Rattle.operators.specs.Operands.{operandRead, meant, leftAt, whichOf};
 use crate::lists::among_literals;
 use crate::lists::in_list;
@@ -59,7 +59,7 @@ fn has_attribute(
     values: &[usize; 6],
 ) -> bool
     requires { ⌜ PathPlaced (now text) (rootOf (o .kind)) (spanOf o) ⌝ }
-    requires { ⌜ Stands (now s) p n (now heads) (now values) ⌝ }
+    requires { ⌜ RowStands (now s) p n (now heads) (now values) ⌝ }
     ensures { λ r. ⌜ ((action : List ℕ) → r ≡ present (attributeValue (now (text .entry)) (withAction action (rowView (now (s .entry)) p n (now (heads .entry)) (now (values .entry)))) (rootOf (o .kind)) (spanOf o))) ⌝ }
 {
     let v = attribute_value(text, s, p, n, heads, values, o);
@@ -82,7 +82,7 @@ fn compare_operands<'a>(
 ) -> bool
     requires { ⌜ OperandPlaced (now text) (operandOf a) ⌝ }
     requires { ⌜ OperandPlaced (now text) (operandOf b) ⌝ }
-    requires { ⌜ Stands (now s) p n (now heads) (now values) ⌝ }
+    requires { ⌜ RowStands (now s) p n (now heads) (now values) ⌝ }
     requires { ⌜ v ≡ operandRead (now text) (now s) p n (now heads) (now values) a ⌝ }
     ensures { λ r. ⌜ r ≡ compares (comparatorOf kind) (meant (now (text .entry)) (now (s .entry)) p n (now (heads .entry)) (now (values .entry)) (now (action .entry)) a) (meant (now (text .entry)) (now (s .entry)) p n (now (heads .entry)) (now (values .entry)) (now (action .entry)) b) ⌝ }
 {
@@ -111,7 +111,7 @@ fn like_operand<'a>(
 ) -> bool
     requires { ⌜ OperandPlaced (now text) (operandOf a) ⌝ }
     requires { ⌜ StringPlaced (now text) (spanOf o) ⌝ }
-    requires { ⌜ Stands (now s) p n (now heads) (now values) ⌝ }
+    requires { ⌜ RowStands (now s) p n (now heads) (now values) ⌝ }
     requires { ⌜ v ≡ operandRead (now text) (now s) p n (now heads) (now values) a ⌝ }
     ensures { λ r. ⌜ r ≡ ifText (meant (now (text .entry)) (now (s .entry)) p n (now (heads .entry)) (now (values .entry)) (now (action .entry)) a) (likes (quotedAt (now (text .entry)) (spanOf o))) ⌝ }
 {
@@ -141,7 +141,7 @@ fn operand_in_list<'a>(
     requires { ⌜ OperandPlaced (now text) (operandOf a) ⌝ }
     requires { ⌜ Each (LiteralPlaced (now text)) (literalsAt count (now table) at) ⌝ }
     requires { ⌜ 5 * (at + count) ≤ length (now table) ⌝ }
-    requires { ⌜ Stands (now s) p n (now heads) (now values) ⌝ }
+    requires { ⌜ RowStands (now s) p n (now heads) (now values) ⌝ }
     requires { ⌜ v ≡ operandRead (now text) (now s) p n (now heads) (now values) a ⌝ }
     ensures { λ r. ⌜ r ≡ some (λ l. compares Equal (meant (now (text .entry)) (now (s .entry)) p n (now (heads .entry)) (now (values .entry)) (now (action .entry)) a) (literalValue (now (text .entry)) l)) (literalsAt count (now (table .entry)) at) ⌝ }
 {
@@ -164,9 +164,9 @@ fn operand_in_attribute<'a>(
 ) -> bool
     requires { ⌜ OperandPlaced (now text) (operandOf a) ⌝ }
     requires { ⌜ PathPlaced (now text) (rootOf (b .kind)) (spanOf b) ⌝ }
-    requires { ⌜ Stands (now s) p n (now heads) (now values) ⌝ }
+    requires { ⌜ RowStands (now s) p n (now heads) (now values) ⌝ }
     requires { ⌜ v ≡ operandRead (now text) (now s) p n (now heads) (now values) a ⌝ }
-    ensures { λ r. ⌜ r ≡ ifText (meant (now (text .entry)) (now (s .entry)) p n (now (heads .entry)) (now (values .entry)) (now (action .entry)) a) (λ x. ifTexts (attributeValue (now (text .entry)) (withAction (now (action .entry)) (rowView (now (s .entry)) p n (now (heads .entry)) (now (values .entry)))) (rootOf (b .kind)) (spanOf b)) (λ l. listed l x)) ⌝ }
+    ensures { λ r. ⌜ r ≡ ifText (meant (now (text .entry)) (now (s .entry)) p n (now (heads .entry)) (now (values .entry)) (now (action .entry)) a) (λ x. ifTexts (attributeValue (now (text .entry)) (withAction (now (action .entry)) (rowView (now (s .entry)) p n (now (heads .entry)) (now (values .entry)))) (rootOf (b .kind)) (spanOf b)) (λ l. amongStrings l x)) ⌝ }
 {
     let kind = v.kind;
     if kind != bags::values::STRING {
@@ -198,8 +198,8 @@ fn contains_literals(
     requires { ⌜ PathPlaced (now text) (rootOf (b .kind)) (spanOf b) ⌝ }
     requires { ⌜ Each (LiteralPlaced (now text)) (literalsAt count (now table) at) ⌝ }
     requires { ⌜ 5 * (at + count) ≤ length (now table) ⌝ }
-    requires { ⌜ Stands (now s) p n (now heads) (now values) ⌝ }
-    ensures { λ r. ⌜ ((action : List ℕ) → r ≡ ifTexts (attributeValue (now (text .entry)) (withAction action (rowView (now (s .entry)) p n (now (heads .entry)) (now (values .entry)))) (rootOf (b .kind)) (spanOf b)) (λ l. asked (whichOf any) (λ x. ifText (literalValue (now (text .entry)) x) (listed l)) (literalsAt count (now (table .entry)) at))) ⌝ }
+    requires { ⌜ RowStands (now s) p n (now heads) (now values) ⌝ }
+    ensures { λ r. ⌜ ((action : List ℕ) → r ≡ ifTexts (attributeValue (now (text .entry)) (withAction action (rowView (now (s .entry)) p n (now (heads .entry)) (now (values .entry)))) (rootOf (b .kind)) (spanOf b)) (λ l. asked (whichOf any) (λ x. ifText (literalValue (now (text .entry)) x) (amongStrings l)) (literalsAt count (now (table .entry)) at))) ⌝ }
 {
     let w = attribute_value(text, s, p, n, heads, values, b);
     let kind = w.kind;
@@ -244,7 +244,7 @@ fn left_holds<'a>(
     requires { ⌜ Node (now text) (now table) end x ⌝ }
     requires { ⌜ (12 < x .kind) × (x .kind ≤ 21) ⌝ }
     requires { ⌜ a ≡ entryAt (now table) (leftAt end x) ⌝ }
-    requires { ⌜ Stands (now s) p n (now heads) (now values) ⌝ }
+    requires { ⌜ RowStands (now s) p n (now heads) (now values) ⌝ }
     requires { ⌜ v ≡ operandRead (now text) (now s) p n (now heads) (now values) a ⌝ }
     ensures { λ r. ⌜ told r ≡ verdict (now (text .entry)) (withAction (now (action .entry)) (rowView (now (s .entry)) p n (now (heads .entry)) (now (values .entry)))) (treeOf (treeAt (now (table .entry))) (now (table .entry)) end x) ⌝ }
 {
@@ -280,7 +280,7 @@ pub fn flat<'a>(
 ) -> Verdict
     requires { ⌜ Node (now text) (now table) end x ⌝ }
     requires { ⌜ x .kind ≤ 23 ⌝ }
-    requires { ⌜ Stands (now s) p n (now heads) (now values) ⌝ }
+    requires { ⌜ RowStands (now s) p n (now heads) (now values) ⌝ }
     ensures { λ r. ⌜ r ≡ verdict (now (text .entry)) (withAction (now (action .entry)) (rowView (now (s .entry)) p n (now (heads .entry)) (now (values .entry)))) (treeOf (treeAt (now (table .entry))) (now (table .entry)) end x) ⌝ }
 {
     let kind = x.kind;

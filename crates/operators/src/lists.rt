@@ -12,7 +12,7 @@ ghost use Rattle.grammar.specs.Policies.{Comparator.Equal};
 ghost use Rattle.placing.specs.Placed.{Each, LiteralPlaced};
 ghost use Rattle.stored.specs.ReadBack.{literalOf, literalsAt, comparatorOf};
 ghost use Rattle.meaning.specs.Values.{ifText, literalValue, compares};
-ghost use Rattle.meaning.specs.Conditions.{some, asked, listed};
+ghost use Rattle.meaning.specs.Conditions.{some, asked, amongStrings};
 ghost use Rattle.operators.specs.Operands.{whichOf};
 use crate::operands::literal_value;
 use crate::operands::quoted;
@@ -78,7 +78,7 @@ fn in_strings(s: &[u8], n: usize, at: usize, x: &[u8]) -> bool
 // Whether x is a string of the list at `place`.
 pub fn in_list(s: &[u8], place: usize, x: &[u8]) -> bool
     requires { ⌜ ((e : ℕ) × (listEnd (now s) place ≡ At e)) ⌝ }
-    ensures { λ r. ⌜ r ≡ listed (listAt (now (s .entry)) place) (now (x .entry)) ⌝ }
+    ensures { λ r. ⌜ r ≡ amongStrings (listAt (now (s .entry)) place) (now (x .entry)) ⌝ }
 {
     let n = s[place] as usize;
     in_strings(s, n, place + 1, x)
@@ -88,7 +88,7 @@ pub fn in_list(s: &[u8], place: usize, x: &[u8]) -> bool
 fn literal_listed(text: &[u8], o: Entry, s: &[u8], place: usize) -> bool
     requires { ⌜ LiteralPlaced (now text) (literalOf o) ⌝ }
     requires { ⌜ ((e : ℕ) × (listEnd (now s) place ≡ At e)) ⌝ }
-    ensures { λ r. ⌜ r ≡ ifText (literalValue (now (text .entry)) (literalOf o)) (listed (listAt (now (s .entry)) place)) ⌝ }
+    ensures { λ r. ⌜ r ≡ ifText (literalValue (now (text .entry)) (literalOf o)) (amongStrings (listAt (now (s .entry)) place)) ⌝ }
 {
     let kind = o.kind;
     if kind != entries::STRING {
@@ -110,7 +110,7 @@ pub fn literals_listed(
     requires { ⌜ Each (LiteralPlaced (now text)) (literalsAt n (now table) at) ⌝ }
     requires { ⌜ 5 * (at + n) ≤ length (now table) ⌝ }
     requires { ⌜ ((e : ℕ) × (listEnd (now s) place ≡ At e)) ⌝ }
-    ensures { λ r. ⌜ r ≡ asked (whichOf any) (λ o. ifText (literalValue (now (text .entry)) o) (listed (listAt (now (s .entry)) place))) (literalsAt n (now (table .entry)) at) ⌝ }
+    ensures { λ r. ⌜ r ≡ asked (whichOf any) (λ o. ifText (literalValue (now (text .entry)) o) (amongStrings (listAt (now (s .entry)) place))) (literalsAt n (now (table .entry)) at) ⌝ }
 {
     let mut left = n;
     let mut next = at;

@@ -3,7 +3,7 @@ ghost use mathlib.Core.Path.{_≡_};
 ghost use mathlib.Core.Bool.{true, _&&_};
 ghost use lib.Dec.{eqb, leb};
 ghost use Rattle.lookups.specs.Values.{Whole};
-ghost use Rattle.views.specs.Rows.{Stands};
+ghost use Rattle.views.specs.Rows.{RowStands};
 ghost use Rattle.placing.specs.Placed.{quotedAt, Lies, StringPlaced, LiteralPlaced, OperandPlaced};
 ghost use Rattle.stored.specs.ReadBack.{spanOf, rootOf, literalOf, operandOf};
 ghost use Rattle.operators.specs.Operands.{ofBag, attributeRead, literalRead, operandRead, stringOf};
@@ -25,7 +25,7 @@ pub fn attribute_value(
     o: Entry,
 ) -> Value
     requires { ⌜ Lies (now text) (spanOf o) ⌝ }
-    requires { ⌜ Stands (now s) p n (now heads) (now values) ⌝ }
+    requires { ⌜ RowStands (now s) p n (now heads) (now values) ⌝ }
     ensures { λ r. ⌜ r ≡ attributeRead (now (text .entry)) (now (s .entry)) p n (now (heads .entry)) (now (values .entry)) o ⌝ }
 {
     let root = o.kind;
@@ -89,7 +89,7 @@ pub fn operand_value(
     o: Entry,
 ) -> Value
     requires { ⌜ OperandPlaced (now text) (operandOf o) ⌝ }
-    requires { ⌜ Stands (now s) p n (now heads) (now values) ⌝ }
+    requires { ⌜ RowStands (now s) p n (now heads) (now values) ⌝ }
     ensures { λ r. ⌜ r ≡ operandRead (now (text .entry)) (now (s .entry)) p n (now (heads .entry)) (now (values .entry)) o ⌝ }
 {
     let kind = o.kind;

@@ -14,7 +14,7 @@ use Rattle.reading.specs.Reader as reader
 use Rattle.reading.specs.Reader.{Reader, refuseBy, numbered, bind, on, need, ten}
 use Rattle.reading.proofs.Stream.{stream-end, stream-token, next-on, next-off}
 use Rattle.parts.specs.declared.answers.Refusal.{Refusal}
-use Rattle.parts.specs.Answers.{Ready, refusalAt, turnedAway, Turned}
+use Rattle.parts.specs.Answers.{ReadyToRead, refusalAt, turnedAway, Turned}
 
 -- ---- places
 
@@ -29,12 +29,12 @@ lowered l r = record { low = let x = r .low in omega arith; order = r .order; hi
 pub past : {text : List ℕ} {from : ℕ} (t : Token) {n : Token} → Reads text from t → (t .kind ≡ 0 → ⊥) → Reads text (t .end) n → Reads text (t .start + 1) n
 past t r e s = let x = r .some e in lowered (omega arith) s
 
-pub ready-past : {classes text : List ℕ} {from low : ℕ} (t : Token) {n : Token} → Ready classes text from t → (t .kind ≡ 0 → ⊥) → Reads text (t .end) n → low ≤ t .start + 1
-    → Ready classes text low n
+pub ready-past : {classes text : List ℕ} {from low : ℕ} (t : Token) {n : Token} → ReadyToRead classes text from t → (t .kind ≡ 0 → ⊥) → Reads text (t .end) n → low ≤ t .start + 1
+    → ReadyToRead classes text low n
 ready-past t r e s l = record { table = r .table; lies = lowered l (past t (r .lies) e s); small = r .small }
 
 -- no entry's number is larger than the place of the token that stands next
-pub number-small : {classes text : List ℕ} {from : ℕ} {t : Token} → Ready classes text from t → from < 2 ^ 60
+pub number-small : {classes text : List ℕ} {from : ℕ} {t : Token} → ReadyToRead classes text from t → from < 2 ^ 60
 number-small r = omega (arith, r .lies .low, r .lies .order, r .lies .high, r .small)
 
 -- ---- refusals

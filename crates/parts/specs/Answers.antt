@@ -30,7 +30,7 @@ abbrev pub refusal : ℕ → ℕ → ℕ → Refusal
 refusal number start size = record { number = number; start = start; size = size }
 
 -- what every reader may count on: the class table is lent, the token that stands next lies in the text at or after the place `from`, and the text is no longer than any can be
-pub record Ready (classes text : List ℕ) (from : ℕ) (t : Token) : Type 0 where
+pub record ReadyToRead (classes text : List ℕ) (from : ℕ) (t : Token) : Type 0 where
   pub table : classes ≡ classTable
   pub lies : Reads text from t
   pub small : length text < 2 ^ 60

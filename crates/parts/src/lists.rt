@@ -5,7 +5,7 @@ ghost use Rattle.reading.specs.Lexemes.{lexeme, stream};
 ghost use Rattle.grammar.specs.Rules.{isLiteral, literalOf};
 ghost use Rattle.grammar.specs.Parser.{read-list};
 ghost use Rattle.table.specs.Entries.{literalEntry, literalEntries};
-ghost use Rattle.parts.specs.Answers.{Ready, Done};
+ghost use Rattle.parts.specs.Answers.{ReadyToRead, Done};
 ghost use Rattle.parts.specs.Names.{sortOf};
 use crate::answers::Answer;
 use crate::answers::expected;
@@ -81,7 +81,7 @@ pub fn read_list(
     number: usize,
     same: bool,
 ) -> Answer
-    requires { ⌜ Ready (now classes) (now text) number t ⌝ }
+    requires { ⌜ ReadyToRead (now classes) (now text) number t ⌝ }
     ensures { λ r. ⌜ Done (λ e. literalEntries) (now (text .entry)) (now (seen .entry)) (t .start) number same (now (table .entry)) (now (table .exit))
         (read-list (sortOf strings) (stream (now (text .entry)) t)) r ⌝ }
 {

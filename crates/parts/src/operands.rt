@@ -3,7 +3,7 @@ ghost use mathlib.Core.List.{[], _∷_};
 ghost use Rattle.reading.specs.Lexemes.{stream};
 ghost use Rattle.grammar.specs.Parser.{read-attribute, read-operand};
 ghost use Rattle.table.specs.Entries.{rootKind, placed, operandEntry};
-ghost use Rattle.parts.specs.Answers.{Ready, Done};
+ghost use Rattle.parts.specs.Answers.{ReadyToRead, Done};
 ghost use Rattle.parts.specs.Names.{rootFrom};
 use crate::answers::Answer;
 use crate::answers::turned_away;
@@ -28,7 +28,7 @@ pub fn read_attribute(
     number: usize,
     same: bool,
 ) -> Answer
-    requires { ⌜ Ready (now classes) (now text) number t ⌝ }
+    requires { ⌜ ReadyToRead (now classes) (now text) number t ⌝ }
     ensures { λ r. ⌜ Done (λ e s. placed (rootKind (rootFrom root)) s ∷ []) (now (text .entry)) (now (seen .entry)) (t .start) number same
         (now (table .entry)) (now (table .exit)) (read-attribute (rootFrom root) (λ root s. s) (stream (now (text .entry)) t)) r ⌝ }
 {
@@ -59,7 +59,7 @@ pub fn read_operand(
     number: usize,
     same: bool,
 ) -> Answer
-    requires { ⌜ Ready (now classes) (now text) number t ⌝ }
+    requires { ⌜ ReadyToRead (now classes) (now text) number t ⌝ }
     ensures { λ r. ⌜ Done (λ e a. operandEntry a ∷ []) (now (text .entry)) (now (seen .entry)) (t .start) number same
         (now (table .entry)) (now (table .exit)) (read-operand (stream (now (text .entry)) t)) r ⌝ }
 {

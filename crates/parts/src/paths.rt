@@ -7,7 +7,7 @@ ghost use Rattle.reading.specs.Lexemes.{lexeme, stream};
 ghost use Rattle.grammar.specs.Rules.{isRoot, admitted};
 ghost use Rattle.grammar.specs.Parser.{noName, read-way, read-path};
 ghost use Rattle.table.specs.Entries.{rootKind, hasKind, placed};
-ghost use Rattle.parts.specs.Answers.{Ready, Done, Walks};
+ghost use Rattle.parts.specs.Answers.{ReadyToRead, Done, Walks};
 ghost use Rattle.parts.specs.Names.{rootFrom, exitOf, callOf};
 use crate::answers::Answer;
 use crate::answers::Refusal;
@@ -113,7 +113,7 @@ fn is_admitted(text: &[u8], root: u8, used: usize, t: Token) -> bool
 
 // A path. Where it is a left operand, containsAll or containsAny may end it after a dot.
 pub fn read_way(classes: &[u8; 256], text: &[u8], root: u8, left: bool, t: Token) -> Way
-    requires { ⌜ Ready (now classes) (now text) 0 t ⌝ }
+    requires { ⌜ ReadyToRead (now classes) (now text) 0 t ⌝ }
     ensures { λ r. ⌜ Walks (now (text .entry)) (t .start) (read-way (exitOf left) (rootFrom root) (stream (now (text .entry)) t)) r ⌝ }
 {
     let start = t.start;
@@ -162,7 +162,7 @@ pub fn read_placed(
     number: usize,
     same: bool,
 ) -> Answer
-    requires { ⌜ Ready (now classes) (now text) number t ⌝ }
+    requires { ⌜ ReadyToRead (now classes) (now text) number t ⌝ }
     ensures { λ r. ⌜ Done (λ e s. placed kind s ∷ []) (now (text .entry)) (now (seen .entry)) (t .start) number same (now (table .entry)) (now (table .exit))
         (read-path (rootFrom root) (stream (now (text .entry)) t)) r ⌝ }
 {

@@ -17,15 +17,15 @@ use Rattle.questions.specs.Questions.{cell, product, rowsOf}
 use Rattle.questions.proofs.PlaceLaws.{firstOf}
 use Rattle.stored.specs.ReadBack.{policiesAt}
 use Rattle.views.specs.Meaning.{View, look}
-use Rattle.views.specs.Rows.{rowView, Stands, bagOfRow, Chooses}
+use Rattle.views.specs.Rows.{rowView, RowStands, bagOfRow, Chooses}
 use Rattle.views.proofs.RowLaws.{row-stands, row-shows}
 use Rattle.meaning.specs.Targets.{Request, isSystem}
-use Rattle.meaning.specs.Decisions.{decisionOf, policiesDecide, policyOf, Names, the-system, a-forbid, a-permit, none-named, NamedRightly}
+use Rattle.meaning.specs.Decisions.{decisionOf, policiesDecide, policyOf, NamesPolicy, the-system, a-forbid, a-permit, none-named, NamedRightly}
 use Rattle.meaning.specs.declared.Decision.{Decision}
 use Rattle.meaning.specs.declared.Decision.the-variants.{System}
 use Rattle.meaning.proofs.Deciding.{numbered-few, named-rightly}
 use Rattle.pages.specs.Rows.{countsOf, Combination, rowOf, choicesAt, countsBy, Few, Counted, Picked, Placed, Moved}
-use Rattle.marks.specs.Marks.{Depths, Chosen, DecidedFrom}
+use Rattle.marks.specs.Marks.{Depths, ChosenThere, DecidedFrom}
 use Rattle.marks.proofs.Marking.{zeros-say}
 use Rattle.pages.proofs.Combinations.{choices-combine, row-of-choices, choice-below}
 use Rattle.pages.proofs.Digits.{counts-length, count-is, rows-some}
@@ -156,12 +156,12 @@ module _ {s : List ℕ} {p : Sections} {all start n : ℕ} {starts ends : List �
             simp q (st .values-are .picked i l ∙ laid .grid-is i (getD choices i 0) l (choices-small ends choices row (st .choices-are) ends-few i l) ∙ simp q)
 
     -- the values stand where the question's columns have the choices
-    pub chosen-there : Chosen s p n choices values
+    pub chosen-there : ChosenThere s p n choices values
     chosen-there =
         let small = choices-small ends choices row (st .choices-are) ends-few in
         record { small = small; six = st .values-are .six; picked = λ i l. st .values-are .picked i l ∙ laid .grid-is i (getD choices i 0) l (small i l) }
 
-    pub stands-there : Stands s p n starts values
+    pub stands-there : RowStands s p n starts values
     stands-there =
         row-stands s p n (firstIn p) (asked .question .last) most columns chosen-row chooses starts values grid (laid .starts-are) (laid .grid-is) values-chosen
         (asked .question .sections)
@@ -180,10 +180,10 @@ module _ {s : List ℕ} {p : Sections} {all start n : ℕ} {starts ends : List �
 
 -- ---- a policy's number fits a byte
 
-named-few : {t : List ℕ} {view : View} {q : Request} {ps : List Policy} {n : ℕ} → Names t view q ps n → n ≤ length ps
+named-few : {t : List ℕ} {view : View} {q : Request} {ps : List Policy} {n : ℕ} → NamesPolicy t view q ps n → n ≤ length ps
 named-few (the-system s) = omega arith
-named-few (a-forbid s l) = numbered-few (l .bites .numbered)
-named-few (a-permit s f l) = numbered-few (l .bites .numbered)
+named-few (a-forbid s l) = numbered-few (l .satisfied-as .numbered)
+named-few (a-permit s f l) = numbered-few (l .satisfied-as .numbered)
 named-few (none-named s f g) = omega arith
 
 module _ (text : List ℕ) (view : View) (q : Request) (ps : List Policy) where

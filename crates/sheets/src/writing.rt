@@ -5,11 +5,11 @@ ghost use Prim.Native.Nat.{_≤_};
 ghost use lib.ListN.{length};
 ghost use Rattle.stored.specs.ReadBack.{policiesAt};
 ghost use Rattle.stored.specs.Ready.{ReadyPolicies};
-ghost use Rattle.views.specs.Rows.{Stands};
+ghost use Rattle.views.specs.Rows.{RowStands};
 ghost use Rattle.targets.specs.Matching.{request};
 ghost use Rattle.pages.specs.Rows.{Counted};
 ghost use Rattle.pages.specs.Listing.{PageWritten};
-ghost use Rattle.marks.specs.Marks.{Depths, Chosen};
+ghost use Rattle.marks.specs.Marks.{Depths, ChosenThere};
 ghost use Rattle.sheets.specs.Sheets.{decisionAt};
 ghost use Rattle.sheets.specs.Asked.{Asked, Decidable, RowsAsked, Kept, RowDecided};
 use bags::sections::Sections;
@@ -75,9 +75,9 @@ fn row_decision<'a>(
     resource: &[u8],
     resource_type: usize,
 ) -> Decision
-    requires { ⌜ Stands (now s) p n (now starts) (now values) ⌝ }
+    requires { ⌜ RowStands (now s) p n (now starts) (now values) ⌝ }
     requires { ⌜ Decidable system (now text) (now table) policies entries (now subject) «subject_type» (now resource) «resource_type» ⌝ }
-    requires { ⌜ Chosen (now s) p n (now choices) (now values) ⌝ }
+    requires { ⌜ ChosenThere (now s) p n (now choices) (now values) ⌝ }
     requires { ⌜ (system ≡ false → Kept (now text) (now s) p n (now starts) (request (now subject) (now action) (now resource)) (policiesAt (now table) entries)
         policies (now owns) (now others) (now values) from (now marks)) ⌝ }
     ensures { λ r. ⌜ RowDecided system (now (text .entry)) (now (s .entry)) p n (now (starts .entry))

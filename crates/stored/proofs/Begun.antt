@@ -13,7 +13,7 @@ use Rattle.table.specs.declared.Entry.{Entry}
 use Rattle.table.specs.Entries.{entry, placed, literalEntry, literalEntries, operandEntry, whichKind, treeEntries, partEntry, actionEntries, conditionEntries, effectKind, targetEntries, policyEntries, policiesEntries}
 use Rattle.slices.specs.Parts.{Begins}
 use Rattle.table.specs.Layout.{held, bytesOf, startsWith}
-use Rattle.stored.specs.Stored.{Says, Small, StoredPolicies}
+use Rattle.stored.specs.Stored.{TextSays, Small, StoredPolicies}
 use Rattle.table.proofs.Holding.{held-starts, starts-decides}
 use Rattle.placing.proofs.EachLaws.{each-append}
 use Rattle.table.proofs.Counting.{entries-few}
@@ -140,7 +140,7 @@ module _ (t : List ℕ) (short : length t ≤ 8192) where
 
 -- ---- a table that begins with a text's entries
 
-module _ {table t : List ℕ} {ps : List Policy} (says : Says t ps) where
+module _ {table t : List ℕ} {ps : List Policy} (says : TextSays t ps) where
   pub begun-stored : held table 0 (policiesEntries 0 ps) ≡ true → StoredPolicies table (length (policiesEntries 0 ps)) ps
   begun-stored h =
       let short = says .short in

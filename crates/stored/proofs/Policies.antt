@@ -10,13 +10,13 @@ use Rattle.table.proofs.Counting.{policies-append}
 use Rattle.table.specs.declared.Entry.{Entry}
 use Rattle.table.specs.Entries.{entry, literalEntry, literalEntries, partEntry, actionEntries, conditionEntries, effectKind, targetEntries, policyEntries, policiesEntries}
 use Rattle.table.specs.Layout.{entryAt}
-use Rattle.stored.specs.Stored.{Stands, StoredPolicy, StoredPolicies, ActionView, is-every, is-one-of, ConditionView, no-condition, a-condition, PolicyView, LastPolicy}
+use Rattle.stored.specs.Stored.{EntriesStand, StoredPolicy, StoredPolicies, ActionView, is-every, is-one-of, ConditionView, no-condition, a-condition, PolicyView, LastPolicy}
 use Rattle.stored.proofs.Standing.{stands-left, stands-right, stands-head, stands-tail, stands-before, stands-last, stands-from, literals-stand}
 use Rattle.stored.proofs.Views.{some-entries}
 
 -- ---- one policy
 
-action-view : {T : List ℕ} {first end : ℕ} (a : Actions) → Stands T first end (actionEntries a) → ActionView T end a (entryAt T (end - 1))
+action-view : {T : List ℕ} {first end : ℕ} (a : Actions) → EntriesStand T first end (actionEntries a) → ActionView T end a (entryAt T (end - 1))
 unfolding actionEntries
 action-view {T} {first} {end} every s = subst (ActionView T end every) (sym (stands-last [] (entry 32 0 0) s)) is-every
 action-view {T} {first} {end} (oneOf ls) s =
@@ -25,7 +25,7 @@ action-view {T} {first} {end} (oneOf ls) s =
     subst (ActionView T end (oneOf ls)) (sym (stands-last (literalEntries ls) (entry 33 (length ls) 0) s))
     (is-one-of (omega arith) (literals-stand ls (stands-from place (stands-before (literalEntries ls) (entry 33 (length ls) 0) s))))
 
-condition-view : {T : List ℕ} {first end : ℕ} (c : Option Tree) → Stands T first end (conditionEntries first c) → ConditionView T first end c
+condition-view : {T : List ℕ} {first end : ℕ} (c : Option Tree) → EntriesStand T first end (conditionEntries first c) → ConditionView T first end c
 unfolding conditionEntries
 condition-view none s = let e = s .ends in no-condition (omega arith)
 condition-view {first = first} (some t) s = let e = s .ends in let n = some-entries first t in a-condition (omega arith) (record { first = first; stands = s })
@@ -72,11 +72,11 @@ policy-view {T} {end} p h =
 pub policies-view : {T : List ℕ} {end : ℕ} (ps : List Policy) (p : Policy) → StoredPolicies T end (ps ++ p ∷ []) → LastPolicy T end (ps ++ p ∷ [])
 policies-view {T} {end} ps p h =
     let f = 0 + length (policiesEntries 0 ps) in
-    let s = subst (Stands T 0 end) (policies-append 0 ps p) (h .stands) in
+    let s = subst (EntriesStand T 0 end) (policies-append 0 ps p) (h .stands) in
     let a = stands-left (policiesEntries 0 ps) (policyEntries f p) s in
     let b = stands-right (policiesEntries 0 ps) (policyEntries f p) s in
     let (v, e) = policy-view p (record { first = f; stands = b }) in
-    record { front = ps; last = p; is = refl; policy = v; before = record { stands = subst (λ (i : ℕ). Stands T 0 i (policiesEntries 0 ps)) (sym e) a } }
+    record { front = ps; last = p; is = refl; policy = v; before = record { stands = subst (λ (i : ℕ). EntriesStand T 0 i (policiesEntries 0 ps)) (sym e) a } }
 
 pub no-policies : {T : List ℕ} {end : ℕ} → StoredPolicies T end [] → end ≡ 0
 unfolding policiesEntries

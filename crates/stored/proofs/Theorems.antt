@@ -10,7 +10,7 @@ use Rattle.table.specs.Entries.{policiesEntries}
 use Rattle.slices.specs.Parts.{Begins}
 use Rattle.table.specs.Layout.{bytesOf}
 use Rattle.table.proofs.Holding.{length-bytesOf}
-use Rattle.stored.specs.Stored.{Says, StoredPolicies}
+use Rattle.stored.specs.Stored.{TextSays, StoredPolicies}
 use Rattle.stored.specs.ReadBack.{policiesAt}
 use Rattle.stored.specs.Ready.{ReadyPolicies}
 use Rattle.stored.proofs.Begun.{begins-stored}
@@ -18,7 +18,7 @@ use Rattle.stored.proofs.ReadingBack.{policies-back, one-list}
 use Rattle.stored.proofs.Evaluating.{ready-policies}
 
 -- a table that begins with a text's compiled bytes says its policies
-module _ {table text : List ℕ} {ps : List Policy} (says : Says text ps) (b : Begins (bytesOf (policiesEntries 0 ps)) table) where
+module _ {table text : List ℕ} {ps : List Policy} (says : TextSays text ps) (b : Begins (bytesOf (policiesEntries 0 ps)) table) where
   pub compiled-says : policiesAt table (length (policiesEntries 0 ps)) ≡ ps
   compiled-says = policies-back (begins-stored says b)
 
@@ -27,7 +27,7 @@ module _ {table text : List ℕ} {ps : List Policy} (says : Says text ps) (b : B
   compiled-ready = ready-policies (begins-stored says b) (policies-placed text ps (says .read) .each)
 
 -- two texts that are compiled to the same bytes say the same policies
-module _ {a b : List ℕ} {ps qs : List Policy} (h : Says a ps) (k : Says b qs) where
+module _ {a b : List ℕ} {ps qs : List Policy} (h : TextSays a ps) (k : TextSays b qs) where
   pub same-bytes : bytesOf (policiesEntries 0 ps) ≡ bytesOf (policiesEntries 0 qs) → ps ≡ qs
   same-bytes e =
       let T = bytesOf (policiesEntries 0 ps) in

@@ -10,7 +10,7 @@ use Rattle.table.specs.declared.Entry.{Entry}
 use Rattle.table.specs.Entries.{entry, placed, literalEntry, literalEntries, operandEntry, comparatorKind, whichKind, rootKind, hasKind, treeEntries}
 use Rattle.table.specs.Layout.{entrySize, entryAt}
 use Rattle.table.proofs.Holding.{held-room}
-use Rattle.stored.specs.Stored.{Stands, Stored, Literals, View, is-true, is-false, is-comparison, is-like, is-among, is-within, is-contains, is-has, is-not, is-brackets, is-both, is-either, is-choice}
+use Rattle.stored.specs.Stored.{EntriesStand, Stored, Literals, View, is-true, is-false, is-comparison, is-like, is-among, is-within, is-contains, is-has, is-not, is-brackets, is-both, is-either, is-choice}
 use Rattle.stored.proofs.Standing.{stands-left, stands-right, stands-head, stands-tail, stands-before, stands-last, stands-from, literals-stand}
 
 longer : (a : List Entry) (x : Entry) → 0 < length (a ++ x ∷ [])
@@ -18,7 +18,7 @@ longer a x = let n = length-append a (x ∷ []) in omega arith
 
 module _ {T : List ℕ} {first end : ℕ} where
   -- three entries
-  three-stand : (x y z : Entry) → Stands T first end (x ∷ y ∷ z ∷ []) → (3 ≤ end) × (entryAt T (end - 3) ≡ x) × (entryAt T (end - 2) ≡ y) × (entryAt T (end - 1) ≡ z)
+  three-stand : (x y z : Entry) → EntriesStand T first end (x ∷ y ∷ z ∷ []) → (3 ≤ end) × (entryAt T (end - 3) ≡ x) × (entryAt T (end - 2) ≡ y) × (entryAt T (end - 1) ≡ z)
   three-stand x y z s =
       let e = s .ends in
       let p : end - 3 ≡ first = omega arith in
@@ -26,7 +26,7 @@ module _ {T : List ℕ} {first end : ℕ} where
       (omega arith, ap (entryAt T) p ∙ stands-head x _ s, ap (entryAt T) q ∙ stands-head y _ (stands-tail x _ s), stands-last (x ∷ y ∷ []) z s)
 
   -- an entry, a list's literals, and an entry
-  list-stands : (x : Entry) (ls : List Literal) (y : Entry) → Stands T first end ((x ∷ literalEntries ls) ++ y ∷ [])
+  list-stands : (x : Entry) (ls : List Literal) (y : Entry) → EntriesStand T first end ((x ∷ literalEntries ls) ++ y ∷ [])
       → (length ls + 2 ≤ end) × (entryAt T (end - length ls - 2) ≡ x) × Literals T (end - length ls - 1) ls × (entryAt T (end - 1) ≡ y)
   list-stands x ls y s =
       let n = length-map ls literalEntry in
@@ -38,7 +38,7 @@ module _ {T : List ℕ} {first end : ℕ} where
 
   -- two parts and a node
   joint-stands : (kind : ℕ) (l r : Tree)
-      → Stands T first end ((treeEntries first l ++ treeEntries (first + length (treeEntries first l)) r) ++ entry kind (first + length (treeEntries first l)) 0 ∷ [])
+      → EntriesStand T first end ((treeEntries first l ++ treeEntries (first + length (treeEntries first l)) r) ++ entry kind (first + length (treeEntries first l)) 0 ∷ [])
       → (first + length (treeEntries first l) < end) × Stored T (first + length (treeEntries first l)) l × Stored T (end - 1) r
   joint-stands kind l r s =
       let m = first + length (treeEntries first l) in
@@ -99,7 +99,7 @@ module _ {T : List ℕ} {end : ℕ} where
       let e : end ≡ f + length (whole ++ entry 28 m n ∷ []) = k .ends in
       seen-as (choice c a b) (stands-last whole (entry 28 m n) k) (is-choice (omega arith) (omega arith)
       (record { first = f; stands = stands-left (treeEntries f c) (treeEntries m a) ca })
-      (record { first = m; stands = subst (λ (i : ℕ). Stands T m i (treeEntries m a)) q (stands-right (treeEntries f c) (treeEntries m a) ca) })
+      (record { first = m; stands = subst (λ (i : ℕ). EntriesStand T m i (treeEntries m a)) q (stands-right (treeEntries f c) (treeEntries m a) ca) })
       (record { first = n; stands = stands-from q (stands-right es (treeEntries n b) inner) }))
 
 -- ---- ends fall from a condition to its parts
@@ -130,7 +130,7 @@ pub stored-few : {T : List ℕ} {end : ℕ} {t : Tree} → Stored T end t → en
 stored-few h = h .stands .few
 
 -- the table has the entries that end there
-pub stands-here : {T : List ℕ} {first end : ℕ} {es : List Entry} → Stands T first end es → first < end → entrySize * end ≤ length T
+pub stands-here : {T : List ℕ} {first end : ℕ} {es : List Entry} → EntriesStand T first end es → first < end → entrySize * end ≤ length T
 stands-here {T} {first} {end} {es} h n =
     let e = h .ends in let k = held-room T first es (omega arith) (h .has) in omega arith
 

@@ -15,7 +15,7 @@ use Rattle.table.specs.Entries.{entry, placed, rootKind, hasKind, literalEntry,
 use Rattle.table.specs.Layout.{entryAt, held}
 
 -- a text of at most 8,192 bytes that says these policies
-pub record Says (text : List ℕ) (ps : List Policy) : Type 0 where
+pub record TextSays (text : List ℕ) (ps : List Policy) : Type 0 where
   pub short : length text ≤ 8192
   pub read : read-text (tokensOf text) ≡ took ps []
 
@@ -25,7 +25,7 @@ pub record Small (x : Entry) : Type 0 where
   pub second : x .second < 65536
 
 -- the table has these entries from number `first` on, and they end before number `end`
-pub record Stands (table : List ℕ) (first end : ℕ) (es : List Entry) : Type 0 where
+pub record EntriesStand (table : List ℕ) (first end : ℕ) (es : List Entry) : Type 0 where
   pub has : held table first es ≡ true
   pub ends : end ≡ first + length es
   pub small : Each Small es
@@ -34,7 +34,7 @@ pub record Stands (table : List ℕ) (first end : ℕ) (es : List Entry) : Type 
 -- a condition's entries end before number `end`
 pub record Stored (table : List ℕ) (end : ℕ) (t : Tree) : Type 0 where
   pub first : ℕ
-  pub stands : Stands table first end (treeEntries first t)
+  pub stands : EntriesStand table first end (treeEntries first t)
 
 -- the entries of these literals begin at number e
 pub data Literals (table : List ℕ) : ℕ → List Literal → Type 0 where
@@ -65,12 +65,12 @@ pub data View (table : List ℕ) (end : ℕ) : Tree → Entry → Type 0 where
 
 -- some policies' entries end before number `end`
 pub record StoredPolicies (table : List ℕ) (end : ℕ) (ps : List Policy) : Type 0 where
-  pub stands : Stands table 0 end (policiesEntries 0 ps)
+  pub stands : EntriesStand table 0 end (policiesEntries 0 ps)
 
 -- one policy's
 pub record StoredPolicy (table : List ℕ) (end : ℕ) (p : Policy) : Type 0 where
   pub first : ℕ
-  pub stands : Stands table first end (policyEntries first p)
+  pub stands : EntriesStand table first end (policyEntries first p)
 
 -- an action part by its last entry, number end - 1: its strings before it
 pub data ActionView (table : List ℕ) (end : ℕ) : Actions → Entry → Type 0 where

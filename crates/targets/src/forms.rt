@@ -4,7 +4,7 @@ ghost use mathlib.Core.Bool.{cond};
 ghost use lib.ListN.{length};
 ghost use Rattle.grammar.specs.Rules.{principalTypes, resourceTypes};
 ghost use Rattle.parts.specs.Names.{typesOf};
-ghost use Rattle.meaning.specs.Targets.{kindOf, typeIn, isTyped, isSystem, isAction};
+ghost use Rattle.meaning.specs.Targets.{beforeColon, typeIn, isTyped, isSystem, isAction};
 use heads::type_number;
 use slices::same;
 
@@ -24,7 +24,7 @@ pub fn is_action(s: &[u8]) -> bool
 
 // Where the type ends: how many bytes stand before the first colon; all, where there is none.
 fn type_end(s: &[u8]) -> usize
-    ensures { λ r. ⌜ r ≡ length (kindOf (now (s .entry))) ⌝ }
+    ensures { λ r. ⌜ r ≡ length (beforeColon (now (s .entry))) ⌝ }
 {
     let mut i = 0;
     while i < s.len() {

@@ -7,7 +7,7 @@ use lib.Bits.{bitAnd}
 use lib.Dec.{eqb}
 use lib.ListN.{getD}
 use Rattle.tokens.specs.Runs.{is}
-use Rattle.tokens.specs.Table.{listed, entryOf, classTable}
+use Rattle.tokens.specs.Table.{valuesFrom, entryOf, classTable}
 use Rattle.tokens.specs.declared.classes.Sort.{Sort}
 use Rattle.tokens.proofs.Table.{entry, agree}
 
@@ -15,7 +15,7 @@ abbrev pub hasBit : ℕ → ℕ → Bool
 hasBit bit n = not (eqb (bitAnd n bit) 0)
 
 -- a bit that the entries of just the bytes of a sort have, which `refl` shows, tells the sort of each byte
-pub bit-tells : (bit : ℕ) (sort : Sort) → listed (λ (k : ℕ). hasBit bit (entryOf k)) 0 256 ≡ listed (is sort) 0 256
+pub bit-tells : (bit : ℕ) (sort : Sort) → valuesFrom (λ (k : ℕ). hasBit bit (entryOf k)) 0 256 ≡ valuesFrom (is sort) 0 256
     → (table : List ℕ) (b : ℕ) → table ≡ classTable → b < 256 → hasBit bit (getD table b 0) ≡ is sort b
 unfolding classTable
 bit-tells bit sort all table b e h =

@@ -7,9 +7,9 @@ use Rattle.tokens.specs.Bytes.{classOf}
 use Rattle.tokens.specs.Runs.{wordByte, stringByte, loneMark}
 
 -- a rule's values at `first`, `first + 1`, .., as many as `count`
-abbrev pub listed : {A : Type 0} → (ℕ → A) → ℕ → ℕ → List A
-listed rule first zero = []
-listed rule first (suc count) = rule first ∷ listed rule (suc first) count
+abbrev pub valuesFrom : {A : Type 0} → (ℕ → A) → ℕ → ℕ → List A
+valuesFrom rule first zero = []
+valuesFrom rule first (suc count) = rule first ∷ valuesFrom rule (suc first) count
 
 -- the number that stands for a class in an entry: never, text only, blank, mark, digit, letter
 abbrev pub classBit : ℕ → ℕ
@@ -21,4 +21,4 @@ entryOf b = classBit (classOf b) + cond (wordByte b) 32 0 + cond (stringByte b) 
 
 -- the entries of all 256 bytes
 unfoldable pub classTable : List ℕ
-classTable = listed entryOf 0 256
+classTable = valuesFrom entryOf 0 256

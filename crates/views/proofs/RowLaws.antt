@@ -21,15 +21,15 @@ use Rattle.questions.specs.Questions.{headOf, countOf, choiceOf, cell}
 use Rattle.questions.proofs.ColumnLaws.{Columned, candidate-valued}
 use Rattle.questions.proofs.PlaceLaws.{firstOf, first-is, column-of}
 use Rattle.views.specs.Meaning.{present, look, hasPath, Chosen, rowBag, columnsFirst}
-use Rattle.views.specs.Values.{datumIn, Reads, baseBag, chosenMeant}
-use Rattle.views.specs.Rows.{chosenAt, chosenOf, baseValue, rowValue, rowView, Stands, columnsOf, bagOfRow, Chooses}
+use Rattle.views.specs.Values.{datumIn, StandsFor, baseBag, chosenMeant}
+use Rattle.views.specs.Rows.{chosenAt, chosenOf, baseValue, rowValue, rowView, RowStands, columnsOf, bagOfRow, Chooses}
 use Rattle.views.proofs.RowBag.{row-view, has-in-row}
 use Rattle.views.proofs.ReadLaws.{look-means, columns-mean, base-filled}
 use Rattle.views.proofs.ViewLaws.{listed-alike, columns-have}
 
 -- ---- what the code's places show
 
-module _ (s : List ℕ) (p : Sections) (n : ℕ) (heads values : List ℕ) (w : Stands s p n heads values) (root : ℕ) (path : List ℕ) where
+module _ (s : List ℕ) (p : Sections) (n : ℕ) (heads values : List ℕ) (w : RowStands s p n heads values) (root : ℕ) (path : List ℕ) where
   row-is : datumIn s (rowValue s p n heads values root path) ≡ rowView s p n heads values root path
   unfolding rowValue rowView baseBag
   row-is = columns-mean s (chosenOf n s heads values) (baseValue s p) (look (baseBag s p)) root path (look-means s (baseOf s p root) path)
@@ -48,7 +48,7 @@ module _ (s : List ℕ) (p : Sections) (n : ℕ) (heads values : List ℕ) (w : 
   pub row-finite : T (finite (rowValue s p n heads values root path .number))
   row-finite = row-has (λ v. T (finite (v .number))) (base-finite s path p root (w .sections)) (value-finite s)
 
-  pub row-reads : Reads s (rowValue s p n heads values root path) (rowView s p n heads values root path)
+  pub row-reads : StandsFor s (rowValue s p n heads values root path) (rowView s p n heads values root path)
   row-reads = record { is = row-is; whole = row-whole }
 
 -- ---- a row of a question
@@ -81,7 +81,7 @@ module _ (s : List ℕ) (p : Sections) (n at last : ℕ) (few : n ≤ 6) (column
         let here : i < 6 = omega arith in
         values-are i here ∙ simp (lt-ltb i n l) (grid-is i (getD choices i 0) here (choices-small i l) ∙ simp (lt-ltb i n l))
 
-    pub row-stands : Sectioned s p → Stands s p n heads values
+    pub row-stands : Sectioned s p → RowStands s p n heads values
     row-stands w = record {
       sections = w;
       few = few;
@@ -111,7 +111,7 @@ has-is-presence s p n at choices root path w =
 
 -- ---- a bag: the row without columns
 
-pub plain-stands : (s : List ℕ) (p : Sections) (heads values : List ℕ) → Sectioned s p → Stands s p 0 heads values
+pub plain-stands : (s : List ℕ) (p : Sections) (heads values : List ℕ) → Sectioned s p → RowStands s p 0 heads values
 plain-stands s p heads values w = record { sections = w; few = omega arith; named = λ i l. absurd (omega arith); valued = λ i l. absurd (omega arith) }
 
 -- the row without columns has the base for its bag

@@ -2,7 +2,7 @@
 use Prim.Native.Nat.{ℕ, _<_, _≤_}
 use mathlib.Core.List.{List, map}
 use lib.ListN.{length, getD}
-use Rattle.tokens.specs.Table.{listed}
+use Rattle.tokens.specs.Table.{valuesFrom}
 use Rattle.bags.specs.Reading.{byte}
 use Rattle.bags.specs.Sections.{Sectioned}
 use Rattle.bags.specs.declared.sections.Sections.{Sections}
@@ -22,7 +22,7 @@ chosenAt s c k = record { root = byte s c; path = columnPath s c; value = valueA
 
 -- each column with what is chosen for it
 unfoldable pub chosenOf : ℕ → List ℕ → List ℕ → List ℕ → List (Chosen Value)
-chosenOf n s heads values = listed (λ i. chosenAt s (getD heads i 0) (getD values i 0)) 0 n
+chosenOf n s heads values = valuesFrom (λ i. chosenAt s (getD heads i 0) (getD values i 0)) 0 n
 
 -- the attribute in the base
 abbrev pub baseValue : List ℕ → Sections → ℕ → List ℕ → Value
@@ -37,7 +37,7 @@ unfoldable pub rowView : List ℕ → Sections → ℕ → List ℕ → List ℕ
 rowView s p n heads values = columnsFirst (map (chosenMeant s) (chosenOf n s heads values)) (look (baseBag s p))
 
 -- the row's sections, columns and choices lie in the bytes
-pub record Stands (s : List ℕ) (p : Sections) (n : ℕ) (heads values : List ℕ) : Type 0 where
+pub record RowStands (s : List ℕ) (p : Sections) (n : ℕ) (heads values : List ℕ) : Type 0 where
   pub sections : Sectioned s p
   pub few : n ≤ 6
   pub named : (i : ℕ) → i < n → countAt s (getD heads i 0) < length s
@@ -47,7 +47,7 @@ pub record Stands (s : List ℕ) (p : Sections) (n : ℕ) (heads values : List �
 
 -- each column with its choice
 unfoldable pub columnsOf : ℕ → List ℕ → ℕ → List ℕ → List (Chosen Value)
-columnsOf n s at choices = listed (λ i. chosenAt s (headOf s at i) (choiceOf s (headOf s at i) (getD choices i 0))) 0 n
+columnsOf n s at choices = valuesFrom (λ i. chosenAt s (headOf s at i) (choiceOf s (headOf s at i) (getD choices i 0))) 0 n
 
 -- the bag of the row: the base with each column's attribute set to its choice, or removed
 unfoldable pub bagOfRow : List ℕ → Sections → ℕ → ℕ → List ℕ → Bag

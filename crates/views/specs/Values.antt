@@ -41,7 +41,7 @@ abbrev pub datumIn : List ℕ → Value → Datum
 datumIn s v = datumOf v (stringAt s (v .place)) (listAt s (v .place))
 
 -- v was read from s, and stands for d
-pub record Reads (s : List ℕ) (v : Value) (d : Datum) : Type 0 where
+pub record StandsFor (s : List ℕ) (v : Value) (d : Datum) : Type 0 where
   pub is : datumIn s v ≡ d
   pub whole : Whole s v
 

@@ -9,7 +9,7 @@ ghost use Rattle.slices.specs.Same.{same};
 ghost use Rattle.bags.specs.Reading.{byte};
 ghost use Rattle.tokens.specs.Blanks.{unblanked};
 ghost use Rattle.questions.specs.Columns.{columnPath, countAt};
-ghost use Rattle.views.specs.Rows.{rowValue, Stands};
+ghost use Rattle.views.specs.Rows.{rowValue, RowStands};
 use bags::sections::Sections;
 use lookups::finding::base_value;
 use lookups::finding::same_path;
@@ -39,7 +39,7 @@ pub fn attribute(
     root: u8,
     path: &[u8],
 ) -> Value
-    requires { ⌜ Stands (now s) p n (now heads) (now values) ⌝ }
+    requires { ⌜ RowStands (now s) p n (now heads) (now values) ⌝ }
     ensures { λ r. ⌜ r ≡ rowValue (now (s .entry)) p n (now (heads .entry)) (now (values .entry)) root (unblanked (now (path .entry))) ⌝ }
 {
     let mut left = n;

@@ -5,7 +5,7 @@ use lib.ListN.{getD}
 use mathlib.Core.Path.{_≡_, refl, sym, _∙_}
 use native.Mathlib.Omega.{arith}
 use Rattle.tokens.specs.Blanks.{unblanked}
-use Rattle.tokens.specs.Table.{listed}
+use Rattle.tokens.specs.Table.{valuesFrom}
 use Rattle.views.proofs.ViewLaws.{columns-none, columns-here, columns-on}
 use Rattle.views.specs.Meaning.{columnsFirst}
 use Rattle.views.specs.Rows.{chosenAt, chosenOf, baseValue, rowValue}
@@ -14,7 +14,7 @@ use Rattle.views.proofs.attribute.Tie as tie
 
 abbrev Inv-loop : tie.InvT-loop
 Inv-loop s p n heads values root path left₀ i₀ left i =
-    (columnsFirst (listed (λ i. chosenAt s (getD heads i 0) (getD values i 0)) i left) (baseValue s p) root (unblanked path) ≡ rowValue s p n heads values root (unblanked path))
+    (columnsFirst (valuesFrom (λ i. chosenAt s (getD heads i 0) (getD values i 0)) i left) (baseValue s p) root (unblanked path) ≡ rowValue s p n heads values root (unblanked path))
     × (i + left ≡ n)
 
 abbrev μ-loop : tie.MeasureT-loop

@@ -2,7 +2,7 @@
 use borrow.Author.Needs.{needs}
 use denote.Ref.{now}
 use Rattle.bags.specs.Reading.{byte}
-use Rattle.views.specs.Rows.{Stands}
+use Rattle.views.specs.Rows.{RowStands}
 use Rattle.views.proofs.RowLaws.{row-finite, row-reads, row-stands}
 use Rattle.views_vectors.proofs.Choices.{all-candidates}
 use Rattle.views_vectors.proofs.row.Statement.{statement}
@@ -10,7 +10,7 @@ use Rattle.views_vectors.proofs.row.Tie as tie
 
 -- the row of these choices stands in the bytes
 stands : (c : tie.After-chosen) → let start = c .before .before .before .before .before .before .before .before in
-    Stands (now (start .args .s)) (start .args .p) (byte (now (start .args .s)) (start .args .p .end)) (c .before .heads .result) (c .chosen .result)
+    RowStands (now (start .args .s)) (start .args .p) (byte (now (start .args .s)) (start .args .p .end)) (c .before .heads .result) (c .chosen .result)
 stands c =
     let start = c .before .before .before .before .before .before .before .before in
     let w = start .pre in

@@ -3,7 +3,7 @@ use Rattle.operators.proofs.ListLaws.{isListed}
 use borrow.Author.Needs.{needs}
 use Rattle.operators.proofs.ListLaws.{FirstPlaced, first-placed, at-entry, asked-done, asked-here, asked-more}
 use Rattle.operators.specs.Operands.{whichOf}
-use Rattle.meaning.specs.Conditions.{asked, listed}
+use Rattle.meaning.specs.Conditions.{asked, amongStrings}
 use Rattle.meaning.specs.Values.{literalValue, ifText, sameFlag}
 use Rattle.stored.specs.ReadBack.{literalOf, literalsAt}
 use Rattle.placing.specs.Placed.{Each, LiteralPlaced}

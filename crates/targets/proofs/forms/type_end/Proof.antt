@@ -1,7 +1,7 @@
 -- `targets::forms::type_end` meets its contract. The invariant: no colon stands before i. Assumes nothing.
 use native.Mathlib.Omega.{arith}
 use Rattle.targets.proofs.FormLaws.{colon-here, colon-on, colon-none}
-use Rattle.meaning.specs.Targets.{kindOf}
+use Rattle.meaning.specs.Targets.{beforeColon}
 use lib.ListN.{length, drop}
 use Prim.Native.Nat.{_+_, _-_, _≤_}
 use mathlib.Core.Path.{_≡_}
@@ -9,7 +9,7 @@ use Rattle.targets.proofs.forms.type_end.Statement.{statement}
 use Rattle.targets.proofs.forms.type_end.Tie as tie
 
 abbrev Inv-loop : tie.InvT-loop
-Inv-loop s i₀ i = (i ≤ length s) × (length (kindOf s) ≡ i + length (kindOf (drop i s)))
+Inv-loop s i₀ i = (i ≤ length s) × (length (beforeColon s) ≡ i + length (beforeColon (drop i s)))
 
 abbrev μ-loop : tie.MeasureT-loop
 μ-loop s i₀ i = length s - i
