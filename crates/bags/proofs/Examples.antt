@@ -6,7 +6,6 @@ use mathlib.Core.Path.{_≡_, refl}
 use lib.ListN.{length, replicate}
 use Prim.Native.String.{String}
 use Rattle.slices.specs.Ascii.{bytes}
-use Rattle.bags.specs.Reading.{each}
 use Rattle.bags.specs.Paths.{isPath}
 use Rattle.bags.specs.Sections.{isBag}
 use Rattle.bags.proofs.Opened.{bags-opened}

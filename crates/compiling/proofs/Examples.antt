@@ -4,7 +4,6 @@ use mathlib.Core.Bool.{true, false}
 use mathlib.Core.List.{List, [], _∷_, _++_}
 use Prim.Native.Nat.{ℕ, zero, suc}
 use Rattle.slices.specs.Ascii.{bytes}
-use Rattle.grammar.specs.Parser.{mayBegin}
 use Rattle.compiling.specs.Outcome.{compiledOf, beginsOf}
 use Rattle.compiling.specs.declared.Compiled.the-variants.{Policies, Refused}
 use Rattle.compiling.proofs.Opened.{compiling-opened}

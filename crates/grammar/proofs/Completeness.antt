@@ -20,7 +20,7 @@ use Rattle.grammar.specs.Policies.{Span, Root, Literal, truth, Operand, 
 use Rattle.grammar.specs.Rules.{inside, isEffect, isRoot, rootOf, isTruth, isLiteral, literalOf, isComparator, isContains, whichOf, deepens, principalTypes, resourceTypes, typeOf, isType, admitted, mostLiterals, mostPolicies, isPattern}
 use Rattle.grammar.specs.Grammar.{Limits, Path, spanned, FirstName, first, NextName, next, APath, rooted, AnOperand, given, Element, element, Literals, Simple, comparison, likeness, listed, held, call, having, Conjunction, Disjunction, ConditionOver, simple, negation, bracketed, conditional, Nothing, Condition, Typed, ResourceRest, ActionRest, When, PolicyRest, Policies, policy, RuleText}
 use Rattle.grammar.specs.Grammar as grammar
-use Rattle.grammar.specs.Parser.{Way, calling, noName, noOperator, noLevel, noPattern, tooMany, noPolicy, fits, read-first-name, goesOn, read-next-name, read-way, noExit, spannedBy, read-path, read-attribute, read-operand, isElement, read-element, read-list, read-bare, read-in, isLike, read-pattern, read-operator, read-call, read-rest, read-rooted, read-simple, read-joined, read-conjunction, read-disjunction, read-negated, read-bracketed, read-conditional, read-deeper, read-condition, read-conditions, read-type, read-principal, read-action, read-resource, read-when, read-policy, mayBegin, read-next-policy, atEnd, read-text}
+use Rattle.grammar.specs.Parser.{Way, calling, noName, noLevel, noPattern, tooMany, noPolicy, fits, read-first-name, goesOn, read-next-name, read-way, noExit, spannedBy, read-path, read-attribute, read-operand, isElement, read-element, read-list, read-bare, read-in, isLike, read-pattern, read-operator, read-call, read-rest, read-rooted, read-simple, read-joined, read-conjunction, read-disjunction, read-negated, read-bracketed, read-conditional, read-deeper, read-condition, read-conditions, read-type, read-principal, read-action, read-resource, read-when, read-policy, mayBegin, read-next-policy, atEnd, read-text}
 use Rattle.grammar.specs.Parser as parser
 use Rattle.grammar.proofs.Begun.{made}
 use Rattle.grammar.proofs.Framing.{shrinks-element, shrinks-condition, shrinks-conjunction, shrinks-policy}

@@ -13,7 +13,7 @@ use Rattle.reading.specs.Lexemes.{Lexeme, tokensOf}
 use Rattle.reading.specs.Reader.{Answer, took, refuse}
 use Rattle.grammar.proofs.Begun.{made}
 use Rattle.grammar.specs.Policies.{Policy, constant, both, choice}
-use Rattle.grammar.specs.Parser.{noOperator, read-conditions, read-text}
+use Rattle.grammar.specs.Parser.{read-conditions, read-text}
 use Rattle.grammar.proofs.Opened.{grammar-opened}
 
 -- the number of policies, or the refusal's number, line and column

@@ -7,7 +7,7 @@ use borrow.Author.Tests.{ne-eqb}
 use native.Mathlib.Omega.{arith}
 use lib.Dec.{T}
 use lib.Ieee.Scale.{finite}
-use lib.ListN.{length, take, drop}
+use lib.ListN.{length}
 use Rattle.bags.specs.Reading.{byte}
 use Rattle.bags.specs.Paths.{isPath}
 use Rattle.bags.specs.Sections.{sectionsOf, isBag}

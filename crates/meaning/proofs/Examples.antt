@@ -8,14 +8,13 @@ use lib.Dec.{eqb}
 use lib.Ieee.{binary64, ofBits}
 use Rattle.slices.specs.Ascii.{bytes}
 use Rattle.slices.specs.Same.{same}
-use Rattle.patterns.specs.Likes.{stands}
 use Rattle.reading.specs.Lexemes.{tokensOf}
-use Rattle.reading.specs.Reader.{Answer, took, refuse, on, before}
+use Rattle.reading.specs.Reader.{Answer, took, refuse}
 use Rattle.grammar.specs.Policies.{Tree, Policy}
 use Rattle.grammar.specs.Parser.{read-conditions, read-text}
 use Rattle.views.specs.Meaning.{text, number, flag, texts, absent, View}
 use Rattle.meaning.specs.Values.{withAction}
-use Rattle.meaning.specs.Conditions.{some, all, verdict}
+use Rattle.meaning.specs.Conditions.{verdict}
 use Rattle.meaning.specs.Targets.{Request}
 use Rattle.meaning.specs.Decisions.{decisionOf, outcomeOf, policyOf}
 use Rattle.meaning.specs.declared.Verdict.{Verdict}

@@ -7,7 +7,7 @@ ghost use Rattle.views.specs.Meaning.{present};
 ghost use Rattle.views.specs.Rows.{rowView, RowStands};
 ghost use Rattle.patterns.specs.Likes.{likes};
 ghost use Rattle.grammar.specs.Policies.{Comparator.Equal};
-ghost use Rattle.placing.specs.Placed.{quotedAt, Each, Lies, StringPlaced, PathPlaced, LiteralPlaced, OperandPlaced};
+ghost use Rattle.placing.specs.Placed.{quotedAt, Each, StringPlaced, PathPlaced, LiteralPlaced, OperandPlaced};
 ghost use Rattle.table.specs.Layout.{entryAt};
 ghost use Rattle.stored.specs.ReadBack.{spanOf, rootOf, comparatorOf, operandOf, literalsAt, treeOf, treeAt};
 ghost use Rattle.stored.specs.Ready.{Room, Node};

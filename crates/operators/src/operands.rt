@@ -1,11 +1,10 @@
 // What an operand's entry stands for: a read value, and its string as a part of the rule text, of the bag or question, or the action itself.
 ghost use mathlib.Core.Path.{_≡_};
-ghost use mathlib.Core.Bool.{true, _&&_};
-ghost use lib.Dec.{eqb, leb};
+ghost use mathlib.Core.Bool.{true};
 ghost use Rattle.lookups.specs.Values.{Whole};
 ghost use Rattle.views.specs.Rows.{RowStands};
 ghost use Rattle.placing.specs.Placed.{quotedAt, Lies, StringPlaced, LiteralPlaced, OperandPlaced};
-ghost use Rattle.stored.specs.ReadBack.{spanOf, rootOf, literalOf, operandOf};
+ghost use Rattle.stored.specs.ReadBack.{spanOf, literalOf, operandOf};
 ghost use Rattle.operators.specs.Operands.{ofBag, attributeRead, literalRead, operandRead, stringOf};
 use bags::sections::Sections;
 use lookups::values::Value;

@@ -1,7 +1,7 @@
 // Listed rows: what of a decision is written, and where.
 ghost use mathlib.Core.Path.{_≡_};
 ghost use mathlib.Core.List.{_++_};
-ghost use Prim.Native.Nat.{ℕ, _≤_, _<_};
+ghost use Prim.Native.Nat.{_≤_, _<_};
 ghost use lib.ListN.{length, drop};
 ghost use Rattle.meaning.specs.Decisions.{outcomeOf, policyOf, isAllowed};
 ghost use Rattle.pages.specs.Listing.{rowSize, rowBytes};

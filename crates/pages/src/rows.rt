@@ -1,10 +1,9 @@
 // A row's choices, by column: each is the number of a candidate from 0 on. Six columns always; those that the question lacks have one choice.
 ghost use mathlib.Core.Path.{_≡_};
 ghost use mathlib.Core.Bool.{cond};
-ghost use Prim.Native.Nat.{ℕ, _-_, _%_, _≤_, _<_};
+ghost use Prim.Native.Nat.{ℕ, _-_, _%_, _<_};
 ghost use lib.Dec.{ltb};
-ghost use lib.ListN.{length, getD};
-ghost use Rattle.questions.specs.Columns.{countAt};
+ghost use lib.ListN.{getD};
 ghost use Rattle.questions.specs.Questions.{product, countOf};
 ghost use Rattle.pages.specs.Rows.{countsBy, choicesAt, Few, Counted, Placed, Moved};
 

@@ -6,8 +6,6 @@ use mathlib.Core.List.{List, [], _∷_, _++_}
 use mathlib.Core.Path.{_≡_, refl}
 use lib.ListN.{length, replicate}
 use Rattle.slices.specs.Ascii.{bytes}
-use Rattle.slices.specs.Order.{before}
-use Rattle.bags.specs.Reading.{each}
 use Rattle.bags.specs.Sections.{isBag}
 use Rattle.questions.specs.Questions.{isQuestion, headOf, cell, rowsOf}
 use Rattle.questions.proofs.Opened.{questions-opened}

@@ -1,8 +1,6 @@
 -- The worked example of docs/TABLE.md, whose text says its policy (placing, Examples.antt): the policy's entries, and that it is read back from their bytes. Assumes nothing.
 use mathlib.Core.Path.{_≡_, refl}
 use mathlib.Core.List.{List, [], _∷_}
-use Rattle.slices.specs.Ascii.{bytes}
-use Rattle.grammar.specs.Policies.{text}
 use Rattle.table.specs.declared.Entry.{Entry}
 use Rattle.table.specs.Entries.{entry, policiesEntries}
 use Rattle.table.specs.Layout.{bytesOf}

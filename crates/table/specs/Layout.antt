@@ -1,5 +1,4 @@
 -- The bytes of the table: 5 for each entry, its kind and its two fields of 16 bits, the low byte first. An entry is there whole or not at all. Definitions only.
-use mathlib.Core.Path.{_≡_}
 use mathlib.Core.List.{List, [], _∷_, _++_}
 use mathlib.Core.Bool.{Bool, true, false, cond, _&&_}
 use Prim.Native.Nat.{ℕ, _+_, _*_, _/_, _%_}

@@ -18,7 +18,7 @@ use Rattle.slices.specs.Parts.{Begins}
 use Rattle.tokens.specs.Runs.{is, run}
 use Rattle.tokens.specs.Words.{wordKind}
 use Rattle.tokens.specs.Tokens.{doubled, beforeEquals}
-use Rattle.tokens.specs.Forms.{All, empty, next, SomeDigits, digits-from, Unsigned, whole, pointed, Number, plain, minus, marks, Among, first, later, Form, a-word, a-string, a-number, a-mark, NoForm, Longest, digits, sizeOf, mostOf}
+use Rattle.tokens.specs.Forms.{All, empty, next, SomeDigits, digits-from, Unsigned, whole, pointed, Number, plain, minus, marks, Among, first, later, Form, a-word, a-string, a-number, a-mark, NoForm, Longest, sizeOf, mostOf}
 use Rattle.tokens.specs.declared.classes.Sort.{Sort}
 use Rattle.tokens.specs.declared.classes.Sort.the-variants.{Blanks, Marks, Digits, Letters, WordBytes, StringBytes, LoneMarks}
 use Rattle.tokens.proofs.TokenLaws.{never, and-left, and-right, or-cases, every}

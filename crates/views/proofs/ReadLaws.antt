@@ -17,7 +17,7 @@ use Rattle.bags.proofs.ReadLaws.{first, each-done, each-more}
 use Rattle.bags.proofs.ValueLaws.{Ended, string, number, flag, list, value-at}
 use Rattle.bags.proofs.SectionLaws.{entry-at, section-at}
 use Rattle.lookups.specs.Values.{nought, unit, absent as absentValue, numberOf, valueAt, Valued}
-use Rattle.lookups.specs.Lookups.{Entry, lookIn, entryAt, sectionAt, baseOf}
+use Rattle.lookups.specs.Lookups.{Entry, lookIn, entryAt, sectionAt}
 use Rattle.lookups.specs.declared.values.Value.{Value}
 use Rattle.lookups.proofs.FindLaws.{base-cases}
 use Rattle.views.specs.Meaning.{Datum, flag as switch, absent, present, Chosen, columnsFirst}

@@ -1,7 +1,6 @@
 -- `evaluating::part_met` meets its contract. Assumes nothing.
 use borrow.Author.Needs.{needs}
 use borrow.Author.Tests.{lt-ltb, le-ltb}
-use mathlib.Core.Path.{_∙_}
 use Rattle.evaluating.proofs.part_met.Statement.{statement}
 use Rattle.evaluating.proofs.part_met.Tie as tie
 

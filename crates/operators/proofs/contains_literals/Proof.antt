@@ -5,16 +5,8 @@ use Rattle.operators.specs.Operands.{whichOf}
 use Rattle.meaning.specs.Conditions.{asked, amongStrings}
 use Rattle.meaning.specs.Values.{literalValue, ifText}
 use Rattle.stored.specs.ReadBack.{literalsAt}
-use Prim.Native.Nat.{ℕ}
-use mathlib.Core.List.{List}
-use mathlib.Core.Path.{refl}
-use borrow.Author.Needs.{needs}
 use Rattle.operators.proofs.contains_literals.Statement.{statement}
 use Rattle.operators.proofs.contains_literals.Tie as tie
-use Rattle.operators.proofs.contains_literals.Reads as reads
-use Rattle.operators.proofs.contains_literals.Lts as lts
-use Rattle.operators.proofs.lists.literals_listed.Reads as literals-listed-reads
-use Rattle.operators.proofs.operands.attribute_value.Reads as attribute-value-reads
 
 attribute-value-requires : tie.Need-attribute-value-requires
 attribute-value-requires c κs = (c .before .before .before .pre .0 .lies, c .before .before .before .pre .1 .1 .1)

@@ -3,10 +3,6 @@ use Rattle.operators.proofs.OperatorLaws.{has-is}
 use borrow.Author.Needs.{needs}
 use Rattle.operators.proofs.has_attribute.Statement.{statement}
 use Rattle.operators.proofs.has_attribute.Tie as tie
-use Rattle.operators.proofs.has_attribute.Reads as reads
-use Rattle.operators.proofs.has_attribute.Lts as lts
-use Rattle.operators.proofs.operands.attribute_value.Reads as attribute-value-reads
-use Rattle.operators.proofs.values.is_present.Reads as is-present-reads
 
 attribute-value-requires : tie.Need-attribute-value-requires
 attribute-value-requires c κs = (c .before .before .pre .0 .lies, c .before .before .pre .1)

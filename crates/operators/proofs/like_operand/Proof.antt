@@ -11,11 +11,6 @@ use mathlib.Core.Path.{_∙_, ap}
 use borrow.Author.Needs.{needs}
 use Rattle.operators.proofs.like_operand.Statement.{statement}
 use Rattle.operators.proofs.like_operand.Tie as tie
-use Rattle.operators.proofs.like_operand.Reads as reads
-use Rattle.operators.proofs.like_operand.Lts as lts
-use Rattle.operators.proofs.operands.operand_string.Reads as operand-string-reads
-use Rattle.operators.proofs.operands.quoted.Reads as quoted-reads
-use Rattle.patterns.proofs.like.Reads as like-reads
 
 returns : tie.Need-returns
 returns c = of-no-string _ _ _ _ _ _ (c .before .before .before .before .pre .1 .1 .0) _ _ _ (c .before .before .before .before .pre .0) (c .before .before .before .before .pre .1 .1 .1) (likes (quotedAt (c .before .before .before .before .args .text .now) (spanOf (c .before .before .before .before .args .o)))) (c .if1 .taken)

@@ -5,17 +5,9 @@ use Rattle.meaning.specs.Conditions.{amongStrings}
 use Rattle.meaning.specs.Values.{withAction, attributeValue, ifTexts}
 use Rattle.stored.specs.ReadBack.{spanOf, rootOf}
 use Rattle.views.specs.Rows.{rowView}
-use Prim.Native.Nat.{ℕ}
-use mathlib.Core.List.{List}
 use mathlib.Core.Path.{refl}
-use borrow.Author.Needs.{needs}
 use Rattle.operators.proofs.operand_in_attribute.Statement.{statement}
 use Rattle.operators.proofs.operand_in_attribute.Tie as tie
-use Rattle.operators.proofs.operand_in_attribute.Reads as reads
-use Rattle.operators.proofs.operand_in_attribute.Lts as lts
-use Rattle.operators.proofs.lists.in_list.Reads as in-list-reads
-use Rattle.operators.proofs.operands.attribute_value.Reads as attribute-value-reads
-use Rattle.operators.proofs.operands.operand_string.Reads as operand-string-reads
 
 returns : tie.Need-returns
 returns c = of-no-string _ _ _ _ _ _ (c .before .before .before .before .pre .1 .1 .0) _ _ _ (c .before .before .before .before .pre .0) (c .before .before .before .before .pre .1 .1 .1) (λ x. ifTexts (attributeValue (c .before .before .before .before .args .text .now) (withAction (c .before .before .before .before .args .action .now) (rowView (c .before .before .before .before .args .s .now) (c .before .before .before .before .args .p) (c .before .before .before .before .args .n) (c .before .before .before .before .args .heads .now) (c .before .before .before .before .args .values .now))) (rootOf (c .before .before .before .before .args .b .kind)) (spanOf (c .before .before .before .before .args .b))) (λ l. amongStrings l x)) (c .if1 .taken)

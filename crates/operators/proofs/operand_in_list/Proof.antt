@@ -1,13 +1,8 @@
 -- `operators::operand_in_list` meets its contract. Assumes nothing.
 use Rattle.operators.proofs.OperatorLaws.{among-is}
 use Rattle.operators.proofs.OperandLaws.{operand-whole}
-use borrow.Author.Needs.{needs}
 use Rattle.operators.proofs.operand_in_list.Statement.{statement}
 use Rattle.operators.proofs.operand_in_list.Tie as tie
-use Rattle.operators.proofs.operand_in_list.Reads as reads
-use Rattle.operators.proofs.operand_in_list.Lts as lts
-use Rattle.operators.proofs.lists.among_literals.Reads as among-literals-reads
-use Rattle.operators.proofs.operands.operand_string.Reads as operand-string-reads
 
 operand-string-requires : tie.Need-operand-string-requires
 operand-string-requires c κs = (c .before .before .before .before .pre .0, operand-whole _ _ _ _ _ _ (c .before .before .before .before .pre .1 .1 .1 .0) _ _ (c .before .before .before .before .pre .1 .1 .1 .1))

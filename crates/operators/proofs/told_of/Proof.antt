@@ -2,8 +2,6 @@
 use Rattle.operators.proofs.VerdictLaws.{told-yes, told-no}
 use Rattle.operators.proofs.told_of.Statement.{statement}
 use Rattle.operators.proofs.told_of.Tie as tie
-use Rattle.operators.proofs.told_of.Reads as reads
-use Rattle.operators.proofs.told_of.Lts as lts
 
 returns : tie.Need-returns
 returns c = told-yes _ (c .if1 .taken)

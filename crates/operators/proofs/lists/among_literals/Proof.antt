@@ -3,21 +3,14 @@ use Rattle.operators.proofs.OperatorLaws.{same-by-13}
 use Rattle.operators.proofs.ListLaws.{isSame}
 use Rattle.operators.proofs.ListLaws.{FirstPlaced, first-placed, at-entry, some-done, some-here, some-more}
 use Rattle.meaning.specs.Conditions.{some}
-use Rattle.meaning.specs.Values.{literalValue, compares}
-use Rattle.stored.specs.ReadBack.{literalOf, literalsAt}
+use Rattle.stored.specs.ReadBack.{literalsAt}
 use Rattle.placing.specs.Placed.{Each, LiteralPlaced}
-use Rattle.grammar.specs.Policies.{Comparator.Equal, Literal}
-use Rattle.views.specs.Values.{datumOf}
 use native.Mathlib.Omega.{arith}
 use Prim.Native.Nat.{ℕ, _+_}
 use mathlib.Core.List.{List}
 use mathlib.Core.Path.{_≡_, refl, sym, _∙_}
 use Rattle.operators.proofs.lists.among_literals.Statement.{statement}
 use Rattle.operators.proofs.lists.among_literals.Tie as tie
-use Rattle.operators.proofs.lists.among_literals.Reads as reads
-use Rattle.operators.proofs.lists.among_literals.Lts as lts
-use Rattle.operators.proofs.lists.literal_holds.Reads as literal-holds-reads
-use Rattle.table.proofs.entry_in.Reads as entry-in-reads
 
 abbrev Inv-loop : tie.InvT-loop
 Inv-loop text table n at v x left₀ next₀ left next = Each (LiteralPlaced text) (literalsAt left table next) × (next + left ≡ at + n) × ((l : List (List ℕ)) → some (isSame text v x l) (literalsAt left table next) ≡ some (isSame text v x l) (literalsAt n table at))

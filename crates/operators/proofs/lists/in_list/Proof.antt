@@ -1,12 +1,8 @@
 -- `operators::lists::in_list` meets its contract. Assumes nothing.
-use borrow.Author.Needs.{needs}
 use Rattle.operators.proofs.ListLaws.{list-counted, listed-at}
 use native.Mathlib.Omega.{arith}
 use Rattle.operators.proofs.lists.in_list.Statement.{statement}
 use Rattle.operators.proofs.lists.in_list.Tie as tie
-use Rattle.operators.proofs.lists.in_list.Reads as reads
-use Rattle.operators.proofs.lists.in_list.Lts as lts
-use Rattle.operators.proofs.lists.in_strings.Reads as in-strings-reads
 
 shared-slice-read-n : tie.Need-shared-slice-read-n
 shared-slice-read-n c = omega (arith, list-counted _ _ _ (c .before .before .before .pre .1) .counted)

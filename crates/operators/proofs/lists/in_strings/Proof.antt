@@ -1,18 +1,13 @@
 -- `operators::lists::in_strings` meets its contract. Assumes nothing.
 use borrow.Author.Needs.{needs}
 use Rattle.operators.proofs.ListLaws.{among, cut-same, none-listed, here-listed, later-listed}
-use Rattle.operators.proofs.OperandLaws.{string-cut}
 use Rattle.lookups.proofs.StepLaws.{StringFirst, string-first}
 use Rattle.bags.specs.Values.{stringEnd}
 use Rattle.bags.specs.Reading.{many}
 use native.Mathlib.Omega.{arith}
-use mathlib.Core.Bool.{true, false}
 use mathlib.Core.Path.{_≡_, refl, sym, _∙_}
 use Rattle.operators.proofs.lists.in_strings.Statement.{statement}
 use Rattle.operators.proofs.lists.in_strings.Tie as tie
-use Rattle.operators.proofs.lists.in_strings.Reads as reads
-use Rattle.operators.proofs.lists.in_strings.Lts as lts
-use Rattle.operators.proofs.values.same_string.Reads as same-string-reads
 
 abbrev Inv-loop : tie.InvT-loop
 Inv-loop s n at x left₀ next₀ left next = (many left (stringEnd s) next ≡ many n (stringEnd s) at) × (among x s left next ≡ among x s n at)

@@ -1,15 +1,9 @@
 -- `operators::lists::literal_holds` meets its contract. Assumes nothing.
 use Rattle.operators.proofs.OperatorLaws.{literal-compares}
 use Rattle.operators.proofs.OperandLaws.{string-placed}
-use mathlib.Core.Path.{refl}
 use borrow.Author.Needs.{needs}
 use Rattle.operators.proofs.lists.literal_holds.Statement.{statement}
 use Rattle.operators.proofs.lists.literal_holds.Tie as tie
-use Rattle.operators.proofs.lists.literal_holds.Reads as reads
-use Rattle.operators.proofs.lists.literal_holds.Lts as lts
-use Rattle.operators.proofs.operands.literal_value.Reads as literal-value-reads
-use Rattle.operators.proofs.operands.quoted.Reads as quoted-reads
-use Rattle.operators.proofs.values.values_hold.Reads as values-hold-reads
 
 literal-value-requires : tie.Need-literal-value-requires
 literal-value-requires c κs = c .before .before .pre

@@ -1,13 +1,8 @@
 -- `operators::lists::literal_listed` meets its contract. Assumes nothing.
 use Rattle.operators.proofs.ListLaws.{no-string, a-string}
 use Rattle.operators.proofs.OperandLaws.{string-placed}
-use borrow.Author.Needs.{needs}
 use Rattle.operators.proofs.lists.literal_listed.Statement.{statement}
 use Rattle.operators.proofs.lists.literal_listed.Tie as tie
-use Rattle.operators.proofs.lists.literal_listed.Reads as reads
-use Rattle.operators.proofs.lists.literal_listed.Lts as lts
-use Rattle.operators.proofs.lists.in_list.Reads as in-list-reads
-use Rattle.operators.proofs.operands.quoted.Reads as quoted-reads
 
 returns : tie.Need-returns
 returns c = no-string _ _ _ (c .if1 .taken)

@@ -3,23 +3,16 @@ use Rattle.operators.proofs.ListLaws.{isListed}
 use borrow.Author.Needs.{needs}
 use Rattle.operators.proofs.ListLaws.{FirstPlaced, first-placed, at-entry, asked-done, asked-here, asked-more}
 use Rattle.operators.specs.Operands.{whichOf}
-use Rattle.meaning.specs.Conditions.{asked, amongStrings}
-use Rattle.meaning.specs.Values.{literalValue, ifText, sameFlag}
-use Rattle.stored.specs.ReadBack.{literalOf, literalsAt}
+use Rattle.meaning.specs.Conditions.{asked}
+use Rattle.meaning.specs.Values.{sameFlag}
+use Rattle.stored.specs.ReadBack.{literalsAt}
 use Rattle.placing.specs.Placed.{Each, LiteralPlaced}
-use Rattle.grammar.specs.Policies.{Literal}
-use Rattle.views.specs.Values.{listAt}
 use native.Mathlib.Omega.{arith}
-use Prim.Native.Nat.{ℕ, _+_}
+use Prim.Native.Nat.{_+_}
 use mathlib.Core.Bool.{Bool}
 use mathlib.Core.Path.{_≡_, refl, sym, _∙_, ap}
 use Rattle.operators.proofs.lists.literals_listed.Statement.{statement}
 use Rattle.operators.proofs.lists.literals_listed.Tie as tie
-use Rattle.operators.proofs.lists.literals_listed.Reads as reads
-use Rattle.operators.proofs.lists.literals_listed.Lts as lts
-use Rattle.operators.proofs.lists.literal_listed.Reads as literal-listed-reads
-use Rattle.operators.proofs.values.same_flag.Reads as same-flag-reads
-use Rattle.table.proofs.entry_in.Reads as entry-in-reads
 
 abbrev Inv-loop : tie.InvT-loop
 Inv-loop text table any n at s place left₀ next₀ left next = Each (LiteralPlaced text) (literalsAt left table next) × (next + left ≡ at + n) × (asked (whichOf any) (isListed text s place) (literalsAt left table next) ≡ asked (whichOf any) (isListed text s place) (literalsAt n table at))

@@ -2,12 +2,8 @@
 use Rattle.operators.proofs.OperandLaws.{read-bag, read-action}
 use mathlib.Core.Path.{_∙_}
 use native.Mathlib.Omega.{arith}
-use borrow.Author.Needs.{needs}
 use Rattle.operators.proofs.operands.attribute_value.Statement.{statement}
 use Rattle.operators.proofs.operands.attribute_value.Tie as tie
-use Rattle.operators.proofs.operands.attribute_value.Reads as reads
-use Rattle.operators.proofs.operands.attribute_value.Lts as lts
-use Rattle.views.proofs.attribute.Reads as attribute-reads
 
 sub-attribute : tie.Need-sub-attribute
 sub-attribute c = omega (arith, c .before .before .before .pre .0 .some)

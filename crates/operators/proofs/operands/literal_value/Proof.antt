@@ -1,13 +1,8 @@
 -- `operators::operands::literal_value` meets its contract. Assumes nothing.
 use Rattle.operators.proofs.OperandLaws.{number-placed, read-string, read-number, read-true, read-false}
-use Rattle.stored.specs.ReadBack.{spanOf}
-use Rattle.placing.specs.Placed.{NumberPlaced}
 use native.Mathlib.Omega.{arith}
 use Rattle.operators.proofs.operands.literal_value.Statement.{statement}
 use Rattle.operators.proofs.operands.literal_value.Tie as tie
-use Rattle.operators.proofs.operands.literal_value.Reads as reads
-use Rattle.operators.proofs.operands.literal_value.Lts as lts
-use Rattle.numbers.proofs.literals.number.Reads as number-reads
 
 returns : tie.Need-returns
 returns c = read-string _ _ (c .if1 .taken)

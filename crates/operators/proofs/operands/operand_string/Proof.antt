@@ -8,9 +8,6 @@ use native.Mathlib.Omega.{arith}
 use borrow.Author.Needs.{needs}
 use Rattle.operators.proofs.operands.operand_string.Statement.{statement}
 use Rattle.operators.proofs.operands.operand_string.Tie as tie
-use Rattle.operators.proofs.operands.operand_string.Reads as reads
-use Rattle.operators.proofs.operands.operand_string.Lts as lts
-use Rattle.operators.proofs.operands.quoted.Reads as quoted-reads
 
 inside : (c : tie.Then1) → c .before .before .before .before .args .v .place + 1 + byte (c .before .before .before .before .args .s .now) (c .before .before .before .before .args .v .place) ≤ length (c .before .before .before .before .args .s .now)
 inside c = let (k, b) = string-kinds (c .before .before .before .before .args .v) (c .before .before .before .before .args .o) (c .if1 .taken) in string-inside (c .before .before .before .before .args .s .now) (c .before .before .before .before .args .v) (c .before .before .before .before .pre .1 b) k

@@ -3,10 +3,6 @@ use Rattle.operators.proofs.OperandLaws.{path-placed, literal-placed, r
 use mathlib.Core.Path.{_∙_}
 use Rattle.operators.proofs.operands.operand_value.Statement.{statement}
 use Rattle.operators.proofs.operands.operand_value.Tie as tie
-use Rattle.operators.proofs.operands.operand_value.Reads as reads
-use Rattle.operators.proofs.operands.operand_value.Lts as lts
-use Rattle.operators.proofs.operands.attribute_value.Reads as attribute-value-reads
-use Rattle.operators.proofs.operands.literal_value.Reads as literal-value-reads
 
 attribute-value-requires : tie.Need-attribute-value-requires
 attribute-value-requires c κs = (path-placed _ _ (c .if1 .taken) (c .before .before .before .pre .0) .lies, c .before .before .before .pre .1)

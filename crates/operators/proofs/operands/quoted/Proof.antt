@@ -1,11 +1,8 @@
 -- `operators::operands::quoted` meets its contract. Assumes nothing.
 use Rattle.operators.proofs.OperandLaws.{quoted-cut}
 use native.Mathlib.Omega.{arith}
-use borrow.Author.Needs.{needs}
 use Rattle.operators.proofs.operands.quoted.Statement.{statement}
 use Rattle.operators.proofs.operands.quoted.Tie as tie
-use Rattle.operators.proofs.operands.quoted.Reads as reads
-use Rattle.operators.proofs.operands.quoted.Lts as lts
 
 add-start : tie.Need-add-start
 add-start c = omega (arith, c .before .pre .two, c .before .pre .lies .high)

@@ -3,8 +3,6 @@ use Rattle.operators.proofs.ValueLaws.{equal-13, not-equal-14, equality
 use mathlib.Core.Path.{refl}
 use Rattle.operators.proofs.values.equality_holds.Statement.{statement}
 use Rattle.operators.proofs.values.equality_holds.Tie as tie
-use Rattle.operators.proofs.values.equality_holds.Reads as reads
-use Rattle.operators.proofs.values.equality_holds.Lts as lts
 
 returns : tie.Need-returns
 returns c = equality-by _ _ _ _ (equal-13 _ (c .if1 .taken)) refl

@@ -2,8 +2,6 @@
 use Rattle.operators.proofs.ValueLaws.{present-is}
 use Rattle.operators.proofs.values.is_present.Statement.{statement}
 use Rattle.operators.proofs.values.is_present.Tie as tie
-use Rattle.operators.proofs.values.is_present.Reads as reads
-use Rattle.operators.proofs.values.is_present.Lts as lts
 
 returns : tie.Need-returns
 returns c = λ x l. present-is _ x l

@@ -3,9 +3,6 @@ use Rattle.operators.proofs.ValueLaws.{equal-13, not-equal-14, more-15,
 use borrow.Author.Needs.{needs}
 use Rattle.operators.proofs.values.numbers_hold.Statement.{statement}
 use Rattle.operators.proofs.values.numbers_hold.Tie as tie
-use Rattle.operators.proofs.values.numbers_hold.Reads as reads
-use Rattle.operators.proofs.values.numbers_hold.Lts as lts
-use Rattle.numbers.proofs.comparing.compares.Reads as compares-reads
 
 compares-requires : tie.Need-compares-requires
 compares-requires c κs = search needs

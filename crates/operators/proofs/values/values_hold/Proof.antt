@@ -3,12 +3,6 @@ use Rattle.operators.proofs.ValueLaws.{mixed-kinds, two-strings, two-nu
 use borrow.Author.Needs.{needs}
 use Rattle.operators.proofs.values.values_hold.Statement.{statement}
 use Rattle.operators.proofs.values.values_hold.Tie as tie
-use Rattle.operators.proofs.values.values_hold.Reads as reads
-use Rattle.operators.proofs.values.values_hold.Lts as lts
-use Rattle.operators.proofs.values.equality_holds.Reads as equality-holds-reads
-use Rattle.operators.proofs.values.numbers_hold.Reads as numbers-hold-reads
-use Rattle.operators.proofs.values.same_flag.Reads as same-flag-reads
-use Rattle.operators.proofs.values.same_string.Reads as same-string-reads
 
 returns : tie.Need-returns
 returns c = λ l m. mixed-kinds _ _ _ l _ _ m (c .if1 .taken)
