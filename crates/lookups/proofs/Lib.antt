@@ -3,3 +3,4 @@ pub mod FindLaws
 pub mod BagLaws
 pub mod Answers
 pub mod Examples
+pub mod WordLaws
