@@ -4,3 +4,4 @@ pub mod BagLaws
 pub mod Answers
 pub mod Opened
 pub mod Examples
+pub mod WordLaws

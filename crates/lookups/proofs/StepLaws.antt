@@ -2,7 +2,7 @@
 use Prim.Native.Nat.{ℕ, _+_, _-_, _<_, _≤_}
 use mathlib.Core.List.{List}
 use mathlib.Core.Bool.{Bool, true}
-use mathlib.Core.Path.{_≡_, sym, subst}
+use mathlib.Core.Path.{_≡_, sym, _∙_, ap, subst}
 use borrow.Author.Tests.{eq-eqb, ne-eqb}
 use native.Mathlib.Omega.{arith}
 use lib.Dec.{T}
@@ -11,8 +11,9 @@ use lib.ListN.{length}
 use Rattle.numbers.specs.Bits.{numberAt}
 use Rattle.bags.specs.Reading.{byte, many}
 use Rattle.bags.specs.Values.{stringEnd, valueEnd}
+use Rattle.bags.specs.declared.After.{After}
 use Rattle.bags.specs.declared.After.the-variants.{At}
-use Rattle.bags.proofs.ReadLaws.{same-end, first}
+use Rattle.bags.proofs.ReadLaws.{same-end, first, many-more}
 use Rattle.bags.proofs.ValueLaws.{String, Number, Flag, Strings, string-at, Ended, string, number, flag, list, value-at}
 use Rattle.lookups.specs.Values.{nought, unit, absent, numberOf, valueAt}
 
@@ -28,6 +29,18 @@ string-first s n at e h p =
     let f = first (stringEnd s) n at e h p in
     let w = string-at s at (f .stop) (f .ends) in
     record { fits = w .fits; later = rw (w .stop) at (f .later) }
+
+-- a string that is whole lies in the bytes, and ends after its length byte and as many bytes
+pub string-fits : (s : List ℕ) (at e : ℕ) → stringEnd s at ≡ At e → at + 1 + byte s at ≤ length s
+string-fits s at e p = string-at s at e p .fits
+
+pub string-stop : (s : List ℕ) (at e : ℕ) → stringEnd s at ≡ At e → stringEnd s at ≡ At (at + 1 + byte s at)
+string-stop s at e p = rw (string-at s at e p .stop) at p
+
+-- two of n, one after the other, and those after them
+pub two-more : (next : ℕ → After) (n at x y : ℕ) → 1 < n → next at ≡ At x → next x ≡ At y → many (n - 2) next y ≡ many n next at
+two-more next n at x y h p q =
+    let e : n - 2 ≡ n - 1 - 1 = omega arith in ap (λ (m : ℕ). many m next y) e ∙ sym (many-more next n at x (omega arith) p ∙ many-more next (n - 1) x y (omega arith) q)
 
 -- ---- values
 

@@ -14,6 +14,7 @@ ghost use Rattle.bags.specs.declared.After.the-variants.{At};
 ghost use Rattle.tokens.specs.Blanks.{unblanked};
 ghost use Rattle.lookups.specs.Values.{absent};
 ghost use Rattle.lookups.specs.Lookups.{lookIn, entryAt, sectionAt, baseOf};
+use crate::bytes::same_bytes;
 use crate::steps::value_next;
 use crate::values::Value;
 use crate::values::absent_value;
@@ -65,7 +66,7 @@ fn is_named(s: &[u8], at: usize, n: usize, lead: u8, path: &[u8]) -> bool
     }
     if n == path.len() {
         let end = at + n;
-        return slices::same(&s[at..end], path);
+        return same_bytes(&s[at..end], path);
     }
     same_path(s, at, n, path)
 }

@@ -12,6 +12,7 @@ use bags::sections::Divided;
 use bags::sections::bag_sections;
 use tokens::classes::class_table;
 
+pub mod bytes;
 pub mod finding;
 pub mod steps;
 pub mod values;

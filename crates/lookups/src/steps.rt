@@ -5,16 +5,28 @@ ghost use Rattle.bags.specs.Reading.{many};
 ghost use Rattle.bags.specs.Values.{stringEnd, valueEnd};
 ghost use Rattle.bags.specs.declared.After.the-variants.{At};
 
-// Where `n` strings end.
+// Where a string ends.
+fn string_next(s: &[u8], at: usize) -> usize
+    requires { ⌜ ((e : ℕ) × (stringEnd (now s) at ≡ At e)) ⌝ }
+    ensures { λ r. ⌜ stringEnd (now (s .entry)) at ≡ At r ⌝ }
+{
+    at + 1 + s[at] as usize
+}
+
+// Where `n` strings end: they are passed two at a time, which takes fewer instructions.
 fn strings_next(s: &[u8], n: usize, at: usize) -> usize
     requires { ⌜ ((e : ℕ) × (many n (stringEnd (now s)) at ≡ At e)) ⌝ }
     ensures { λ r. ⌜ many n (stringEnd (now (s .entry))) at ≡ At r ⌝ }
 {
     let mut left = n;
     let mut next = at;
-    while 0 < left {
-        next = next + 1 + s[next] as usize;
-        left -= 1;
+    while 1 < left {
+        let second = string_next(s, next);
+        next = string_next(s, second);
+        left -= 2;
+    }
+    if left == 1 {
+        return string_next(s, next);
     }
     next
 }

@@ -12,7 +12,7 @@ ghost use Rattle.stored.specs.Ready.{Last};
 ghost use Rattle.meaning.specs.Targets.{typeIn, partMatches, actionMatches};
 ghost use Rattle.meaning.specs.Decisions.{targetMatches};
 ghost use Rattle.targets.specs.Matching.{request, ActionsAt};
-use slices::same as equal;
+use lookups::bytes::same_bytes;
 use table::Entry;
 use table::entries;
 use table::entry_in;
@@ -27,7 +27,7 @@ fn is_quoted(text: &[u8], start: usize, end: usize, s: &[u8]) -> bool
     if s.len() != to - from {
         return false;
     }
-    equal(s, &text[from..to])
+    same_bytes(s, &text[from..to])
 }
 
 // Whether the principal part or the resource part that x says matches s, whose type has this number among the part's types.

@@ -6,10 +6,10 @@ use lib.Dec.{eqb}
 use lib.ListN.{length}
 use mathlib.Core.Bool.{Bool, true, false, not, _&&_, and-eq-true-iff}
 use mathlib.Core.List.{List}
-use mathlib.Core.Path.{_≡_, sym, _∙_}
+use mathlib.Core.Path.{_≡_, sym, _∙_, ap}
 use native.Mathlib.Omega.{arith}
 use Rattle.slices.specs.Parts.{part}
-use Rattle.slices.proofs.Equal.{same-is}
+use Rattle.slices.specs.Same.{same}
 use Rattle.bags.specs.Paths.{isPath}
 use Rattle.bags.proofs.PathLaws.{path-sized}
 use Rattle.bags.proofs.ReadLaws.{part-to}
@@ -34,11 +34,17 @@ returns c =
     let (d, b) = both-differ _ _ _ (c .if1 .taken) in
     other-lead _ _ _ _ _ (sized _ _ _ (start .pre .0) (start .pre .1 .0)) (start .pre .0) (start .pre .1 .1 .0) (start .pre .1 .1 .1) (sym (c .before .is-blank .ensures) ∙ b) d
 
+same-bytes-requires : tie.Need-same-bytes-requires
+same-bytes-requires c κs =
+    let start = c .before .before .before .before .before .before .before in
+    ap length (part-to (start .args .s .now) (start .args .at) (start .args .n)) ∙ part-sized _ _ _ (start .pre .0) ∙ c .before .if2 .taken
+
 returns-2 : tie.Need-returns-2
 returns-2 c =
     let start = c .before .before .before .before .before .before .before .before in
     let s = start .args .s .now in
-    same-is (part s (start .args .at) (start .args .n)) _ (rw (part-to s (start .args .at) (start .args .n)) at (c .same .ensures))
+    c .same-bytes .ensures
+    ∙ ap (λ (l : List ℕ). same l (start .args .path .now)) (part-to s (start .args .at) (start .args .n))
     ∙ same-long (part s (start .args .at) (start .args .n)) _ (path-clear _ (start .pre .1 .0)) (part-sized s (start .args .at) (start .args .n) (start .pre .0) ∙ c .before .before .if2 .taken)
 
 pub is-named-spec : {M : Type 1} → statement M
@@ -52,7 +58,7 @@ is-named-spec =
     (λ c. search needs)
     (λ c. search needs)
     (λ c. search needs)
-    (λ c κs. search needs)
+    same-bytes-requires
     returns-2
     (λ c κs. search needs)
     (λ c. search needs))
