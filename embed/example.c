@@ -46,6 +46,7 @@ static void print_sheet(void) {
 int main(void) {
     DeskCompiled c = desk_compile(LENT(rules), table, sizeof table);
     printf("compile: refusal %u, line %zu, column %zu, policies %zu, bytes %zu\n", c.refusal, c.line, c.column, c.policies, c.bytes);
+    if (c.refusal != 0) return 1;
     used = c.bytes;
     printf("begins: %d\n", desk_begins(LENT(rules), table, used));
 

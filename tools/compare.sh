@@ -2,7 +2,7 @@
 # Compares the proved programs with the second program on other random vectors than the stored ones. From the repository's root, after rt check:
 #   tools/compare.sh SEED [SCALE [SORT ..]]
 # Each sort has SCALE (1 to 1000, 1 where it is left out) times as many vectors as are stored. A line that differs is shown with its number:
-# `second explain SORT --vector NUMBER` tells what is right. Ends with status 1 if any line differs, and with the number of vectors compared.
+# second/README.md, 'To find the reason of a difference', tells how to go on. Ends with status 1 if any line differs, and with the number of vectors compared.
 set -eu
 cd "$(dirname "$0")/.."
 seed=${1:?which seed}

@@ -213,20 +213,22 @@ pub fn bag(vector: &Vector) -> String {
 
 /// Every entry of the base and every column with its candidates.
 pub fn question(vector: &Vector) -> String {
-    let mut lines = match read_question(&vector[0]) {
-        Some(question) => base_and_columns(&question),
-        None => format!("not a question: {}\n", vector[0].escape_ascii()),
-    };
+    let mut lines = question_in_full(&vector[0]);
     lines.push_str(&format!("answer: {}\n", questions_vectors::answer(vector)));
     lines
 }
 
+/// The base and the columns, or that the bytes are no question.
+fn question_in_full(bytes: &[u8]) -> String {
+    match read_question(bytes) {
+        Some(question) => base_and_columns(&question),
+        None => format!("not a question: {}\n", bytes.escape_ascii()),
+    }
+}
+
 /// The question, and the attribute that is looked up in a row.
 pub fn view(vector: &Vector) -> String {
-    let mut lines = match read_question(&vector[0]) {
-        Some(question) => base_and_columns(&question),
-        None => format!("not a question: {}\n", vector[0].escape_ascii()),
-    };
+    let mut lines = question_in_full(&vector[0]);
     let path = path_without_blanks(&vector[3]);
     lines.push_str(&format!("choices: {:?}\n", vector[1]));
     lines.push_str(&format!("looked up: root {}, path {}\n", vector[2][0], path.escape_ascii()));

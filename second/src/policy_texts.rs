@@ -150,19 +150,26 @@ fn put_resource_part(tokens: &mut Tokens, random: &mut Random) {
 
 /// A disjunction is conjunctions joined by `||`.
 fn put_disjunction(tokens: &mut Tokens, random: &mut Random, depth: usize) {
-    put_conjunction(tokens, random, depth);
-    while random.one_in(5) {
-        put(tokens, "||");
-        put_conjunction(tokens, random, depth);
-    }
+    put_joined(tokens, random, "||", 5, |tokens, random| put_conjunction(tokens, random, depth));
 }
 
 /// A conjunction is conditions joined by `&&`.
 fn put_conjunction(tokens: &mut Tokens, random: &mut Random, depth: usize) {
-    put_condition(tokens, random, depth);
-    while random.one_in(5) {
-        put(tokens, "&&");
-        put_condition(tokens, random, depth);
+    put_joined(tokens, random, "&&", 5, |tokens, random| put_condition(tokens, random, depth));
+}
+
+/// One thing or more, joined by a mark; after each comes another one time in `cases`.
+pub fn put_joined(
+    tokens: &mut Tokens,
+    random: &mut Random,
+    mark: &str,
+    cases: usize,
+    put_one: impl Fn(&mut Tokens, &mut Random),
+) {
+    put_one(tokens, random);
+    while random.one_in(cases) {
+        put(tokens, mark);
+        put_one(tokens, random);
     }
 }
 

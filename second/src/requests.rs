@@ -2,7 +2,7 @@
 //! of their own kind, of other kinds, and none.
 
 use crate::bag_bytes::{list_value, number_value, string_value, Column, Entry, Plan};
-use crate::policy_texts::{put, put_list_of, put_string, text_of, Tokens};
+use crate::policy_texts::{put, put_joined, put_list_of, put_string, text_of, Tokens};
 use crate::random::Random;
 
 /// The roots in the order of their bytes, which count from 1.
@@ -176,19 +176,11 @@ fn before_colon(name: &'static str) -> &'static str {
 }
 
 fn put_disjunction(tokens: &mut Tokens, random: &mut Random, depth: usize) {
-    put_conjunction(tokens, random, depth);
-    while random.one_in(5) {
-        put(tokens, "||");
-        put_conjunction(tokens, random, depth);
-    }
+    put_joined(tokens, random, "||", 5, |tokens, random| put_conjunction(tokens, random, depth));
 }
 
 fn put_conjunction(tokens: &mut Tokens, random: &mut Random, depth: usize) {
-    put_condition(tokens, random, depth);
-    while random.one_in(6) {
-        put(tokens, "&&");
-        put_condition(tokens, random, depth);
-    }
+    put_joined(tokens, random, "&&", 6, |tokens, random| put_condition(tokens, random, depth));
 }
 
 /// A condition; `depth` limits those that hold further conditions.
