@@ -9,7 +9,8 @@ use lib.Dec.{eqb, ltb}
 use lib.ListN.{length}
 use lib.Seq.{ext-getD}
 use Rattle.slices.specs.Same.{same}
-use Rattle.slices.specs.Decides.{Decides, yes-to, no-to, refuted}
+use Rattle.slices.specs.Decides.{Decides}
+use Rattle.slices.proofs.Decided.{yes-to, no-to, refuted}
 use Rattle.slices.proofs.Equal.{same-is}
 use Rattle.bags.specs.Reading.{byte}
 
