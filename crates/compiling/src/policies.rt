@@ -49,7 +49,11 @@ fn no_policy(t: Token) -> u8
 fn effect_kind(permits: bool) -> u8
     ensures { λ r. ⌜ r ≡ effectKind permits ⌝ }
 {
-    if permits { entries::PERMIT } else { entries::FORBID }
+    if permits {
+        entries::PERMIT
+    } else {
+        entries::FORBID
+    }
 }
 
 // After a policy's effect: `(`, the principal part and its comma.

@@ -47,7 +47,11 @@ fn first_met(at: usize, x: Entry) -> usize
     requires { ⌜ 0 < at ⌝ }
     ensures { λ r. ⌜ r ≡ cond (eqb (x .kind) 28) (x .first) (at - 1) ⌝ }
 {
-    if x.kind == entries::IF { x.first } else { at - 1 }
+    if x.kind == entries::IF {
+        x.first
+    } else {
+        at - 1
+    }
 }
 
 // Where the part ends that is met first, or all that is left, where no `if`, `&&` or `||` joins parts.

@@ -17,7 +17,11 @@ use views::names;
 fn root_by(kind: u8) -> u8
     ensures { λ r. ⌜ r ≡ rootBy kind ⌝ }
 {
-    if kind <= entries::ACTION { kind } else { kind - entries::ROOTS }
+    if kind <= entries::ACTION {
+        kind
+    } else {
+        kind - entries::ROOTS
+    }
 }
 
 // The first of `n` columns that names this attribute, from 1 on; 0 where none does.
