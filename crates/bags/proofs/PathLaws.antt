@@ -127,7 +127,7 @@ unfolding isName
 name-run w h = simp (h, and-true (is Letters (getD w 0 0)))
 
 pub no-name : (w : List ℕ) → length w ≡ 0 → false ≡ isName w
-unfolding isName every classOf
+unfolding isName classOf
 no-name [] h = refl
 no-name (b ∷ rest) h = absurd (omega arith)
 

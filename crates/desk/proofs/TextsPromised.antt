@@ -152,7 +152,7 @@ module _ (text table : List ℕ) where
       compiling-proofs.compiled-begins text table _ _ (says-accepted (b .policies) (b .says) (roomy told n))
 
   pub used-begins : compileSays text table .refusal ≡ 0 → beginsSays text (take (compileSays text table .bytes) (compileLeaves text table)) ≡ true
-  unfolding compileSays saidOf BeginsExactly
+  unfolding compileSays BeginsExactly
   used-begins n =
       let b = accepted-says told n in
       let c = compiled (b .policies) n (b .says) in
