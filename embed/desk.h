@@ -1,4 +1,4 @@
-/* The desk for C: made by embed/header from crates/desk/src/lib.rt. docs/EMBEDDING.md says what each answer means and which sizes to reserve.
+/* The desk for C: made by embed/header. docs/EMBEDDING.md says what each answer means and which sizes to reserve.
    A slice is two arguments: where it starts and how many bytes it has. No proof reaches a caller in C. It owes: each pointer leads to so many bytes, which stay until the
    call returns (with 0 bytes any pointer will do, NULL too); what is lent without const overlaps nothing else that is lent to the same call. */
 #ifndef DESK_H
@@ -12,6 +12,80 @@ extern "C" {
 #else
 #define DESK_LAID_OUT _Static_assert
 #endif
+
+#define DESK_VERSION "1.0"
+#define DESK_VERSION_MAJOR 1
+#define DESK_VERSION_MINOR 0
+
+/* Outcomes of a decision and of a listed row. Yes is ALLOWED or SYSTEM. */
+#define DESK_ALLOWED 1u
+#define DESK_FORBIDDEN 2u
+#define DESK_NOTHING_SATISFIED 3u
+#define DESK_SYSTEM 4u
+
+/* Root bytes. */
+#define DESK_ROOT_PRINCIPAL 1u
+#define DESK_ROOT_RESOURCE 2u
+#define DESK_ROOT_ENV 3u
+
+/* Kinds of values. */
+#define DESK_KIND_ABSENT 0u
+#define DESK_KIND_STRING 1u
+#define DESK_KIND_NUMBER 2u
+#define DESK_KIND_FLAG 3u
+#define DESK_KIND_LIST 4u
+
+/* Refusals: of compiling, */
+#define DESK_REFUSED_LONG_TEXT 1u
+#define DESK_REFUSED_SMALL_TABLE 2u
+#define DESK_REFUSED_BYTE 3u
+#define DESK_REFUSED_COLON 4u
+#define DESK_REFUSED_UNENDED_STRING 5u
+#define DESK_REFUSED_LONG_TOKEN 6u
+#define DESK_REFUSED_RESERVED_WORD 7u
+#define DESK_REFUSED_BARE_ATTRIBUTE 8u
+#define DESK_REFUSED_TYPE 9u
+#define DESK_REFUSED_NOT_ADMITTED 10u
+#define DESK_REFUSED_ACTION_PATH 11u
+#define DESK_REFUSED_DEPTH 12u
+#define DESK_REFUSED_PATTERN 13u
+#define DESK_REFUSED_MANY_LITERALS 14u
+#define DESK_REFUSED_MANY_POLICIES 15u
+#define DESK_REFUSED_LONG_PATH 16u
+
+/* of the other calls. */
+#define DESK_REFUSED_OTHER_TABLE 20u
+#define DESK_REFUSED_SUBJECT 21u
+#define DESK_REFUSED_ACTION 22u
+#define DESK_REFUSED_RESOURCE 23u
+#define DESK_REFUSED_BAG 24u
+#define DESK_REFUSED_SHEET_ROOM 25u
+#define DESK_REFUSED_START 26u
+
+/* Sizes: a text and its table, */
+#define DESK_MOST_TEXT 8192u
+#define DESK_TABLE_FOR_A_BYTE 8u
+#define DESK_MOST_POLICIES 64u
+#define DESK_MOST_WORD 64u
+#define DESK_MOST_TEXT_STRING 127u
+#define DESK_MOST_DIGITS 15u
+#define DESK_MOST_PATH 64u
+#define DESK_MOST_LITERALS 16u
+#define DESK_MOST_PATTERN 100u
+#define DESK_MOST_WILDCARDS 5u
+#define DESK_MOST_LEVELS 32u
+
+/* a bag and a question, */
+#define DESK_MOST_BAG 4096u
+#define DESK_MOST_ENTRIES 32u
+#define DESK_MOST_STRING 127u
+#define DESK_MOST_STRINGS 16u
+#define DESK_MOST_COLUMNS 6u
+#define DESK_MOST_CANDIDATES 8u
+
+/* a request and a listed row. */
+#define DESK_MOST_REQUEST_PART 100u
+#define DESK_ROW_BYTES 6u
 
 /* What compiling answers: the refusal with its line and column, or the policies and the bytes of the table that they use. */
 typedef struct {

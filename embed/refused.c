@@ -32,23 +32,23 @@ static int listed(DeskPage p, unsigned refusal, size_t next) { return p.refusal 
 static int at_none(DeskString s) { return s.start == 0 && s.length == 0; }
 
 static void refusals(void) {
-    static const uint8_t long_text[8193];
+    static const uint8_t long_text[DESK_MOST_TEXT + 1];
     uint8_t *table = lent + 100, *sheet = lent + 500;
     // compile: 1, 2, and some that have a place
-    CHECK(compiled(desk_compile(long_text, sizeof long_text, table, 400), 1, 0, 0, 0));
-    CHECK(compiled(desk_compile(TEXT, table, 271), 2, 0, 0, 0));
-    CHECK(compiled(desk_compile(LENT("permit(principal,action,resource)"), table, 400), 10, 1, 34, 0));
-    CHECK(compiled(desk_compile(LENT("\n permit(principal is lift"), table, 400), 9, 2, 22, 0));
+    CHECK(compiled(desk_compile(long_text, sizeof long_text, table, 400), DESK_REFUSED_LONG_TEXT, 0, 0, 0));
+    CHECK(compiled(desk_compile(TEXT, table, 271), DESK_REFUSED_SMALL_TABLE, 0, 0, 0));
+    CHECK(compiled(desk_compile(LENT("permit(principal,action,resource)"), table, 400), DESK_REFUSED_NOT_ADMITTED, 1, 34, 0));
+    CHECK(compiled(desk_compile(LENT("\n permit(principal is lift"), table, 400), DESK_REFUSED_TYPE, 2, 22, 0));
     // a table that is not the text's
     CHECK(!desk_begins(TEXT, table, 400));
     // decide: 21, 22, 23, 24, 20, in this order
-    CHECK(decided(desk_decide(NONE, NONE, NONE, LENT("lift:A"), NONE, NONE), 21, 0));
-    CHECK(decided(desk_decide(NONE, NONE, NONE, LENT("tool:A"), NONE, NONE), 22, 0));
-    CHECK(decided(desk_decide(NONE, NONE, NONE, LENT("tool:A"), LENT("teach"), NONE), 23, 0));
-    CHECK(decided(desk_decide(TEXT, table, 400, LENT("\0\0\0\0"), REQUEST), 24, 0));
-    CHECK(decided(desk_decide(TEXT, table, 400, BAG, REQUEST), 20, 0));
+    CHECK(decided(desk_decide(NONE, NONE, NONE, LENT("lift:A"), NONE, NONE), DESK_REFUSED_SUBJECT, 0));
+    CHECK(decided(desk_decide(NONE, NONE, NONE, LENT("tool:A"), NONE, NONE), DESK_REFUSED_ACTION, 0));
+    CHECK(decided(desk_decide(NONE, NONE, NONE, LENT("tool:A"), LENT("teach"), NONE), DESK_REFUSED_RESOURCE, 0));
+    CHECK(decided(desk_decide(TEXT, table, 400, LENT("\0\0\0\0"), REQUEST), DESK_REFUSED_BAG, 0));
+    CHECK(decided(desk_decide(TEXT, table, 400, BAG, REQUEST), DESK_REFUSED_OTHER_TABLE, 0));
     // lookup and string: 24
-    CHECK(found(desk_lookup(LENT("\0\0"), 1, LENT("grade")), 24));
+    CHECK(found(desk_lookup(LENT("\0\0"), 1, LENT("grade")), DESK_REFUSED_BAG));
     CHECK(at_none(desk_string(LENT("\0\0"), 1, LENT("grade"))));
     // an absent attribute, an impossible path and a root byte of 4 are no refusals
     CHECK(found(desk_lookup(BAG, 1, LENT("grade")), 0));
@@ -56,14 +56,14 @@ static void refusals(void) {
     CHECK(found(desk_lookup(BAG, 1, LENT("..")), 0));
     CHECK(at_none(desk_string(BAG, 1, LENT("grade"))));
     // sheet: 25, 24, 26, 21, 22, 23, 20, in this order
-    CHECK(listed(desk_sheet(NONE, NONE, NONE, NONE, NONE, NONE, 9, sheet, 400, 401), 25, 0));
-    CHECK(listed(desk_sheet(NONE, NONE, NONE, NONE, NONE, NONE, 9, sheet, 400, 395), 25, 0));
-    CHECK(listed(desk_sheet(NONE, NONE, NONE, NONE, NONE, NONE, 9, sheet, 400, 394), 24, 0));
-    CHECK(listed(desk_sheet(NONE, NONE, QUESTION, NONE, NONE, NONE, 2, sheet, 400, 0), 26, 0));
-    CHECK(listed(desk_sheet(NONE, NONE, QUESTION, NONE, NONE, NONE, 1, sheet, 400, 0), 21, 0));
-    CHECK(listed(desk_sheet(NONE, NONE, QUESTION, LENT("tool:A"), NONE, NONE, 0, sheet, 400, 0), 22, 0));
-    CHECK(listed(desk_sheet(NONE, NONE, QUESTION, LENT("tool:A"), LENT("teach"), NONE, 0, sheet, 400, 0), 23, 0));
-    CHECK(listed(desk_sheet(TEXT, table, 400, QUESTION, REQUEST, 0, sheet, 400, 0), 20, 0));
+    CHECK(listed(desk_sheet(NONE, NONE, NONE, NONE, NONE, NONE, 9, sheet, 400, 401), DESK_REFUSED_SHEET_ROOM, 0));
+    CHECK(listed(desk_sheet(NONE, NONE, NONE, NONE, NONE, NONE, 9, sheet, 400, 395), DESK_REFUSED_SHEET_ROOM, 0));
+    CHECK(listed(desk_sheet(NONE, NONE, NONE, NONE, NONE, NONE, 9, sheet, 400, 394), DESK_REFUSED_BAG, 0));
+    CHECK(listed(desk_sheet(NONE, NONE, QUESTION, NONE, NONE, NONE, 2, sheet, 400, 0), DESK_REFUSED_START, 0));
+    CHECK(listed(desk_sheet(NONE, NONE, QUESTION, NONE, NONE, NONE, 1, sheet, 400, 0), DESK_REFUSED_SUBJECT, 0));
+    CHECK(listed(desk_sheet(NONE, NONE, QUESTION, LENT("tool:A"), NONE, NONE, 0, sheet, 400, 0), DESK_REFUSED_ACTION, 0));
+    CHECK(listed(desk_sheet(NONE, NONE, QUESTION, LENT("tool:A"), LENT("teach"), NONE, 0, sheet, 400, 0), DESK_REFUSED_RESOURCE, 0));
+    CHECK(listed(desk_sheet(TEXT, table, 400, QUESTION, REQUEST, 0, sheet, 400, 0), DESK_REFUSED_OTHER_TABLE, 0));
     // rows: no question
     CHECK(desk_rows(LENT("\0\0\0")) == 0);
 }
@@ -71,13 +71,13 @@ static void refusals(void) {
 static void nulls(void) {
     CHECK(compiled(desk_compile(NONE, NONE), 0, 0, 0, 0));
     CHECK(desk_begins(NONE, NONE));
-    CHECK(decided(desk_decide(NONE, NONE, NONE, NONE, NONE, NONE), 21, 0));
+    CHECK(decided(desk_decide(NONE, NONE, NONE, NONE, NONE, NONE), DESK_REFUSED_SUBJECT, 0));
     CHECK(decided(desk_decide(NONE, NONE, NONE, LENT("system"), NONE, NONE), 0, 4));
     CHECK(decided(desk_decide(NONE, NONE, BAG, REQUEST), 0, 3));
-    CHECK(found(desk_lookup(NONE, 1, NONE), 24));
+    CHECK(found(desk_lookup(NONE, 1, NONE), DESK_REFUSED_BAG));
     CHECK(found(desk_lookup(BAG, 1, NONE), 0));
     CHECK(at_none(desk_string(NONE, 1, NONE)));
-    CHECK(listed(desk_sheet(NONE, NONE, NONE, NONE, NONE, NONE, 0, NONE, 0), 25, 0));
+    CHECK(listed(desk_sheet(NONE, NONE, NONE, NONE, NONE, NONE, 0, NONE, 0), DESK_REFUSED_SHEET_ROOM, 0));
     CHECK(listed(desk_sheet(NONE, NONE, QUESTION, REQUEST, 0, lent, sizeof lent, 0), 0, 1));
     CHECK(desk_rows(NONE) == 0);
 }

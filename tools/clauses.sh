@@ -3,11 +3,12 @@
 #   tools/clauses.sh [FILE ..]
 # In each row of a table, after its first cell, stand names in backticks and then files: each name must be defined in one of the files behind it (a function, a type, a
 # definition, a theorem, a case or a field; in a folder, in any of its files; an edit by its name), and each file must be there and define one of the names before it, as far
-# as the last semicolon. A file may leave out crates/, the crate of the file before it, or its folder. Prints what is wrong and ends with status 1, or prints
-# how many names were found.
+# as the last semicolon. A file may leave out crates/, the crate of the file before it, or its folder. In the prose of a file that is checked whole, docs/CLAUSES.md, each file
+# must be there and each name in backticks be defined: behind a file, as in 'FILE from `name` on' or 'FILE but for `name`', in that file; before 'of CRATE' or 'in CRATE, CRATE and
+# CRATE', in each of these; else in some crate. Rows of docs/HOLLOW.md, which name edits, are read as prose. Prints what is wrong and ends with status 1, or how many names were found.
 set -eu
 cd "$(dirname "$0")/.."
-[ $# -gt 0 ] || set -- docs/CLAUSES.md README.md
+[ $# -gt 0 ] || set -- docs/CLAUSES.md docs/HOLLOW.md README.md
 exec awk '
 function there(p) {
     if (!(p in known)) known[p] = system("test -e \"" p "\"") == 0
@@ -94,8 +95,64 @@ function cite(p, f) {
     sub(/\/[^\/]*$/, "", folder)
     read_in(f)
 }
-FNR == 1 { whole = FILENAME !~ /README/; on = whole }
+# names of the prose that stand together, defined in a file or crate, or in some crate where none is said
+function settle(where, i, place) {
+    place = where == "" ? "crates" : where
+    if (names > 0) read_in(place)
+    for (i = 1; i <= names; i++) {
+        if ((place, name[i]) in defines) found++
+        else fails("`" name[i] "` is not defined in " (where == "" ? "any crate" : where))
+    }
+    names = files = 0
+    cited = ""
+}
+function bare(word) { sub(/\.$/, "", word); return word }
+# one paragraph of prose; `again` names stood before the crate that was named last, and stand in the next one of its list too
+function prose(text, word, behind, last, f, i, again, once) {
+    crate = folder = behind = last = ""
+    names = files = again = 0
+    gsub(/\n/, " ", text)
+    while (match(text, /`[^`]*`|[;(),:]|[A-Za-z0-9_+.\/-]+/)) {
+        word = substr(text, RSTART, RLENGTH)
+        text = substr(text, RSTART + RLENGTH)
+        if (word ~ /^`/) {
+            word = substr(word, 2, length(word) - 2)
+            if (word ~ /^[a-z]+\/|\.(antt|rt|edit|md|sh)$/) cite(word)
+            else if (word ~ /^[A-Za-z][A-Za-z0-9_-]*$/) name[++names] = word
+        } else if (word ~ /^[a-z_]+\.?$/ && (last ~ /^(of|in)$/ && names > 0 || again) && there("crates/" (f = bare(word)))) {
+            if (last ~ /^(of|in)$/) { again = names; for (i = 1; i <= names; i++) once[i] = name[i] }
+            else { names = again; for (i = 1; i <= names; i++) name[i] = once[i] }
+            settle("crates/" f)
+            behind = ""
+        } else if (word ~ /^(specs|proofs|src|must-fail)\/?$/) {
+            # the folders in general
+        } else if (word ~ /\/|\.(antt|rt|edit|md)\.?$/) {
+            if (names > 0) settle(behind)
+            cite(bare(word))
+            behind = files > 0 ? file[files] : ""
+            names = 0
+        } else if (word !~ /^(and|or|but|for|from|on|of|in|,)$/) {
+            if (names > 0) settle(behind)
+            behind = ""
+        }
+        if (word !~ /^(and|,)$/ && !(f != "" && bare(word) == f)) again = 0
+        last = word
+    }
+    settle(behind)
+}
+# judges the paragraph that was gathered, by the line at which it began
+function end_of_prose(line) {
+    line = at
+    at = prose_at
+    if (paragraph != "") prose(paragraph)
+    paragraph = ""
+    at = line
+}
+FNR == 1 { end_of_prose(); whole = FILENAME !~ /README/; on = whole; rows = FILENAME ~ /HOLLOW/ }
 /^## / { if (!whole) on = /Where each promise is stated/ }
+rows && /^\|/ { end_of_prose(); gsub(/\|/, "; ") }
+whole && !/^(\||#|$)/ { if (paragraph == "") prose_at = FILENAME ":" FNR; paragraph = paragraph "\n" $0; next }
+whole { end_of_prose() }
 !on || !/^\|/ || /^\|[-: |]*$/ { next }
 {
     at = FILENAME ":" FNR
@@ -116,6 +173,7 @@ FNR == 1 { whole = FILENAME !~ /README/; on = whole }
     judge()
 }
 END {
+    end_of_prose()
     if (bad) { print bad " citations are wrong"; exit 1 }
     print found " citations are right"
 }' "$@"

@@ -3,5 +3,9 @@ pub mod PathLaws
 pub mod ValueLaws
 pub mod SectionLaws
 pub mod Ascent
+pub mod Laid
+pub mod Told
+pub mod ValueForms
+pub mod Exactly
 pub mod Opened
 pub mod Examples

@@ -3,6 +3,21 @@
 ghost use mathlib.Core.Path.{_≡_};
 ghost use Prim.Native.Nat.{_≤_};
 ghost use lib.ListN.{length};
+ghost use Rattle.bags.specs.Sections.{isBag};
+use bags::sections::Divided;
+use bags::sections::bag_sections;
+use tokens::classes::class_table;
+
+// Whether `s` is a bag.
+fn is_bag(s: &[u8]) -> bool
+    ensures { λ r. ⌜ r ≡ isBag (now (s .entry)) ⌝ }
+{
+    let classes = class_table();
+    match bag_sections(&classes, s) {
+        Divided::In(_) => true,
+        Divided::Broken => false,
+    }
+}
 
 // How often so many checks of the first `size` bytes say yes. Before each check the sum goes into the last byte, past those, so
 // the compiler can neither drop a check nor take one for all.
@@ -13,7 +28,7 @@ fn repeat(times: u32, bytes: &mut [u8], size: usize) -> u64
     let mut left = times;
     while left > 0 {
         bytes[8191] = (sum % 256) as u8;
-        let yes = bags::is_bag(&bytes[..size]);
+        let yes = is_bag(&bytes[..size]);
         sum += vectors::one_if(yes);
         left -= 1;
     }

@@ -9,7 +9,7 @@ use compiling::compile;
 fn used(answer: Compiled) -> u64 {
     match answer {
         Compiled::Policies(_, bytes) => bytes as u64,
-        Compiled::Refused(number, _, _) => number as u64,
+        Compiled::Refused(number, _) => number as u64,
     }
 }
 

@@ -1,8 +1,7 @@
 // Compiles test texts, each into a table with a given room, and writes a line for each: policies, bytes used and a sum over them, or the refusal's number and place.
 ghost use Prim.Native.Nat.{_≤_};
 ghost use lib.ListN.{length};
-use compiling::Compiled;
-use compiling::compile;
+use desk::DeskCompiled;
 use libc::STDOUT_FILENO;
 
 // A sum over the table's first n bytes.
@@ -15,21 +14,18 @@ fn sum(table: &[u8], n: usize) -> u64 {
 }
 
 // Writes the line of an answer.
-fn report(answer: Compiled, table: &[u8]) {
-    match answer {
-        Compiled::Policies(policies, used) => {
-            io::write_all(STDOUT_FILENO, b"P ");
-            vectors::print_number(policies as u64, b' ');
-            vectors::print_number(used as u64, b' ');
-            vectors::print_number(sum(table, used), b'\n');
-        }
-        Compiled::Refused(number, line, column) => {
-            io::write_all(STDOUT_FILENO, b"R ");
-            vectors::print_number(number as u64, b' ');
-            vectors::print_number(line as u64, b' ');
-            vectors::print_number(column as u64, b'\n');
-        }
+fn report(answer: DeskCompiled, table: &[u8]) {
+    if 0 < answer.refusal {
+        io::write_all(STDOUT_FILENO, b"R ");
+        vectors::print_number(answer.refusal as u64, b' ');
+        vectors::print_number(answer.line as u64, b' ');
+        vectors::print_number(answer.column as u64, b'\n');
+        return;
     }
+    io::write_all(STDOUT_FILENO, b"P ");
+    vectors::print_number(answer.policies as u64, b' ');
+    vectors::print_number(answer.bytes as u64, b' ');
+    vectors::print_number(sum(table, answer.bytes), b'\n');
 }
 
 // The room for a text of n bytes: 8 for each byte and a shift, which is a signed number.
@@ -49,7 +45,7 @@ fn room(n: usize, low: u8, high: u8) -> usize
 
 // Compiles a text into the table that it is lent.
 fn run(text: &[u8], table: &mut [u8]) {
-    let answer = compile(text, table);
+    let answer = desk::desk_compile(text, table);
     report(answer, table);
 }
 

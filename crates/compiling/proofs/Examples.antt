@@ -4,7 +4,7 @@ use mathlib.Core.Bool.{true, false}
 use mathlib.Core.List.{List, [], _∷_, _++_}
 use Prim.Native.Nat.{ℕ, zero, suc}
 use Rattle.slices.specs.Ascii.{bytes}
-use Rattle.compiling.specs.Outcome.{compiledOf, beginsOf}
+use Rattle.compiling.specs.Outcome.{spot, nowhere, compiledOf, beginsOf}
 use Rattle.compiling.specs.declared.Compiled.the-variants.{Policies, Refused}
 use Rattle.compiling.proofs.Opened.{compiling-opened}
 
@@ -18,16 +18,16 @@ nested n = bytes "permit(principal,action,resource)when{" ++ times n (bytes "(")
 pub cases :
     (compiledOf (bytes "") 0 ≡ Policies 0 0)
     × (compiledOf (bytes "permit(principal,action,resource);") 272 ≡ Policies 1 20)
-    × (compiledOf (bytes "permit(principal,action,resource)") 264 ≡ Refused 10 1 34)
-    × (compiledOf (bytes "permit(principal,action,resource)when{principal.a};") 408 ≡ Refused 8 1 50)
-    × (compiledOf (bytes "permit(principal,action,resource)when{principal.if==1};") 440 ≡ Refused 7 1 49)
-    × (compiledOf (bytes "permit(principal,action,resource)when{action.kind==\"x\"};") 448 ≡ Refused 11 1 46)
-    × (compiledOf (bytes "permit(principal,action,resource);") 271 ≡ Refused 2 0 0)
+    × (compiledOf (bytes "permit(principal,action,resource)") 264 ≡ Refused 10 (spot 1 34))
+    × (compiledOf (bytes "permit(principal,action,resource)when{principal.a};") 408 ≡ Refused 8 (spot 1 50))
+    × (compiledOf (bytes "permit(principal,action,resource)when{principal.if==1};") 440 ≡ Refused 7 (spot 1 49))
+    × (compiledOf (bytes "permit(principal,action,resource)when{action.kind==\"x\"};") 448 ≡ Refused 11 (spot 1 46))
+    × (compiledOf (bytes "permit(principal,action,resource);") 271 ≡ Refused 2 nowhere)
 unfolding compiling-opened
 cases = (refl, refl, refl, refl, refl, refl, refl)
 
 -- 31 brackets pass, and each has its entry; the 32nd is refused
-pub brackets : (compiledOf (nested 31) 848 ≡ Policies 1 180) × (compiledOf (nested 32) 864 ≡ Refused 12 1 70)
+pub brackets : (compiledOf (nested 31) 848 ≡ Policies 1 180) × (compiledOf (nested 32) 864 ≡ Refused 12 (spot 1 70))
 unfolding compiling-opened
 brackets = (refl, refl)
 

@@ -16,18 +16,19 @@ use Rattle.reading.specs.Reader as reader
 use Rattle.reading.specs.Reader.{took, refuse, refuseBy, bind}
 use Rattle.grammar.specs.Policies.{Policy}
 use Rattle.grammar.specs.Parser.{atEnd, read-text}
-use Rattle.grammar.specs.Promise as grammar
 use Rattle.grammar.specs.Lowest as lowest
-use Rattle.grammar.proofs.Exactly.{accepted-exactly}
+use Rattle.reading.proofs.Listed.{tokens-stand, tokens-are}
+use Rattle.grammar.proofs.Exactly.{says-exactly}
 use Rattle.grammar.proofs.Rows.{refused-exactly}
 use Rattle.table.specs.Entries.{policiesEntries}
 use Rattle.table.specs.Layout.{entrySize, bytesOf, held, startsWith}
 use Rattle.table.proofs.Holding.{length-bytesOf, starts-itself, starts-decides, held-starts}
 use Rattle.parts.specs.Answers.{refusalAt}
-use Rattle.compiling.specs.Outcome.{saidOf, mostBytes, roomFor, said, compiledBytes, foundBy, foundOf, toldOf, compiledOf, tableBy, tableAfter, beginsBy, beginsOf, heldBy, heldOf}
+use Rattle.compiling.specs.Outcome.{saidOf, mostBytes, roomFor, said, compiledBytes, nowhere, spotOf, foundBy, foundOf, toldOf, compiledOf, tableBy, tableAfter, beginsBy, beginsOf, heldBy, heldOf}
 use Rattle.compiling.specs.Promise.{ZerosElsewhere, AcceptedExactly, UnfitExactly, startOf, RefusedThere, RefusedExactly, bytesSaid, bytesFor, BytesOfPolicies, TextAlone, NothingChanged, NoPoliciesNoBytes, OneResult, Begun, BeginsExactly, CompiledBegins, EnoughRoom, Holds, HeldRightly}
 use Rattle.compiling.specs.declared.Found.{Found}
 use Rattle.compiling.specs.declared.Found.the-variants.{Accepted, Unfit, Turned}
+use Rattle.compiling.specs.declared.Spot.{Spot}
 use Rattle.compiling.specs.declared.Compiled.the-variants.{Policies, Refused}
 use Rattle.compiling.proofs.Outcomes.{fitting, too-long, no-room, accepts, same-table, clash, clash-unfit}
 use Rattle.table.proofs.Counting.{entries-few as entries-below}
@@ -96,11 +97,11 @@ unfolding compiledOf toldOf foundBy
 took-answer text room ps r l h e = rw (fitting text room l h, e, length-compiled ps)
 
 pub accepted : AcceptedExactly
-unfolding AcceptedExactly grammar.AcceptedExactly said
+unfolding AcceptedExactly said
 accepted text room policies bytes l h = (
   λ e. let k = compiles text room policies bytes e in
-      record { value = k .value; belongs = accepted-exactly (tokensOf text) (k .value) .0 (k .is); many = k .many; used = k .used },
-  λ b. took-answer text room (b .value) [] l h (accepted-exactly (tokensOf text) (b .value) .1 (b .belongs)) ∙ rw (b .many, b .used),
+      record { value = k .value; belongs = says-exactly text (k .value) .0 (k .is); many = k .many; used = k .used },
+  λ b. took-answer text room (b .value) [] l h (says-exactly text (b .value) .1 (b .belongs)) ∙ rw (b .many, b .used),
 )
 
 -- ---- refusal
@@ -120,14 +121,14 @@ line-from [] p h = h
 line-from (b ∷ l) p h = line-from l (past b p) (past-line b p h)
 
 -- a refusal with no place is one by the sizes
-sized : (text : List ℕ) (room number : ℕ) → compiledOf text room ≡ Refused number 0 0 → foundOf text room ≡ Unfit number
+sized : (text : List ℕ) (room number : ℕ) → compiledOf text room ≡ Refused number nowhere → foundOf text room ≡ Unfit number
 unfolding compiledOf toldOf
 sized text room number e = go (foundOf text room) e
   where
-    go : (x : Found) → toldOf text x ≡ Refused number 0 0 → x ≡ Unfit number
+    go : (x : Found) → toldOf text x ≡ Refused number nowhere → x ≡ Unfit number
     go (Accepted p n) e = absurd (let z : _≡_ {A = ℕ} 0 1 = cc in omega arith)
     go (Unfit n) e = cc
-    go (Turned f) e = absurd (let z : placeOf text (f .start) .line ≡ 0 = cc in let y = line-from (take (f .start) text) (place 1 1) (omega arith) in omega arith)
+    go (Turned f) e = absurd (let y : spotOf text (f .start) ≡ nowhere = cc in let z : placeOf text (f .start) .line ≡ 0 = ap (λ (s : Spot). s .line) y in let y = line-from (take (f .start) text) (place 1 1) (omega arith) in omega arith)
 
 unfit-is : (text : List ℕ) (room number : ℕ) → foundOf text room ≡ Unfit number
     → ((mostBytes < length text) × (number ≡ 1)) ⊎ (((length text ≤ mostBytes) × (room < roomFor text)) × (number ≡ 2))
@@ -165,32 +166,31 @@ unfolding refusalAt
 number-is text n [] = refl
 number-is text n (x ∷ r) = refl
 
-refused-at : (text : List ℕ) (p : reader.Answer (List Policy)) (number line column : ℕ) → said text ≡ p → toldOf text (foundBy text p) ≡ Refused number line column
-    → RefusedThere text number line column
+refused-at : (text : List ℕ) (p : reader.Answer (List Policy)) (number : ℕ) (at : Spot) → said text ≡ p → toldOf text (foundBy text p) ≡ Refused number at
+    → RefusedThere text number at
 unfolding toldOf foundBy said lowest.RefusedExactly
-refused-at text (took ps r) number line column q e = absurd (let z : _≡_ {A = ℕ} 0 1 = cc in omega arith)
-refused-at text (refuse n r) number line column q e =
+refused-at text (took ps r) number at q e = absurd (let z : _≡_ {A = ℕ} 0 1 = cc in omega arith)
+refused-at text (refuse n r) number at q e =
     let same : number ≡ n = (let x : refusalAt text n r .number ≡ number = cc in sym x ∙ number-is text n r) in
     record {
+      tokens = tokensOf text;
+      listed = tokens-stand text;
       rest = r;
       refused = refused-exactly (tokensOf text) r number .0 (q ∙ rw same);
-      place-is = at-place (let x : placeOf text (refusalAt text n r .start) .line ≡ line = cc in x) (let x : placeOf text (refusalAt text n r .start) .column ≡ column = cc in x);
+      place-is = let x : spotOf text (refusalAt text n r .start) ≡ at = cc in ap (spotOf text) (sym (start-is text n r)) ∙ x;
     }
-  where
-    at-place : placeOf text (refusalAt text n r .start) .line ≡ line → placeOf text (refusalAt text n r .start) .column ≡ column → placeOf text (startOf text r) ≡ place line column
-    at-place x y = rw (← start-is text n r, ← x, ← y)
 
 -- what the refusal of these tokens is told as
-told-there : (text : List ℕ) (number line column : ℕ) → RefusedThere text number line column → toldOf text (foundBy text (said text)) ≡ Refused number line column
+told-there : (text : List ℕ) (number : ℕ) (at : Spot) → RefusedThere text number at → toldOf text (foundBy text (said text)) ≡ Refused number at
 unfolding toldOf foundBy said lowest.RefusedExactly
-told-there text number line column t =
-    rw (refused-exactly (tokensOf text) (t .rest) number .1 (t .refused), number-is text number (t .rest), start-is text number (t .rest), t .place-is)
+told-there text number at t =
+    rw (tokens-are text (t .listed), refused-exactly (t .tokens) (t .rest) number .1 (t .refused), number-is text number (t .rest), start-is text number (t .rest), t .place-is)
 
 pub refused-there : RefusedExactly
 unfolding RefusedExactly compiledOf
-refused-there text room number line column l h =
+refused-there text room number at l h =
     let f = ap (toldOf text) (fitting text room l h) in
-    (λ e. refused-at text (said text) number line column refl (sym f ∙ e), λ t. f ∙ told-there text number line column t)
+    (λ e. refused-at text (said text) number at refl (sym f ∙ e), λ t. f ∙ told-there text number at t)
 
 table-said : (text old : List ℕ) (ps : List Policy) → length text ≤ mostBytes → roomFor text ≤ length old → said text ≡ took ps []
     → tableAfter text old ≡ compiledBytes ps ++ drop (length (compiledBytes ps)) old
@@ -202,8 +202,8 @@ unfolding bytesSaid
 bytes-said text ps e = rw e
 
 pub bytes-of-policies : BytesOfPolicies
-unfolding BytesOfPolicies grammar.AcceptedExactly said
-bytes-of-policies text ps b = bytes-said text ps (accepted-exactly (tokensOf text) ps .1 b)
+unfolding BytesOfPolicies said
+bytes-of-policies text ps b = bytes-said text ps (says-exactly text ps .1 b)
 
 parted : (xs old : List ℕ) (n : ℕ) → n ≡ length xs → (take n (xs ++ drop (length xs) old) ≡ xs) × (drop n (xs ++ drop (length xs) old) ≡ drop n old)
 parted xs old n e = (take-at xs _ n (sym e), drop-at xs _ n (sym e) ∙ rw e)
@@ -218,9 +218,9 @@ text-alone text old policies bytes e =
 
 pub nothing-changed : NothingChanged
 unfolding NothingChanged compiledOf toldOf
-nothing-changed text old number line column e = go (foundOf text (length old)) refl e
+nothing-changed text old number at e = go (foundOf text (length old)) refl e
   where
-    go : (x : Found) → foundOf text (length old) ≡ x → toldOf text x ≡ Refused number line column → tableAfter text old ≡ old
+    go : (x : Found) → foundOf text (length old) ≡ x → toldOf text x ≡ Refused number at → tableAfter text old ≡ old
     go (Accepted p n) q e = absurd (let z : _≡_ {A = ℕ} 0 1 = cc in omega arith)
     go (Unfit n) q e = sym (same-table text old (λ p n. clash-unfit) (sym q))
     go (Turned f) q e = sym (same-table text old (λ p n. clash) (sym q))
@@ -258,21 +258,21 @@ compiled-begins text old policies bytes e =
     rw (le-ltb _ _ (k .short), le-ltb _ _ (k .roomy), k .is) (starts-itself (compiledBytes (k .value)) _)
 
 begun-said : (text table : List ℕ) → beginsOf text table ≡ true → Begun text table
-unfolding beginsOf beginsBy choose grammar.AcceptedExactly said
+unfolding beginsOf beginsBy choose said
 begun-said text table e = go (ltb mostBytes (length text)) refl (said text) refl e
   where
     go : (a : Bool) → ltb mostBytes (length text) ≡ a → (p : reader.Answer (List Policy)) → said text ≡ p → choose a (λ _. false) (λ _. beginsBy table p) ≡ true → Begun text table
     go true x p q e = absurd (let z : _≡_ {A = ℕ} 0 1 = cc in omega arith)
     go false x (took ps r) q e =
         let n = nothing-left text ps r q in
-        record { short = ltb-false _ _ x; value = ps; belongs = accepted-exactly (tokensOf text) ps .0 (q ∙ rw n); begins = starts-decides (compiledBytes ps) table .sound e }
+        record { short = ltb-false _ _ x; value = ps; belongs = says-exactly text ps .0 (q ∙ rw n); begins = starts-decides (compiledBytes ps) table .sound e }
     go false x (refuse n r) q e = absurd (let z : _≡_ {A = ℕ} 0 1 = cc in omega arith)
 
 pub begins-exactly : BeginsExactly
-unfolding BeginsExactly beginsOf beginsBy choose grammar.AcceptedExactly said
+unfolding BeginsExactly beginsOf beginsBy choose said
 begins-exactly text table = (
   begun-said text table,
-  λ b. rw (le-ltb _ _ (b .short), accepted-exactly (tokensOf text) (b .value) .1 (b .belongs)) (starts-decides (compiledBytes (b .value)) table .complete (b .begins)),
+  λ b. rw (le-ltb _ _ (b .short), says-exactly text (b .value) .1 (b .belongs)) (starts-decides (compiledBytes (b .value)) table .complete (b .begins)),
 )
 
 held-starting : (table : List ℕ) (ps : List Policy) → startsWith (compiledBytes ps) table ≡ true → held table 0 (policiesEntries 0 ps) ≡ true
@@ -280,7 +280,7 @@ unfolding compiledBytes
 held-starting table ps e = held-starts table 0 (policiesEntries 0 ps) ∙ e
 
 pub held-rightly : HeldRightly
-unfolding HeldRightly heldOf heldBy choose grammar.AcceptedExactly said
+unfolding HeldRightly heldOf heldBy choose said
 held-rightly text table policies entries e = go (ltb mostBytes (length text)) refl (said text) refl e
   where
     at-bytes : (ps : List Policy) (r : List Lexeme) → ltb mostBytes (length text) ≡ false → said text ≡ took ps r → (b : Bool) → startsWith (compiledBytes ps) table ≡ b
@@ -294,7 +294,7 @@ held-rightly text table policies entries e = go (ltb mostBytes (length text)) re
           short = ltb-false _ _ x;
           value = ps;
           is = all;
-          belongs = accepted-exactly (tokensOf text) ps .0 all;
+          belongs = says-exactly text ps .0 all;
           many = cc;
           count = count;
           few = omega arith;
@@ -311,4 +311,4 @@ held-rightly text table policies entries e = go (ltb mostBytes (length text)) re
 pub zeros-elsewhere : ZerosElsewhere
 unfolding ZerosElsewhere saidOf
 zeros-elsewhere (Policies policies bytes) h = absurd (h refl)
-zeros-elsewhere (Refused number line column) h = (refl, refl)
+zeros-elsewhere (Refused number at) h = (refl, refl)

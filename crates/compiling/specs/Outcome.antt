@@ -1,4 +1,5 @@
--- What compiling answers and leaves in the table, and whether a table begins right, as functions of the text and the table that is lent. Promise.antt says what these functions promise. Definitions only.
+-- What compiling answers and leaves in the table, and whether a table begins right, as functions of the text and the table that is lent. Promise.antt says
+-- what these functions promise. Definitions only.
 use mathlib.Core.Path.{_≡_}
 use mathlib.Core.Bool.{Bool, false}
 use mathlib.Core.List.{List, _++_}
@@ -6,7 +7,6 @@ use Prim.Native.Nat.{ℕ, _*_}
 use lib.ListN.{length, drop}
 use lib.Dec.{ltb}
 use Rattle.tokens.specs.Places.{placeOf}
-use Rattle.tokens.specs.declared.places.Place.{Place}
 use Rattle.reading.specs.Lexemes.{choose, tokensOf}
 use Rattle.reading.specs.Reader as reader
 use Rattle.reading.specs.Reader.{took, refuse}
@@ -17,6 +17,7 @@ use Rattle.table.specs.Layout.{entrySize, bytesOf, startsWith}
 use Rattle.parts.specs.Answers.{refusalAt}
 use Rattle.compiling.specs.declared.Found.{Found}
 use Rattle.compiling.specs.declared.Found.the-variants.{Accepted, Unfit, Turned}
+use Rattle.compiling.specs.declared.Spot.{Spot}
 use Rattle.compiling.specs.declared.Compiled.{Compiled}
 use Rattle.compiling.specs.declared.Compiled.the-variants.{Policies, Refused}
 use Rattle.compiling.specs.declared.Held.{Held}
@@ -49,15 +50,23 @@ foundOf text room =
     choose (ltb mostBytes (length text)) (λ _. Unfit 1)
     (λ _. choose (ltb room (roomFor text)) (λ _. Unfit 2) (λ _. foundBy text (said text)))
 
--- a refusal that has a line and a column
-abbrev pub refusedIn : ℕ → Place → Compiled
-refusedIn number p = Refused number (p .line) (p .column)
+-- a line and a column
+abbrev pub spot : ℕ → ℕ → Spot
+spot line column = record { line = line; column = column }
 
--- what is told of what is found: policies and bytes used; or the refusal's number, and the line and column of the token that is refused; 1 and 2 have the place 0, 0
+-- no place: the refusal goes by a size
+abbrev pub nowhere : Spot
+nowhere = spot 0 0
+
+-- where the byte at a place stands
+abbrev pub spotOf : List ℕ → ℕ → Spot
+spotOf text at = spot (placeOf text at .line) (placeOf text at .column)
+
+-- what is told of what is found: policies and bytes used; or the refusal's number, and where the token stands that is refused; 1 and 2 have no place
 unfoldable pub toldOf : List ℕ → Found → Compiled
 toldOf text (Accepted policies entries) = Policies policies (entrySize * entries)
-toldOf text (Unfit number) = Refused number 0 0
-toldOf text (Turned f) = refusedIn (f .number) (placeOf text (f .start))
+toldOf text (Unfit number) = Refused number nowhere
+toldOf text (Turned f) = Refused (f .number) (spotOf text (f .start))
 
 -- what compiling answers where so many bytes of table are lent
 unfoldable pub compiledOf : List ℕ → ℕ → Compiled
@@ -74,7 +83,7 @@ pub record Said : Type 0 where
 -- what each answer says: zeros where there is nothing to say
 unfoldable pub saidOf : Compiled → Said
 saidOf (Policies policies bytes) = record { refusal = 0; line = 0; column = 0; policies = policies; bytes = bytes }
-saidOf (Refused number line column) = record { refusal = number; line = line; column = column; policies = 0; bytes = 0 }
+saidOf (Refused number at) = record { refusal = number; line = at .line; column = at .column; policies = 0; bytes = 0 }
 
 -- the table afterwards, by what the tokens say
 unfoldable pub tableBy : reader.Answer (List Policy) → List ℕ → List ℕ

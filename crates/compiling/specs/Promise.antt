@@ -1,36 +1,40 @@
--- What is promised of compiling: demand 1 and the first half of demand 2, and what a table is that begins right. proofs/Promised.antt proves each statement. Definitions only.
--- `compiledOf` and `tableAfter` are what `compile` answers and leaves in the table by its contract, `beginsOf` and `heldOf` what `begins` and `held_policies` answer (Outcome.antt).
+-- What is promised of compiling: demand 1 and the first half of demand 2, and what a table is that begins right. proofs/Promised.antt proves each statement.
+-- Definitions only.
+-- `compiledOf` and `tableAfter` are what `compile` answers and leaves in the table by its contract, `beginsOf` and `heldOf` what `begins` and `held_policies`
+-- answer (Outcome.antt).
 use mathlib.Core.Path.{_≡_}
 use mathlib.Core.Logic.{_↔_}
 use mathlib.Core.Bool.{true}
 use mathlib.Core.List.{List, [], _∷_}
 use Prim.Native.Nat.{ℕ, _≤_}
 use lib.ListN.{length, take, drop}
-use Rattle.tokens.specs.Places.{place, placeOf}
-use Rattle.reading.specs.Lexemes.{Lexeme, tokensOf}
+use Rattle.reading.specs.Listed.{Lexeme, TokensOf}
 use Rattle.reading.specs.Reader as reader
 use Rattle.reading.specs.Reader.{took, refuse}
 use Rattle.grammar.specs.Policies.{Policy}
-use Rattle.grammar.specs.Grammar.{RuleText, sizes}
+use Rattle.grammar.specs.Grammar.{SaysPolicies}
 use Rattle.grammar.specs.Lowest.{RefusedBy}
 use Rattle.table.specs.Entries.{policiesEntries}
 use Rattle.slices.specs.Parts.{Begins}
 use Rattle.table.specs.Layout.{held}
-use Rattle.compiling.specs.Outcome.{mostBytes, roomFor, said, compiledBytes, compiledOf, saidOf, tableAfter, CompiledInto, heldOf, beginsOf}
+use Rattle.compiling.specs.Outcome.{mostBytes, roomFor, said, compiledBytes, nowhere, spotOf, compiledOf, saidOf, tableAfter, CompiledInto, heldOf}
+use Rattle.compiling.specs.Outcome.{beginsOf}
+use Rattle.compiling.specs.declared.Spot.{Spot}
 use Rattle.compiling.specs.declared.Compiled.{Compiled}
 use Rattle.compiling.specs.declared.Compiled.the-variants.{Policies, Refused}
 use Rattle.compiling.specs.declared.Held.the-variants.{Right}
 
 -- ---- acceptance
 
--- the text's tokens are a rule text within document 01's limits; it says so many policies, which compile to so many bytes
+-- the text is a rule text within document 01's limits; it says so many policies, which compile to so many bytes
 pub record Belongs (text : List ℕ) (policies bytes : ℕ) : Type 0 where
   pub value : List Policy
-  pub belongs : RuleText sizes (tokensOf text) value
+  pub belongs : SaysPolicies text value
   pub many : policies ≡ length value
   pub used : bytes ≡ length (compiledBytes value)
 
--- A text that is not too long and is lent table enough is accepted exactly when its tokens belong to the grammar; it gets the number of its policies and of their bytes.
+-- A text that is not too long and is lent table enough is accepted exactly when its tokens belong to the grammar; it gets the number of its policies and of
+-- their bytes.
 unfoldable pub AcceptedExactly : Type 0
 AcceptedExactly = (text : List ℕ) (room policies bytes : ℕ) → length text ≤ mostBytes → roomFor text ≤ room
     → (compiledOf text room ≡ Policies policies bytes) ↔ Belongs text policies bytes
@@ -38,8 +42,8 @@ AcceptedExactly = (text : List ℕ) (room policies bytes : ℕ) → length text 
 -- Refusals 1 and 2 go by the lengths of text and table alone, and come first, 1 before 2; their place is 0, 0.
 unfoldable pub UnfitExactly : Type 0
 UnfitExactly = (text : List ℕ) (room : ℕ)
-    → ((compiledOf text room ≡ Refused 1 0 0) ↔ (¬ (length text ≤ mostBytes)))
-    × ((compiledOf text room ≡ Refused 2 0 0) ↔ ((length text ≤ mostBytes) × (¬ (roomFor text ≤ room))))
+    → ((compiledOf text room ≡ Refused 1 nowhere) ↔ (¬ (length text ≤ mostBytes)))
+    × ((compiledOf text room ≡ Refused 2 nowhere) ↔ ((length text ≤ mostBytes) × (¬ (roomFor text ≤ room))))
 
 -- ---- refusal
 
@@ -48,16 +52,19 @@ unfoldable pub startOf : List ℕ → List Lexeme → ℕ
 startOf text [] = length text
 startOf text (x ∷ r) = x .start
 
--- the refusal names the first of the tokens `rest`, which is the first that breaks a rule, by the lowest number that applies to it, and tells its line and column
-pub record RefusedThere (text : List ℕ) (number line column : ℕ) : Type 0 where
+-- the refusal names the first of the text's tokens `rest`, which is the first that breaks a rule, by the lowest number that applies to it, and tells its line
+-- and column
+pub record RefusedThere (text : List ℕ) (number : ℕ) (at : Spot) : Type 0 where
+  pub tokens : List Lexeme
+  pub listed : TokensOf text 0 tokens
   pub rest : List Lexeme
-  pub refused : RefusedBy (tokensOf text) rest number
-  pub place-is : placeOf text (startOf text rest) ≡ place line column
+  pub refused : RefusedBy tokens rest number
+  pub place-is : spotOf text (startOf text rest) ≡ at
 
 -- A text that is not too long and is lent table enough is refused by a number, with a line and a column, exactly when that holds.
 unfoldable pub RefusedExactly : Type 0
-RefusedExactly = (text : List ℕ) (room number line column : ℕ) → length text ≤ mostBytes → roomFor text ≤ room
-    → (compiledOf text room ≡ Refused number line column) ↔ RefusedThere text number line column
+RefusedExactly = (text : List ℕ) (room number : ℕ) (at : Spot) → length text ≤ mostBytes → roomFor text ≤ room
+    → (compiledOf text room ≡ Refused number at) ↔ RefusedThere text number at
 
 -- A refusal gives its number and place, and zeros for policies and bytes.
 unfoldable pub ZerosElsewhere : Type 0
@@ -76,7 +83,7 @@ bytesFor text = bytesSaid (said text)
 
 -- They are those of the policies that the text says.
 unfoldable pub BytesOfPolicies : Type 0
-BytesOfPolicies = (text : List ℕ) (ps : List Policy) → RuleText sizes (tokensOf text) ps → bytesFor text ≡ compiledBytes ps
+BytesOfPolicies = (text : List ℕ) (ps : List Policy) → SaysPolicies text ps → bytesFor text ≡ compiledBytes ps
 
 -- A text that is accepted has these bytes at the table's start, a function of the text alone; the bytes past those stay.
 unfoldable pub TextAlone : Type 0
@@ -85,7 +92,7 @@ TextAlone = (text old : List ℕ) (policies bytes : ℕ) → compiledOf text (le
 
 -- A refusal changes no byte of the table.
 unfoldable pub NothingChanged : Type 0
-NothingChanged = (text old : List ℕ) (number line column : ℕ) → compiledOf text (length old) ≡ Refused number line column → tableAfter text old ≡ old
+NothingChanged = (text old : List ℕ) (number : ℕ) (at : Spot) → compiledOf text (length old) ≡ Refused number at → tableAfter text old ≡ old
 
 -- 8 bytes of table for each byte of text are enough.
 unfoldable pub EnoughRoom : Type 0
@@ -105,7 +112,7 @@ OneResult = (text old new new′ : List ℕ) (r r′ : Compiled) → CompiledInt
 pub record Begun (text table : List ℕ) : Type 0 where
   pub short : length text ≤ mostBytes
   pub value : List Policy
-  pub belongs : RuleText sizes (tokensOf text) value
+  pub belongs : SaysPolicies text value
   pub begins : Begins (compiledBytes value) table
 
 -- A table begins right exactly then.
@@ -116,12 +123,13 @@ BeginsExactly = (text table : List ℕ) → (beginsOf text table ≡ true) ↔ B
 unfoldable pub CompiledBegins : Type 0
 CompiledBegins = (text old : List ℕ) (policies bytes : ℕ) → compiledOf text (length old) ≡ Policies policies bytes → beginsOf text (tableAfter text old) ≡ true
 
--- the text is a rule text of at most 8,192 bytes that says so many policies, and the table has their entries from its beginning on, no more of them than the text has bytes
+-- the text is a rule text of at most 8,192 bytes that says so many policies, and the table has their entries from its beginning on, no more of them than the
+-- text has bytes
 pub record Holds (text table : List ℕ) (policies entries : ℕ) : Type 0 where
   pub short : length text ≤ mostBytes
   pub value : List Policy
   pub is : said text ≡ took value []
-  pub belongs : RuleText sizes (tokensOf text) value
+  pub belongs : SaysPolicies text value
   pub many : policies ≡ length value
   pub count : entries ≡ length (policiesEntries 0 value)
   pub few : entries ≤ length text

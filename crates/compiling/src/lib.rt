@@ -10,6 +10,7 @@ ghost use Rattle.compiling.specs.Outcome.{foundOf, toldOf, heldOf, begin
 use crate::policies::Whole;
 use crate::policies::read_all;
 use parts::answers::Refusal;
+use table::ENTRY_SIZE;
 use tokens::classes::class_table;
 use tokens::places::place_of;
 
@@ -23,10 +24,16 @@ pub enum Found {
     Turned(Refusal),
 }
 
-// What compiling answers: the policies and the bytes of the table that they use; or the refusal's number, line and column.
+// Where a text is refused: the line and column of the refused token, from 1; 0, 0 where it goes by a size.
+pub struct Spot {
+    pub line: usize,
+    pub column: usize,
+}
+
+// What compiling answers: the policies and the bytes of the table that they use; or the refusal's number, and where.
 pub enum Compiled {
     Policies(usize, usize),
-    Refused(u8, usize, usize),
+    Refused(u8, Spot),
 }
 
 // The policies and entries of a text whose table begins with them.
@@ -61,7 +68,11 @@ fn told(text: &[u8], f: Refusal) -> Compiled
     ensures { λ r. ⌜ r ≡ toldOf (now (text .entry)) (Turned f) ⌝ }
 {
     let p = place_of(text, f.start);
-    Compiled::Refused(f.number, p.line, p.column)
+    let spot = Spot {
+        line: p.line,
+        column: p.column,
+    };
+    Compiled::Refused(f.number, spot)
 }
 
 // Compiles a text into the table. The bytes past those used stay, and a refusal changes nothing.
@@ -71,13 +82,12 @@ pub fn compile(text: &[u8], table: &mut [u8]) -> Compiled
     let classes = class_table();
     let found = recognise(&classes, text, table.len());
     match found {
-        Found::Unfit(number) => Compiled::Refused(number, 0, 0),
+        Found::Unfit(number) => Compiled::Refused(number, Spot { line: 0, column: 0 }),
         Found::Turned(f) => told(text, f),
         Found::Accepted(policies, entries) => {
             let empty = [0u8; 1];
             read_all(&classes, text, table, &empty);
-            // an entry has 5 bytes
-            Compiled::Policies(policies, 5 * entries)
+            Compiled::Policies(policies, ENTRY_SIZE * entries)
         }
     }
 }

@@ -28,6 +28,12 @@ use tokens::kinds;
 use tokens::reader::Token;
 use tokens::reader::next_token;
 
+// The most policies of a text.
+const MOST_POLICIES: usize = 64;
+
+// The most levels that a condition has inside it: the braces after `when` are the first of 32.
+const INSIDE: usize = 31;
+
 // What a whole text is: how many policies and entries it has, and whether the table that is seen has all these; or a refusal.
 pub enum Whole {
     All(usize, usize, bool),
@@ -149,8 +155,7 @@ fn read_when(
     if next.kind != b'{' {
         return Answer::Refused(turned_away(text, next, refusals::NOT_ADMITTED));
     }
-    // the braces are the first of 32 levels
-    let inside = read_whole(classes, text, table, seen, next.end, 31, number, same);
+    let inside = read_whole(classes, text, table, seen, next.end, INSIDE, number, same);
     expected(classes, text, inside, b'}')
 }
 
@@ -207,7 +212,7 @@ pub fn read_all(classes: &[u8; 256], text: &[u8], table: &mut [u8], seen: &[u8])
     loop {
         let permits = t.kind == kinds::PERMIT;
         let effect = permits | (t.kind == kinds::FORBID);
-        if !(effect & (policies < 64)) {
+        if !(effect & (policies < MOST_POLICIES)) {
             if t.kind == kinds::END_OF_TEXT {
                 return Whole::All(policies, free, ok);
             }

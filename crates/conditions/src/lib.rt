@@ -1,7 +1,8 @@
-// The readers of conditions. They call each other, at most `depth` levels deep: so many levels may still stand inside what is read. Chains of `&&` and `||` are loops,
-// and so are the three parts of a choice. Each gets the place from which the next token is read, puts the entries of what it reads into one table and compares them
-// with another. Their frames are what nested conditions cost on the stack, so they hold little: the text and the table that is seen are lent by a reference to their
-// slice, of which no level then needs a copy, answers are short, the entries so far are one value of four bytes, and a token that is handed on is taken apart before.
+// The readers of conditions. They call each other, at most `depth` levels deep: so many levels may still stand inside what is read. Chains of `&&`
+// and `||` are loops, and so are the three parts of a choice. Each gets the place from which the next token is read, puts the entries of what it
+// reads into one table and compares them with another. Their frames are what nested conditions cost on the stack, so they hold little: the text and
+// the table that is seen are lent by a reference to their slice, of which no level then needs a copy, answers are short, the entries so far are one
+// value of four bytes, and a token that is handed on is taken apart before.
 ghost use mathlib.Core.Path.{_≡_};
 ghost use mathlib.Core.List.{[]};
 ghost use Prim.Native.Nat.{_+_, _-_, _<_, _≤_};
@@ -12,7 +13,7 @@ ghost use Rattle.reading.specs.Lexemes.{lexeme, stream};
 ghost use Rattle.grammar.specs.Parser.{noLevel, read-condition, read-conjunction, read-disjunction, read-negated, read-bracketed, read-conditional};
 ghost use Rattle.table.specs.Entries.{treeEntries};
 ghost use Rattle.parts.specs.Answers.{ReadyToRead, Done, freeOf, turnedAway};
-ghost use Rattle.conditions.specs.Joining.{ReadyAt, Closes, Joins, wordAfter};
+ghost use Rattle.conditions.specs.Joining.{ReadyAt, Closes, Joins, wordAfter, DoneFrom};
 ghost use Rattle.conditions.specs.Shortened.{wide, shortOf, token, tokenOf, withEntries};
 use leaves::read_operator;
 use leaves::read_rooted;
@@ -30,8 +31,9 @@ use tokens::kinds;
 use tokens::reader::Token;
 use tokens::reader::next_token;
 
-// An answer in half the bytes. Where something was read: whether the table that is seen has the entries so far, the kind of the token after what was read, the next
-// free entry, and where that token starts and ends. Where nothing was, a refusal: `kind` is its number, `start` the place and `end` the size of the token.
+// An answer in half the bytes. Where something was read: whether the table that is seen has the entries so far, the kind of the token after what was
+// read, the next free entry, and where that token starts and ends. Where nothing was, a refusal: `kind` is its number, `start` the place and `end`
+// the size of the token.
 pub struct Short {
     pub read: bool,
     pub same: bool,
@@ -259,8 +261,8 @@ fn read_disjunction(
     count: Count,
 ) -> Short
     requires { ⌜ ReadyAt (now classes) (now (now text)) (count .free) from ⌝ }
-    ensures done { λ r. ⌜ Done treeEntries (now (now (text .entry))) (now (now (seen .entry))) from (count .free) (count .same) (now (table .entry)) (now (table .exit))
-        (read-disjunction (read-condition depth) (stream (now (now (text .entry))) (tokenAt (now (now (text .entry))) from))) (wide r) ⌝ }
+    ensures done { λ r. ⌜ DoneFrom (now (now (text .entry))) (now (now (seen .entry))) from from count (now (table .entry)) (now (table .exit))
+        (read-disjunction (read-condition depth)) r ⌝ }
     ensures plain { λ r. ⌜ r ≡ shortOf (wide r) ⌝ }
 {
     let mut at = from;
@@ -303,8 +305,8 @@ fn read_conjunction(
     count: Count,
 ) -> Short
     requires { ⌜ ReadyAt (now classes) (now (now text)) (count .free) from ⌝ }
-    ensures done { λ r. ⌜ Done treeEntries (now (now (text .entry))) (now (now (seen .entry))) from (count .free) (count .same) (now (table .entry)) (now (table .exit))
-        (read-conjunction (read-condition depth) (stream (now (now (text .entry))) (tokenAt (now (now (text .entry))) from))) (wide r) ⌝ }
+    ensures done { λ r. ⌜ DoneFrom (now (now (text .entry))) (now (now (seen .entry))) from from count (now (table .entry)) (now (table .exit))
+        (read-conjunction (read-condition depth)) r ⌝ }
     ensures plain { λ r. ⌜ r ≡ shortOf (wide r) ⌝ }
 {
     let mut at = from;
@@ -336,8 +338,8 @@ fn read_conjunction(
     }
 }
 
-// A condition, by its first token and the levels that are left. The reader of one that holds no other is called from two places: a function that is called once the
-// compiler puts into its caller, and its frame would stand on the stack at every level (docs/BENCH.md).
+// A condition, by its first token and the levels that are left. The reader of one that holds no other is called from two places: a function that is
+// called once the compiler puts into its caller, and its frame would stand on the stack at every level (docs/BENCH.md).
 fn read_condition(
     classes: &[u8; 256],
     text: &&[u8],
@@ -348,8 +350,8 @@ fn read_condition(
     count: Count,
 ) -> Short
     requires { ⌜ ReadyAt (now classes) (now (now text)) (count .free) from ⌝ }
-    ensures done { λ r. ⌜ Done treeEntries (now (now (text .entry))) (now (now (seen .entry))) from (count .free) (count .same) (now (table .entry)) (now (table .exit))
-        (read-condition depth (stream (now (now (text .entry))) (tokenAt (now (now (text .entry))) from))) (wide r) ⌝ }
+    ensures done { λ r. ⌜ DoneFrom (now (now (text .entry))) (now (now (seen .entry))) from from count (now (table .entry)) (now (table .exit))
+        (read-condition depth) r ⌝ }
     ensures plain { λ r. ⌜ r ≡ shortOf (wide r) ⌝ }
 {
     let t = token_at(classes, text, from);
@@ -399,8 +401,8 @@ fn read_negation(
     count: Count,
 ) -> Short
     requires { ⌜ ReadyAt (now classes) (now (now text)) (count .free + 1) from ⌝ }
-    ensures done { λ r. ⌜ Done treeEntries (now (now (text .entry))) (now (now (seen .entry))) (from - 1) (count .free) (count .same) (now (table .entry)) (now (table .exit))
-        (read-negated (read-condition depth) (stream (now (now (text .entry))) (tokenAt (now (now (text .entry))) from))) (wide r) ⌝ }
+    ensures done { λ r. ⌜ DoneFrom (now (now (text .entry))) (now (now (seen .entry))) from (from - 1) count (now (table .entry)) (now (table .exit))
+        (read-negated (read-condition depth)) r ⌝ }
     ensures plain { λ r. ⌜ r ≡ shortOf (wide r) ⌝ }
 {
     let inside = read_condition(classes, text, table, seen, from, depth, count);
@@ -430,8 +432,8 @@ fn read_group(
     count: Count,
 ) -> Short
     requires { ⌜ ReadyAt (now classes) (now (now text)) (count .free + 1) from ⌝ }
-    ensures done { λ r. ⌜ Done treeEntries (now (now (text .entry))) (now (now (seen .entry))) (from - 1) (count .free) (count .same) (now (table .entry)) (now (table .exit))
-        (read-bracketed (read-condition depth) (stream (now (now (text .entry))) (tokenAt (now (now (text .entry))) from))) (wide r) ⌝ }
+    ensures done { λ r. ⌜ DoneFrom (now (now (text .entry))) (now (now (seen .entry))) from (from - 1) count (now (table .entry)) (now (table .exit))
+        (read-bracketed (read-condition depth)) r ⌝ }
     ensures plain { λ r. ⌜ r ≡ shortOf (wide r) ⌝ }
 {
     let inside = read_disjunction(classes, text, table, seen, from, depth, count);
@@ -473,8 +475,8 @@ fn read_choice(
     count: Count,
 ) -> Short
     requires { ⌜ ReadyAt (now classes) (now (now text)) (count .free + 1) from ⌝ }
-    ensures done { λ r. ⌜ Done treeEntries (now (now (text .entry))) (now (now (seen .entry))) (from - 1) (count .free) (count .same) (now (table .entry)) (now (table .exit))
-        (read-conditional (read-condition depth) (stream (now (now (text .entry))) (tokenAt (now (now (text .entry))) from))) (wide r) ⌝ }
+    ensures done { λ r. ⌜ DoneFrom (now (now (text .entry))) (now (now (seen .entry))) from (from - 1) count (now (table .entry)) (now (table .exit))
+        (read-conditional (read-condition depth)) r ⌝ }
     ensures plain { λ r. ⌜ r ≡ shortOf (wide r) ⌝ }
 {
     let mut at = from;

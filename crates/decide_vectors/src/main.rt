@@ -1,33 +1,18 @@
 // Decides test requests, and writes a line for each: the outcome and the policy's number, or `R` and the refusal's number.
 ghost use Prim.Native.Nat.{_≤_};
 ghost use lib.ListN.{length};
-use deciding::Answer;
-use deciding::decide;
+use desk::DeskDecision;
 use libc::STDOUT_FILENO;
-use meaning::Decision;
-
-// A line for a decision.
-fn report_decision(outcome: u64, policy: usize) {
-    vectors::print_number(outcome, b' ');
-    vectors::print_number(policy as u64, b'\n');
-}
 
 // A line for an answer.
-fn report(answer: Answer) {
-    match answer {
-        Answer::Refused(number) => {
-            io::write_all(STDOUT_FILENO, b"R ");
-            vectors::print_number(number as u64, b'\n');
-        }
-        Answer::Decided(decision) => {
-            match decision {
-                Decision::Allowed(policy) => report_decision(1, policy),
-                Decision::Forbidden(policy) => report_decision(2, policy),
-                Decision::Nothing => report_decision(3, 0),
-                Decision::System => report_decision(4, 0),
-            }
-        }
+fn report(answer: DeskDecision) {
+    if 0 < answer.refusal {
+        io::write_all(STDOUT_FILENO, b"R ");
+        vectors::print_number(answer.refusal as u64, b'\n');
+        return;
     }
+    vectors::print_number(answer.outcome as u64, b' ');
+    vectors::print_number(answer.policy as u64, b'\n');
 }
 
 // One vector, which lies unpacked in the memory: a text, a table, a bag, and a request's subject, action and resource.
@@ -46,7 +31,7 @@ fn vector(memory: &[u8], at: usize)
     let action_end = packed::part_end(memory, action);
     let resource = packed::part_start(memory, action_end);
     let resource_end = packed::part_end(memory, resource);
-    report(decide(
+    report(desk::desk_decide(
         &memory[text..text_end],
         &memory[table..table_end],
         &memory[bag..bag_end],

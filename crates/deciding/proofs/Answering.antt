@@ -14,7 +14,7 @@ use Rattle.views.specs.Values.{baseBag}
 use Rattle.meaning.specs.Targets.{Request, typeIn, isTyped, isSystem, isSubject, isAction, isResource}
 use Rattle.meaning.specs.Decisions.{policiesDecide, decisionOf}
 use Rattle.meaning.specs.declared.Decision.the-variants.{System}
-use Rattle.deciding.specs.Answers.{policiesOf, viewIn, viewOf, heldDecide, answerOf}
+use Rattle.deciding.specs.Answers.{wordsIn, viewIn, viewOf, heldDecide, answerOf}
 use Rattle.deciding.specs.declared.Answer.the-variants.{Decided, Refused}
 
 -- ---- the type's number of a subject or a resource
@@ -73,7 +73,7 @@ module _ (text table bag : List ℕ) (q : Request) where
             unfolding answerOf
             refused-20 e = rw (other, subject, action, resource, form, e)
 
-            pub decided-then : beginsOf text table ≡ true → Decided (policiesDecide text (viewOf bag) q (policiesOf text)) ≡ answerOf text table bag q
+            pub decided-then : beginsOf text table ≡ true → Decided (policiesDecide (viewOf bag) q (wordsIn text)) ≡ answerOf text table bag q
             unfolding answerOf decisionOf
             decided-then e = rw (other, subject, action, resource, form, e)
 
@@ -84,6 +84,6 @@ module _ (text table bag : List ℕ) (q : Request) where
                 view-is : viewOf bag ≡ look (baseBag bag p)
                 view-is = rw d
 
-                go : (b : Bool) → beginsOf text table ≡ b → cond b (Decided (policiesDecide text (look (baseBag bag p)) q (policiesOf text))) (Refused 20) ≡ answerOf text table bag q
+                go : (b : Bool) → beginsOf text table ≡ b → cond b (Decided (policiesDecide (look (baseBag bag p)) q (wordsIn text))) (Refused 20) ≡ answerOf text table bag q
                 go true e = rw (← view-is) (decided-then e)
                 go false e = refused-20 e

@@ -1,34 +1,34 @@
--- When a policy counts: it may still decide, its target matches, and its condition, if any, is true. Assumes nothing.
+-- When a policy is satisfied that is met from its last entry: its target matches, and its condition, if any, is true. Assumes nothing.
 use mathlib.Core.Path.{_≡_, sym, _∙_}
-use mathlib.Core.Bool.{Bool, true, false, _&&_}
+use mathlib.Core.Bool.{Bool, true, false}
 use mathlib.Core.List.{List}
 use Prim.Native.Nat.{ℕ, _-_}
-use lib.Dec.{eqb}
 use borrow.Author.Tests.{eq-eqb, ne-eqb}
 use Rattle.table.specs.declared.Entry.{Entry}
-use Rattle.stored.specs.ReadBack.{treeAt, conditionBetween, policyOf}
+use Rattle.stored.specs.ReadBack.{conditionBy, policyBy, treeAt, policyOf}
 use Rattle.views.specs.Meaning.{View}
+use Rattle.placing.specs.Said.{conditionWords, policyWords, treeWords}
 use Rattle.meaning.specs.Values.{withAction}
 use Rattle.meaning.specs.Conditions.{verdict, isYes}
 use Rattle.meaning.specs.Targets.{Request}
 use Rattle.meaning.specs.Decisions.{targetMatches, conditionHolds, satisfied}
-use Rattle.deciding.specs.Row.{countsOf}
 
-module _ (known : Bool) (t : List ℕ) (view : View) (q : Request) (table : List ℕ) (end : ℕ) (x : Entry) where
-  pub passed-over : known && eqb (x .kind) 34 ≡ true → false ≡ countsOf known t view q table end x
-  unfolding countsOf
-  passed-over e = rw e
+module _ (t : List ℕ) (view : View) (table : List ℕ) (end : ℕ) (x : Entry) where
+  pub no-condition : x .second ≡ end - 1 → true ≡ conditionHolds view (policyWords t (policyOf table end x) .condition)
+  unfolding conditionHolds conditionWords policyBy conditionBy
+  no-condition e = rw (eq-eqb _ _ e)
 
-  module _ (may : known && eqb (x .kind) 34 ≡ false) {r : Bool} (target : r ≡ targetMatches t q (policyOf table end x)) where
-    pub no-target : r ≡ false → false ≡ countsOf known t view q table end x
-    unfolding countsOf satisfied
-    no-target e = rw (may, sym target ∙ e)
+  pub by-condition : (x .second ≡ end - 1 → ⊥) → {b : Bool} → b ≡ isYes (verdict view (treeWords t (treeAt table (end - 1))))
+      → b ≡ conditionHolds view (policyWords t (policyOf table end x) .condition)
+  unfolding conditionHolds conditionWords policyBy conditionBy
+  by-condition n d = d ∙ rw (ne-eqb _ _ n)
 
-    module _ (matches : r ≡ true) where
-      pub no-condition : x .second ≡ end - 1 → true ≡ countsOf known t view q table end x
-      unfolding countsOf satisfied conditionHolds policyOf conditionBetween
-      no-condition e = rw (may, sym target ∙ matches, eq-eqb _ _ e)
+  module _ (q : Request) {r : Bool} (target : r ≡ targetMatches q (policyWords t (policyOf table end x))) where
+    pub no-target : r ≡ false → false ≡ satisfied view q (policyWords t (policyOf table end x))
+    unfolding satisfied
+    no-target e = rw (sym target ∙ e)
 
-      pub by-condition : (x .second ≡ end - 1 → ⊥) → {b : Bool} → b ≡ isYes (verdict t (withAction (q .action) view) (treeAt table (end - 1))) → b ≡ countsOf known t view q table end x
-      unfolding countsOf satisfied conditionHolds policyOf conditionBetween
-      by-condition n d = d ∙ rw (may, sym target ∙ matches, ne-eqb _ _ n)
+    pub target-met : r ≡ true → {b : Bool} → b ≡ conditionHolds (withAction (q .action) view) (policyWords t (policyOf table end x) .condition)
+        → b ≡ satisfied view q (policyWords t (policyOf table end x))
+    unfolding satisfied
+    target-met e d = d ∙ rw (sym target ∙ e)

@@ -23,6 +23,7 @@ use Rattle.bags.specs.declared.sections.Sections.{Sections}
 use Rattle.views.specs.Meaning.{View, look, columnsFirst}
 use Rattle.views.specs.Values.{baseBag}
 use Rattle.views.specs.Rows.{chosenOf, rowView}
+use Rattle.placing.specs.Said.{wordsOf}
 use Rattle.meaning.specs.Targets.{Request}
 use Rattle.meaning.specs.Decisions.{policiesDecide}
 use Rattle.meaning.specs.declared.Decision.{Decision}
@@ -64,10 +65,10 @@ module _ (text table : List ℕ) (policies entries : ℕ) (h : heldOf text table
   pub held-few : policies ≤ 64
   held-few = rw (holds .many) (policies-placed text (holds .value) (says .read) .few)
 
-  pub held-decides : (s : List ℕ) (p : Sections) (heads values : List ℕ) (q : Request) {d : Decision}
-      → d ≡ policiesDecide text (rowView s p 0 heads values) q (policiesAt table entries) → Decided d ≡ heldDecide text table (look (baseBag s p)) q
+  pub held-decides : (view : View) (q : Request) {d : Decision} → d ≡ policiesDecide view q (wordsOf text (policiesAt table entries))
+      → Decided d ≡ heldDecide text table view q
   unfolding heldDecide
-  held-decides s p heads values q e = rw (e, plain-row s p heads values, held-says, ← right-begins text table (sym h))
+  held-decides view q e = rw (e, held-says, ← right-begins text table (sym h))
 
 pub wrong-decides : (text table : List ℕ) (view : View) (q : Request) → heldOf text table ≡ Wrong → Refused 20 ≡ heldDecide text table view q
 unfolding heldDecide

@@ -5,13 +5,14 @@ use Prim.Native.Nat.{ℕ}
 use lib.Dec.{eqb}
 use Rattle.reading.specs.Reader as reader
 use Rattle.reading.specs.Reader.{took, refuse}
-use Rattle.grammar.specs.Policies.{Policy}
+use Rattle.grammar.specs.Policies.{PolicyOf, Policy}
 use Rattle.compiling.specs.Outcome.{said, beginsOf}
 use Rattle.bags.specs.Sections.{sectionsOf, isBag}
 use Rattle.bags.specs.declared.sections.Divided.{Divided}
 use Rattle.bags.specs.declared.sections.Divided.the-variants.{In, Broken}
 use Rattle.views.specs.Meaning.{absent, View, look}
 use Rattle.views.specs.Values.{baseBag}
+use Rattle.placing.specs.Said.{Word, wordsOf}
 use Rattle.meaning.specs.Targets.{Request, isSystem, isSubject, isAction, isResource}
 use Rattle.meaning.specs.Decisions.{policiesDecide, decisionOf, outcomeOf, policyOf}
 use Rattle.meaning.specs.declared.Decision.the-variants.{System}
@@ -27,6 +28,10 @@ policiesIn (refuse n r) = []
 abbrev pub policiesOf : List ℕ → List Policy
 policiesOf text = policiesIn (said text)
 
+-- and what they say, wherever it stands in the text
+abbrev pub wordsIn : List ℕ → List (PolicyOf Word)
+wordsIn text = wordsOf text (policiesOf text)
+
 -- the attributes in a bag's sections; none, where there are no such sections
 unfoldable pub viewIn : List ℕ → Divided → View
 viewIn bag (In p) = look (baseBag bag p)
@@ -38,7 +43,7 @@ viewOf bag = viewIn bag (sectionsOf bag)
 
 -- what the policies decide over these attributes, where the table begins with the bytes that the text compiles to; else refusal 20
 unfoldable pub heldDecide : List ℕ → List ℕ → View → Request → Answer
-heldDecide text table view q = cond (beginsOf text table) (Decided (policiesDecide text view q (policiesOf text))) (Refused 20)
+heldDecide text table view q = cond (beginsOf text table) (Decided (policiesDecide view q (wordsIn text))) (Refused 20)
 
 -- the answer: the system first, with nothing else looked at; then refusals 21, 22, 23, 24 and 20; else what is decided
 unfoldable pub answerOf : List ℕ → List ℕ → List ℕ → Request → Answer
@@ -48,7 +53,7 @@ answerOf text table bag q =
     (cond (not (isAction (q .action))) (Refused 22)
     (cond (not (isResource (q .resource))) (Refused 23)
     (cond (not (isBag bag)) (Refused 24)
-    (cond (not (beginsOf text table)) (Refused 20) (Decided (decisionOf text (viewOf bag) q (policiesOf text))))))))
+    (cond (not (beginsOf text table)) (Refused 20) (Decided (decisionOf (viewOf bag) q (wordsIn text))))))))
 
 -- document 01's numbers: of the refusal, the outcome and the policy, with 0 for what there is none of
 pub record Said : Type 0 where

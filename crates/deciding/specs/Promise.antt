@@ -1,80 +1,54 @@
--- What is promised of deciding: demand 2, and the refusals. Definitions only.
+-- When a call for a decision gets which refusal, and that the words of its text alone decide. Demand 2 itself stands on the desk's page, and over any
+-- attributes in meaning. Definitions only.
 use mathlib.Core.Path.{_≡_}
-use mathlib.Core.Logic.{_⊎_, _↔_}
+use mathlib.Core.Logic.{_↔_}
 use mathlib.Core.Bool.{true, false}
 use mathlib.Core.List.{List}
-use Prim.Native.Nat.{ℕ, _≤_}
-use lib.ListN.{length}
-use Rattle.reading.specs.Lexemes.{tokensOf}
-use Rattle.grammar.specs.Policies.{Policy}
-use Rattle.grammar.specs.Grammar.{RuleText, sizes}
-use Rattle.slices.specs.Parts.{Begins}
-use Rattle.compiling.specs.Outcome.{mostBytes, compiledBytes}
+use Prim.Native.Nat.{ℕ}
 use Rattle.compiling.specs.Promise.{Begun}
-use Rattle.bags.specs.Sections.{isBag}
+use Rattle.bags.specs.Forms.{ABag, NoBag}
 use Rattle.meaning.specs.Targets.{Request, isSystem, isSubject, isAction, isResource}
-use Rattle.meaning.specs.Decisions.{SomeSatisfied, NamesPolicy}
-use Rattle.deciding.specs.Answers.{viewOf, answerOf, saidOf, saysYes}
-use Rattle.deciding.specs.declared.Answer.{Answer}
+use Rattle.deciding.specs.Answers.{wordsIn, answerOf, saidOf}
+
+-- what a call for a decision is lent: rule text and table, bag, request
+pub record DecideCall : Type 0 where
+  pub text : List ℕ
+  pub table : List ℕ
+  pub bag : List ℕ
+  pub request : Request
 
 -- ---- refusals
 
--- When the answer has which refusal number; 0 where it has none. The system's request is never refused; else the first of the five that is wrong is named.
-pub data Refusal (text table bag : List ℕ) (q : Request) : ℕ → Type 0 where
-  never-the-system : isSystem (q .subject) ≡ true → Refusal text table bag q 0
-  bad-subject : isSystem (q .subject) ≡ false → isSubject (q .subject) ≡ false → Refusal text table bag q 21
-  bad-action : isSystem (q .subject) ≡ false → isSubject (q .subject) ≡ true → isAction (q .action) ≡ false → Refusal text table bag q 22
+-- nothing is wrong with the request of any subject but the system
+pub record Wellformed (q : Request) : Type 0 where
+  pub other : isSystem (q .subject) ≡ false
+  pub subject-is : isSubject (q .subject) ≡ true
+  pub action-is : isAction (q .action) ≡ true
+  pub resource-is : isResource (q .resource) ≡ true
+
+-- something is: subject, action, resource, in that order
+pub data RequestRefused (q : Request) : ℕ → Type 0 where
+  bad-subject : isSystem (q .subject) ≡ false → isSubject (q .subject) ≡ false → RequestRefused q 21
+  bad-action : isSystem (q .subject) ≡ false → isSubject (q .subject) ≡ true → isAction (q .action) ≡ false → RequestRefused q 22
   bad-resource : isSystem (q .subject) ≡ false → isSubject (q .subject) ≡ true → isAction (q .action) ≡ true → isResource (q .resource) ≡ false
-      → Refusal text table bag q 23
-  no-bag : isSystem (q .subject) ≡ false → isSubject (q .subject) ≡ true → isAction (q .action) ≡ true → isResource (q .resource) ≡ true → isBag bag ≡ false
-      → Refusal text table bag q 24
-  no-table : isSystem (q .subject) ≡ false → isSubject (q .subject) ≡ true → isAction (q .action) ≡ true → isResource (q .resource) ≡ true → isBag bag ≡ true
-      → (Begun text table → ⊥) → Refusal text table bag q 20
-  none-where-all-is-right : isSystem (q .subject) ≡ false → isSubject (q .subject) ≡ true → isAction (q .action) ≡ true → isResource (q .resource) ≡ true → isBag bag ≡ true
-      → Begun text table → Refusal text table bag q 0
+      → RequestRefused q 23
+
+-- When a call gets which refusal number; 0 where it gets none. The system is never refused; else the first of the five that is wrong is named.
+pub data DecideRefused (c : DecideCall) : ℕ → Type 0 where
+  never-the-system : isSystem (c .request .subject) ≡ true → DecideRefused c 0
+  bad-request : {number : ℕ} → RequestRefused (c .request) number → DecideRefused c number
+  no-bag : Wellformed (c .request) → NoBag (c .bag) → DecideRefused c 24
+  not-compiled : Wellformed (c .request) → ABag (c .bag) → (Begun (c .text) (c .table) → ⊥) → DecideRefused c 20
+  none-wrong : Wellformed (c .request) → ABag (c .bag) → Begun (c .text) (c .table) → DecideRefused c 0
 
 -- Each refusal is given exactly when document 01 says.
-unfoldable pub RefusedExactly : Type 0
-RefusedExactly = (text table bag : List ℕ) (q : Request) (number : ℕ) → (saidOf (answerOf text table bag q) .refusal ≡ number) ↔ Refusal text table bag q number
+unfoldable pub DecideRefusedExactly : Type 0
+DecideRefusedExactly = (c : DecideCall) (number : ℕ)
+    → (saidOf (answerOf (c .text) (c .table) (c .bag) (c .request)) .refusal ≡ number) ↔ DecideRefused c number
 
--- A refusal gives its number, and zeros elsewhere.
-unfoldable pub ZerosElsewhere : Type 0
-ZerosElsewhere = (a : Answer) → (saidOf a .refusal ≡ 0 → ⊥) → (saidOf a .outcome ≡ 0) × (saidOf a .policy ≡ 0)
+-- ---- what a text says
 
--- ---- demand 2
-
--- the request is one that the policies ps decide: the subject is not the system, nothing is refused, and the text says ps
-pub record Heard (text table bag : List ℕ) (q : Request) (ps : List Policy) : Type 0 where
-  pub other : isSystem (q .subject) ≡ false
-  pub subject : isSubject (q .subject) ≡ true
-  pub action : isAction (q .action) ≡ true
-  pub resource : isResource (q .resource) ≡ true
-  pub bag-form : isBag bag ≡ true
-  pub short : length text ≤ mostBytes
-  pub belongs : RuleText sizes (tokensOf text) ps
-  pub begins : Begins (compiledBytes ps) table
-
--- some permit is satisfied, and no forbid is
-pub record Granted (text table bag : List ℕ) (q : Request) : Type 0 where
-  pub policies : List Policy
-  pub heard : Heard text table bag q policies
-  pub permit : SomeSatisfied text (viewOf bag) q policies true
-  pub no-forbid : SomeSatisfied text (viewOf bag) q policies false → ⊥
-
--- A request gets yes exactly if the subject is the system, or some permit is satisfied and no forbid is.
-unfoldable pub YesExactly : Type 0
-YesExactly = (text table bag : List ℕ) (q : Request) → (saysYes (answerOf text table bag q) ≡ true) ↔ ((isSystem (q .subject) ≡ true) ⊎ Granted text table bag q)
-
--- For any subject but the system the answer names the lowest-numbered satisfied forbid, else the lowest-numbered satisfied permit, else none; for the system it names none.
-unfoldable pub NamedRightly : Type 0
-NamedRightly = (text table bag : List ℕ) (q : Request) (ps : List Policy) → Heard text table bag q ps → NamesPolicy text (viewOf bag) q ps (saidOf (answerOf text table bag q) .policy)
-
--- The system gets outcome 4 and no policy, whatever else is given.
-unfoldable pub SystemNamesNone : Type 0
-SystemNamesNone = (text table bag : List ℕ) (q : Request) → isSystem (q .subject) ≡ true → (saidOf (answerOf text table bag q) .outcome ≡ 4) × (saidOf (answerOf text table bag q) .policy ≡ 0)
-
--- ---- one result
-
--- Any two allowed answers coincide.
-unfoldable pub OneResult : Type 0
-OneResult = (text table bag : List ℕ) (q : Request) (r r′ : Answer) → r ≡ answerOf text table bag q → r′ ≡ answerOf text table bag q → r ≡ r′
+-- Two texts that say the same, each with its table, get the same answers, wherever they say it and whatever else stands in them.
+unfoldable pub AnsweredAlike : Type 0
+AnsweredAlike = (text text' table table' bag : List ℕ) (q : Request) → wordsIn text ≡ wordsIn text' → Begun text table → Begun text' table'
+    → answerOf text table bag q ≡ answerOf text' table' bag q

@@ -3,12 +3,10 @@ pub mod row;
 
 ghost use mathlib.Core.Path.{_≡_};
 ghost use Rattle.tokens.specs.Table.{classTable};
-ghost use Rattle.grammar.specs.Rules.{principalTypes, resourceTypes};
 ghost use Rattle.bags.specs.Sections.{Sectioned};
 ghost use Rattle.views.specs.Meaning.{look};
 ghost use Rattle.views.specs.Values.{baseBag};
-ghost use Rattle.meaning.specs.Targets.{typeIn};
-ghost use Rattle.targets.specs.Matching.{request};
+ghost use Rattle.targets.specs.Matching.{request, TypesOf};
 ghost use Rattle.deciding.specs.Answers.{answerOf, heldDecide};
 use crate::row::decision;
 use bags::sections::Divided;
@@ -17,6 +15,7 @@ use bags::sections::bag_sections;
 use compiling::Held;
 use compiling::held_policies;
 use meaning::Decision;
+use targets::Types;
 use targets::forms::is_action;
 use targets::forms::is_system;
 use targets::forms::resource_type;
@@ -37,41 +36,30 @@ fn held<'a>(
     bag: &'a [u8],
     p: Sections,
     subject: &[u8],
-    subject_type: usize,
     action: &'a [u8],
     resource: &[u8],
-    resource_type: usize,
+    types: Types,
 ) -> Answer
     requires { ⌜ now classes ≡ classTable ⌝ }
     requires { ⌜ Sectioned (now bag) p ⌝ }
-    requires { ⌜ «subject_type» ≡ typeIn principalTypes (now subject) ⌝ }
-    requires { ⌜ «resource_type» ≡ typeIn resourceTypes (now resource) ⌝ }
+    requires { ⌜ TypesOf types (now subject) (now resource) ⌝ }
     ensures { λ r. ⌜ r ≡ heldDecide (now (text .entry)) (now (table .entry)) (look (baseBag (now (bag .entry)) p))
         (request (now (subject .entry)) (now (action .entry)) (now (resource .entry))) ⌝ }
 {
     match held_policies(classes, text, table) {
         Held::Wrong => Answer::Refused(20),
-        Held::Right(policies, entries) => {
-            // a bag is a row without columns
-            let heads = [0usize; 6];
-            let values = [0usize; 6];
-            Answer::Decided(decision(
-                text,
-                table,
-                policies,
-                entries,
-                bag,
-                p,
-                0,
-                &heads,
-                &values,
-                subject,
-                subject_type,
-                action,
-                resource,
-                resource_type,
-            ))
-        }
+        Held::Right(policies, entries) => Answer::Decided(decision(
+            text,
+            table,
+            policies,
+            entries,
+            bag,
+            p,
+            subject,
+            action,
+            resource,
+            types,
+        )),
     }
 }
 
@@ -101,6 +89,10 @@ pub fn decide<'a>(
     if resource_type == 0 {
         return Answer::Refused(23);
     }
+    let types = Types {
+        subject: subject_type,
+        resource: resource_type,
+    };
     let classes = class_table();
     match bag_sections(&classes, bag) {
         Divided::Broken => Answer::Refused(24),
@@ -111,10 +103,9 @@ pub fn decide<'a>(
             bag,
             p,
             subject,
-            subject_type,
             action,
             resource,
-            resource_type,
+            types,
         ),
     }
 }

@@ -1,16 +1,19 @@
-// What the policies of a table decide over a row of attributes: the sections p of the bytes s, and n columns, whose places are `heads`, with what is chosen for them at `values`.
+// What the policies of a table decide over a bag, and whether a policy's condition holds in a row of attributes: the sections p of the bytes s, and n columns,
+// whose places are `heads`, with what is chosen for them at `values`.
 ghost use mathlib.Core.Path.{_≡_};
 ghost use mathlib.Core.Bool.{cond};
 ghost use lib.ListN.{length};
-ghost use Rattle.grammar.specs.Rules.{principalTypes, resourceTypes};
-ghost use Rattle.stored.specs.ReadBack.{policiesAt};
+ghost use Rattle.bags.specs.Sections.{Sectioned};
+ghost use Rattle.stored.specs.ReadBack.{policyOf, policiesAt};
 ghost use Rattle.stored.specs.Ready.{ReadyPolicies, Last};
+ghost use Rattle.views.specs.Meaning.{look};
+ghost use Rattle.views.specs.Values.{baseBag};
 ghost use Rattle.views.specs.Rows.{rowView, RowStands};
+ghost use Rattle.placing.specs.Said.{policyWords, wordsOf};
+ghost use Rattle.meaning.specs.Values.{withAction};
 ghost use Rattle.meaning.specs.Conditions.{isYes};
-ghost use Rattle.meaning.specs.Targets.{typeIn};
-ghost use Rattle.meaning.specs.Decisions.{byNumbers, policiesDecide};
-ghost use Rattle.targets.specs.Matching.{request};
-ghost use Rattle.deciding.specs.Row.{countsOf};
+ghost use Rattle.meaning.specs.Decisions.{conditionHolds, satisfied, byNumbers, policiesDecide};
+ghost use Rattle.targets.specs.Matching.{request, TypesOf};
 use bags::sections::Sections;
 use evaluating::evaluate;
 use meaning::Decision;
@@ -18,6 +21,7 @@ use meaning::Verdict;
 use table::Entry;
 use table::entries;
 use table::entry_at;
+use targets::Types;
 use targets::matching::target_matches;
 
 // Whether a condition is true.
@@ -31,10 +35,8 @@ fn is_yes(v: Verdict) -> bool
     }
 }
 
-// Whether the policy of which x is the last entry, number end - 1, is satisfied and may decide: a permit does not where a forbid is known.
-// Its target is met first, then its condition, if any.
-pub fn counts<'a>(
-    known: bool,
+// Whether the condition, if any, is true in the row of the policy of which x is the last entry, number end - 1.
+pub fn condition_holds<'a>(
     text: &'a [u8],
     table: &[u8],
     end: usize,
@@ -44,41 +46,45 @@ pub fn counts<'a>(
     n: usize,
     heads: &[usize; 6],
     values: &[usize; 6],
-    subject: &[u8],
-    subject_type: usize,
     action: &'a [u8],
-    resource: &[u8],
-    resource_type: usize,
 ) -> bool
     requires { ⌜ Last (now text) (now table) end x ⌝ }
     requires { ⌜ RowStands (now s) p n (now heads) (now values) ⌝ }
-    requires { ⌜ «subject_type» ≡ typeIn principalTypes (now subject) ⌝ }
-    requires { ⌜ «resource_type» ≡ typeIn resourceTypes (now resource) ⌝ }
-    ensures { λ r. ⌜ r ≡ countsOf known (now (text .entry)) (rowView (now (s .entry)) p n (now (heads .entry)) (now (values .entry)))
-        (request (now (subject .entry)) (now (action .entry)) (now (resource .entry))) (now (table .entry)) end x ⌝ }
+    ensures { λ r. ⌜ r ≡ conditionHolds (withAction (now (action .entry)) (rowView (now (s .entry)) p n (now (heads .entry)) (now (values .entry))))
+        (policyWords (now (text .entry)) (policyOf (now (table .entry)) end x) .condition) ⌝ }
 {
-    if known & (x.kind == entries::PERMIT) {
-        return false;
-    }
-    let target = target_matches(
-        text,
-        table,
-        end,
-        x,
-        subject,
-        subject_type,
-        action,
-        resource,
-        resource_type,
-    );
-    if !target {
-        return false;
-    }
     // a condition would begin before the policy's own entry
     if x.second == end - 1 {
         return true;
     }
     is_yes(evaluate(text, table, end - 1, s, p, n, heads, values, action))
+}
+
+// Whether the policy of which x is the last entry, number end - 1, is satisfied over the bag: its target is met first, then its condition.
+fn is_satisfied<'a>(
+    text: &'a [u8],
+    table: &[u8],
+    end: usize,
+    x: Entry,
+    bag: &'a [u8],
+    p: Sections,
+    none: &[usize; 6],
+    subject: &[u8],
+    action: &'a [u8],
+    resource: &[u8],
+    types: Types,
+) -> bool
+    requires { ⌜ Last (now text) (now table) end x ⌝ }
+    requires { ⌜ Sectioned (now bag) p ⌝ }
+    requires { ⌜ TypesOf types (now subject) (now resource) ⌝ }
+    ensures { λ r. ⌜ r ≡ satisfied (look (baseBag (now (bag .entry)) p)) (request (now (subject .entry)) (now (action .entry)) (now (resource .entry)))
+        (policyWords (now (text .entry)) (policyOf (now (table .entry)) end x)) ⌝ }
+{
+    if !target_matches(text, table, end, x, subject, action, resource, types) {
+        return false;
+    }
+    // a bag is a row without columns
+    condition_holds(text, table, end, x, bag, p, 0, none, none, action)
 }
 
 // One number or another.
@@ -101,60 +107,57 @@ pub fn by_numbers(forbid: usize, permit: usize) -> Decision
     Decision::Nothing
 }
 
-// What the policies decide whose entries end before number `entries`, in the row. They are met from the last to the first; `end` and `number` are
+// What the policies decide whose entries end before number `entries`, over the bag. They are met from the last to the first; `end` and `number` are
 // those of the policies left. Once a forbid is satisfied no permit can decide, so permits are passed over.
 pub fn decision<'a>(
     text: &'a [u8],
     table: &[u8],
     policies: usize,
     entries: usize,
-    s: &'a [u8],
+    bag: &'a [u8],
     p: Sections,
-    n: usize,
-    heads: &[usize; 6],
-    values: &[usize; 6],
     subject: &[u8],
-    subject_type: usize,
     action: &'a [u8],
     resource: &[u8],
-    resource_type: usize,
+    types: Types,
 ) -> Decision
     requires { ⌜ ReadyPolicies (now text) (now table) entries ⌝ }
     requires { ⌜ policies ≡ length (policiesAt (now table) entries) ⌝ }
-    requires { ⌜ RowStands (now s) p n (now heads) (now values) ⌝ }
-    requires { ⌜ «subject_type» ≡ typeIn principalTypes (now subject) ⌝ }
-    requires { ⌜ «resource_type» ≡ typeIn resourceTypes (now resource) ⌝ }
-    ensures { λ r. ⌜ r ≡ policiesDecide (now (text .entry)) (rowView (now (s .entry)) p n (now (heads .entry)) (now (values .entry)))
-        (request (now (subject .entry)) (now (action .entry)) (now (resource .entry))) (policiesAt (now (table .entry)) entries) ⌝ }
+    requires { ⌜ Sectioned (now bag) p ⌝ }
+    requires { ⌜ TypesOf types (now subject) (now resource) ⌝ }
+    ensures { λ r. ⌜ r ≡ policiesDecide (look (baseBag (now (bag .entry)) p)) (request (now (subject .entry)) (now (action .entry)) (now (resource .entry)))
+        (wordsOf (now (text .entry)) (policiesAt (now (table .entry)) entries)) ⌝ }
 {
+    let none = [0usize; 6];
     let mut end = entries;
     let mut number = policies;
     let mut forbid = 0;
     let mut permit = 0;
     while 0 < end {
         let x = entry_at(table, end - 1);
-        let hit = counts(
-            0 < forbid,
-            text,
-            table,
-            end,
-            x,
-            s,
-            p,
-            n,
-            heads,
-            values,
-            subject,
-            subject_type,
-            action,
-            resource,
-            resource_type,
-        );
-        let permits = x.kind == entries::PERMIT;
-        forbid = number_if(hit & !permits, number, forbid);
-        permit = number_if(hit & permits, number, permit);
+        let here = end;
+        let this = number;
         end = x.first;
         number -= 1;
+        let permits = x.kind == entries::PERMIT;
+        if (0 < forbid) & permits {
+            continue;
+        }
+        let hit = is_satisfied(
+            text,
+            table,
+            here,
+            x,
+            bag,
+            p,
+            &none,
+            subject,
+            action,
+            resource,
+            types,
+        );
+        forbid = number_if(hit & !permits, this, forbid);
+        permit = number_if(hit & permits, this, permit);
     }
     by_numbers(forbid, permit)
 }

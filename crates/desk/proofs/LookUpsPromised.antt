@@ -10,16 +10,20 @@ use lib.Ieee.{Float, ofBits, eq}
 use lib.ListN.{length}
 use denote.Ref.{RefT, now}
 use Rattle.slices.specs.Same.{same}
+use Rattle.slices.specs.Order.{Before}
+use Rattle.slices.proofs.Decided.{one-answer, no-to}
+use Rattle.slices.proofs.Order.{before-trans, not-before-itself}
 use Rattle.slices.specs.Parts.{part, IsPart}
 use Rattle.slices.proofs.Equal.{same-decides}
 use Rattle.bags.specs.Reading.{byte, each, following}
-use Rattle.bags.specs.Sections.{pathAt, kindAt, entryEnd, sectionsOf, isBag}
+use Rattle.bags.specs.Sections.{pathAt, kindAt, entryEnd, pathsOf, Ascending, none, one, more, sectionEnd, sectionsOf, Sectioned, isBag}
 use Rattle.bags.specs.declared.After.{After}
 use Rattle.bags.specs.declared.After.the-variants.{At, Bad}
 use Rattle.bags.specs.declared.sections.Sections.{Sections}
 use Rattle.bags.specs.declared.sections.Divided.{Divided}
 use Rattle.bags.specs.declared.sections.Divided.the-variants.{In, Broken}
-use Rattle.bags.proofs.SectionLaws.{entry-at}
+use Rattle.bags.proofs.SectionLaws.{entry-at, section-at, sections-at}
+use Rattle.bags.proofs.Ascent.{ascending-decides}
 use Rattle.bags.proofs.ValueLaws.{Ended, string, number, flag, list, value-at}
 use Rattle.lookups.specs.Values.{nought, unit, numberOf, valueAt, Whole}
 use Rattle.lookups.specs.Values as values
@@ -82,6 +86,16 @@ module _ (bag : List ℕ) where
       some (list j w) z = omega arith
 
 -- ---- what is found is the value of an entry with the path, or nothing
+
+apart : {p q : List ℕ} {ps : List (List ℕ)} → Ascending (p ∷ q ∷ ps) → Before p q × Ascending (q ∷ ps)
+apart (more b r) = (b, r)
+
+another : {p q path : List ℕ} → Before p q → q ≡ path → p ≡ path → ⊥
+another {p} {q} b k s = let z : q ≡ p = k ∙ sym s in not-before-itself (rw z at b)
+
+behind : {p : List ℕ} {ps : List (List ℕ)} → Ascending (p ∷ ps) → Ascending ps
+behind one = none
+behind (more b r) = r
 
 module _ (bag path : List ℕ) where
   -- of the n entries from a place on
@@ -147,29 +161,39 @@ module _ (bag path : List ℕ) where
       let w = value-there bag (kindAt bag entry) n in
       record { sections = p; divided = d; start = start; section = s; entry = entry; among = m; path-is = k; kind-is = w .0; place-is = w .1 }
 
-  -- where an entry with the path stands, something is found
-  found-among : {n at entry : ℕ} → EntryOf bag n at entry → pathAt bag entry ≡ path → lookIn values.absent (each n (entryEnd bag) (entryAt bag) at) path .kind ≡ 0 → ⊥
+  -- an entry behind a path stands after it
+  later-after : {p : List ℕ} {n at entry : ℕ} → EntryOf bag n at entry → Ascending (p ∷ pathsOf n bag at) → Before p (pathAt bag entry)
+  unfolding each
+  later-after (the-first q) a = apart (rw q at a) .0
+  later-after (a-later q m) a = let w = apart (rw q at a) in before-trans (w .0) (later-after m (w .1))
+
+  -- where an entry with the path stands, its value is found: no other entry of the section has this path
+  found-among : {n at entry : ℕ} → EntryOf bag n at entry → pathAt bag entry ≡ path → Ascending (pathsOf n bag at)
+      → lookIn values.absent (each n (entryEnd bag) (entryAt bag) at) path ≡ valueAt bag (kindAt bag entry)
   unfolding each lookIn
-  found-among {at = at} (the-first {next = e} q) k = rw (q, same-decides (pathAt bag at) path .complete k) (entry-there bag at e q)
-  found-among {at = at} (a-later {n = n} {next = e} q m) k = rw q (go (same (pathAt bag at) path) (found-among m k))
-    where
-      rest : Value
-      rest = lookIn values.absent (each n (entryEnd bag) (entryAt bag) e) path
+  found-among {at = at} (the-first {next = e} q) k a = rw (q, same-decides (pathAt bag at) path .complete k)
+  found-among {at = at} (a-later {n = n} {next = e} q m) k a =
+      let w : Ascending (pathAt bag at ∷ pathsOf n bag e) = rw q at a in
+      let b = later-after m w in
+      let other = one-answer (same (pathAt bag at) path) false (same-decides (pathAt bag at) path) (no-to (another b k)) in
+      rw (q, other) (found-among m k (behind w))
 
-      go : (b : Bool) → (rest .kind ≡ 0 → ⊥) → cond b (valueAt bag (kindAt bag at)) rest .kind ≡ 0 → ⊥
-      go true later = entry-there bag at e q
-      go false later = later
-
-  found-section : (b : ℕ) {entry : ℕ} → EntryOf bag (byte bag b) (b + 1) entry → pathAt bag entry ≡ path → lookIn values.absent (sectionAt bag b) path .kind ≡ 0 → ⊥
+  found-section : (b e : ℕ) {entry : ℕ} → sectionEnd bag b ≡ At e → EntryOf bag (byte bag b) (b + 1) entry → pathAt bag entry ≡ path
+      → lookIn values.absent (sectionAt bag b) path ≡ valueAt bag (kindAt bag entry)
   unfolding sectionAt
-  found-section b = found-among
+  found-section b e h m k = found-among m k (ascending-decides (pathsOf (byte bag b) bag (b + 1)) .sound (section-at bag b e h .ascend))
 
-  found-base : {p : Sections} {root start entry : ℕ} → SectionOf p root start → EntryOf bag (byte bag start) (start + 1) entry → pathAt bag entry ≡ path
-      → lookIn values.absent (baseOf bag p root) path .kind ≡ 0 → ⊥
+  found-base : {p : Sections} {root start entry : ℕ} → Sectioned bag p → SectionOf p root start → EntryOf bag (byte bag start) (start + 1) entry
+      → pathAt bag entry ≡ path → lookIn values.absent (baseOf bag p root) path ≡ valueAt bag (kindAt bag entry)
   unfolding baseOf
-  found-base principal = found-section 0
-  found-base {p} resource = found-section (p .resource)
-  found-base {p} env = found-section (p .env)
+  found-base {p} w principal = found-section 0 (p .resource) (w .principal)
+  found-base {p} w resource = found-section (p .resource) (p .env) (w .resource)
+  found-base {p} w env = found-section (p .env) (p .end) (w .env)
+
+  -- an entry's value is there
+  stands-there : {n at entry : ℕ} → EntryOf bag n at entry → valueAt bag (kindAt bag entry) .kind ≡ 0 → ⊥
+  stands-there {at = at} (the-first {next = e} q) = entry-there bag at e q
+  stands-there (a-later q m) = stands-there m
 
   told : {root : ℕ} {v : Value} → Under root v → Told bag v
   told nowhere = absent-told bag
@@ -229,10 +253,20 @@ module _ (bag : List ℕ) (root : ℕ) (path : List ℕ) where
       go true n = stands-in bag path (under-bag bag path root) n
       go false n = absurd (n refl)
 
-  pub found-where-it-stands : (kind place : ℕ) → isBag bag ≡ true → StandsIn bag root path kind place → lookupSays bag root path .kind ≡ 0 → ⊥
+  pub found-where-it-stands : (kind place : ℕ) → isBag bag ≡ true → StandsIn bag root path kind place
+      → (lookupSays bag root path .kind ≡ kind) × (lookupSays bag root path .place ≡ place)
   unfolding lookupSays
   found-where-it-stands kind place form w =
-      rw (← found bag root path form, bag-is-base bag (w .sections) root (w .divided)) (found-base bag path (w .section) (w .among) (w .path-is))
+      let f = found-base bag path (sections-at bag (w .sections) (w .divided)) (w .section) (w .among) (w .path-is) in
+      let v = value-there bag (kindAt bag (w .entry)) (stands-there bag path (w .among)) in
+      rw (← found bag root path form, bag-is-base bag (w .sections) root (w .divided), f) (v .0 ∙ sym (w .kind-is), v .1 ∙ sym (w .place-is))
+
+  pub stands-once : (kind kind′ place place′ : ℕ) → isBag bag ≡ true → StandsIn bag root path kind place → StandsIn bag root path kind′ place′
+      → (kind ≡ kind′) × (place ≡ place′)
+  stands-once kind kind′ place place′ form v w =
+      let a = found-where-it-stands kind place form v in
+      let b = found-where-it-stands kind′ place′ form w in
+      (sym (a .0) ∙ b .0, sym (a .1) ∙ b .1)
 
   -- ---- a string's bytes
 

@@ -1,11 +1,15 @@
 -- The desk's page of promises holds: specs/Promises.antt, record by record. Assumes nothing.
-use mathlib.Core.Path.{sym, _∙_}
+use mathlib.Core.Path.{sym, _∙_, ap, subst}
 use Rattle.slices.proofs.Parts.{one-part}
 use Rattle.compiling.specs.Promise.{BeginsExactly}
 use Rattle.compiling.proofs.Promised.{begins-exactly}
-use Rattle.sheets.specs.Promise.{ListsExactly, OneRow, Ascends, FirstSlowest}
-use Rattle.sheets.proofs.Promised as sheets
-use Rattle.desk.specs.Promises.{DemandOne, DemandTwo, DemandThree, LookUps, Refusals, OneResult}
+use Rattle.bags.proofs.Exactly.{not-a-bag}
+use Rattle.views.specs.Meaning.{View}
+use Rattle.pages.specs.Rows.{choicesAt}
+use Rattle.pages.proofs.Combinations.{row-below, choices-of-row, choices-combine, row-of-choices}
+use Rattle.pages.proofs.LineLaws.{sooner-row, row-sooner, row-read}
+use Rattle.desk.specs.Answers.{lookupSays}
+use Rattle.desk.specs.Promises.{DemandOne, DemandTwo, DemandThree, Means, LookUps, Refusals, OneResult}
 use Rattle.desk.proofs.TextsPromised as texts
 use Rattle.desk.proofs.RequestsPromised as requests
 use Rattle.desk.proofs.LookUpsPromised as look-ups-desk
@@ -33,46 +37,43 @@ demand-two = record {
   no-policies-no-bytes = texts.no-policies-no-bytes;
   one-reading = texts.one-reading;
   yes-exactly = requests.yes-exactly;
-  named-rightly = requests.named-rightly;
   outcome-rightly = requests.outcome-rightly;
+  one-outcome = requests.one-outcome;
   system-names-none = requests.system-names-none;
+  policy-few = requests.policy-few;
+  words-decide = requests.words-decide;
 }
 
 pub demand-three : DemandThree
-unfolding ListsExactly OneRow Ascends FirstSlowest
 demand-three = record {
-  row-decided = sheets-desk.row-decided;
-  row-listed = sheets-desk.row-listed;
+  the-sheet = sheets-desk.the-sheet;
   decided-alike = sheets-desk.decided-alike;
-  listed-alike = sheets-desk.listed-alike;
   rows-counted = sheets-desk.rows-counted;
-  system-rows = sheets-desk.system-rows;
-  lists-exactly = sheets.lists-exactly;
-  combination-listed = sheets-desk.combination-listed;
-  only-combinations = sheets-desk.only-combinations;
-  one-row = sheets.one-row;
-  ascends = sheets.ascends;
-  first-slowest = sheets.slowest-first;
-  then-the-others = sheets-desk.then-the-others;
-  from-start = sheets-desk.from-start;
-  page-rightly = sheets-desk.page-rightly;
-  pages-joined = sheets-desk.pages-joined;
+  rows-few = sheets-desk.rows-few;
+  row-within = λ ns choices ok. row-below ok;
+  row-there = λ ns row h. (choices-combine ns row h, row-of-choices ns row h);
+  one-row = λ ns choices choices′ a b e. sym (choices-of-row a) ∙ ap (choicesAt ns) e ∙ choices-of-row b;
+  first-slowest = λ ns choices choices′ a b. (sooner-row a b, row-sooner a b);
+  row-read = row-read;
   goes-on = sheets-desk.goes-on;
   none-refused = sheets-desk.none-refused;
   to-the-last = sheets-desk.to-the-last;
-  others-stay = sheets-desk.others-stay;
+  words-list = sheets-desk.words-list;
 }
 
 pub look-ups : LookUps
 look-ups = record {
-  looked-rightly = look-ups-desk.looked-rightly;
+  looked-rightly = λ bag contents root path w.
+      subst (λ (view : View). Means bag (lookupSays bag root path) (view root path)) (requests.seen w) (look-ups-desk.looked-rightly bag root path (requests.a-bag w));
   found-rightly = look-ups-desk.found-rightly;
-  found-where-it-stands = look-ups-desk.found-where-it-stands;
-  string-rightly = look-ups-desk.string-rightly;
+  found-where-it-stands = λ bag contents root path kind place w. look-ups-desk.found-where-it-stands bag root path kind place (requests.a-bag w);
+  stands-once = λ bag contents root path kind kind′ place place′ w. look-ups-desk.stands-once bag root path kind kind′ place place′ (requests.a-bag w);
+  string-rightly = λ bag contents root path w k.
+      let r = look-ups-desk.string-rightly bag root path k in (sym (ap (λ (view : View). view root path) (requests.seen w)) ∙ r .0, r .1);
   string-placed = look-ups-desk.string-placed;
   part-rightly = look-ups-desk.part-rightly;
   string-empty = look-ups-desk.string-empty;
-  string-none = look-ups-desk.string-none;
+  string-none = λ bag root path n. look-ups-desk.string-none bag root path (not-a-bag bag .1 n);
 }
 
 pub refusals : Refusals
@@ -96,10 +97,10 @@ pub one-result : OneResult
 one-result = record {
   of-compile = λ text before after after′ r r′ a b. (a .answered ∙ sym (b .answered), a .table ∙ sym (b .table));
   of-begins = λ text table r r′ a b. a ∙ sym b;
-  of-decide = λ text table bag q r r′ a b. a ∙ sym b;
+  of-decide = λ c r r′ a b. a ∙ sym b;
   of-lookup = λ bag root path r r′ a b. a ∙ sym b;
   of-string = λ bag root path r r′ a b. let p = one-part a b in (p .0, λ i. (p .1 i, p .2 i));
   of-string-place = λ bag root path r r′ a b. a ∙ sym b;
-  of-sheet = λ text table question q start before at after after′ r r′ a b. (a .answered ∙ sym (b .answered), a .sheet ∙ sym (b .sheet));
+  of-sheet = λ c after after′ r r′ a b. (a .answered ∙ sym (b .answered), a .sheet ∙ sym (b .sheet));
   of-rows = λ question r r′ a b. a ∙ sym b;
 }

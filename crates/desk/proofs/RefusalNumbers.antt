@@ -20,10 +20,12 @@ use Rattle.tokens.proofs.KindLaws.{kind-among}
 use Rattle.tokens.proofs.ReadLaws.{reads}
 use Rattle.tokens.proofs.Longest.{longest-token}
 use Rattle.reading.specs.Lexemes.{Lexeme, lexeme, choose, following, tokensUpTo, tokensFrom, tokensOf}
+use Rattle.reading.proofs.Listed.{tokens-are}
 use Rattle.grammar.specs.Lowest.{Applies, no-token, reserved, bare, no-type, not-admitted, limit, AppliesAt, token, end}
 use Rattle.placing.specs.Placed.{Each, none-left, and-each}
 use Rattle.placing.proofs.EachLaws.{each-right}
 use Rattle.compiling.specs.Promise.{RefusedThere}
+use Rattle.compiling.specs.declared.Spot.{Spot}
 
 -- ---- the kinds of a text's tokens
 
@@ -81,7 +83,7 @@ number-between (and-each k h) (token a) = row-number k a
 number-between h end = (omega arith, omega arith)
 
 -- a refused token's number
-pub token-number : {text : List ℕ} {number line column : ℕ} → RefusedThere text number line column → Between number
+pub token-number : {text : List ℕ} {number : ℕ} {at : Spot} → RefusedThere text number at → Between number
 token-number {text} r =
     let p = r .refused .rightly in
-    number-between (each-right (p .before) (r .rest) (rw (p .split) at (all-kinded text))) (r .refused .lowest .applies)
+    number-between (each-right (p .before) (r .rest) (rw (tokens-are text (r .listed), p .split) at (all-kinded text))) (r .refused .lowest .applies)

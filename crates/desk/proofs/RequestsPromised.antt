@@ -1,42 +1,46 @@
 -- What the desk promises of requests and of look-ups: the refusals, yes, the policy named, zeros beside a refusal. Assumes nothing.
-use mathlib.Core.Path.{_≡_, refl, fun-ext}
+use mathlib.Core.Path.{_≡_, refl, sym, _∙_, ap, subst, fun-ext}
 use mathlib.Core.Logic.{_⊎_, inl, inr, ⊎-elim, _↔_}
 use mathlib.Core.Bool.{Bool, true, false, cond}
 use mathlib.Core.List.{List, [], _∷_, List·Memᴰ, List·Memᴰ·head, List·Memᴰ·tail}
-use Prim.Native.Nat.{ℕ, zero, suc, _<_}
+use Prim.Native.Nat.{ℕ, zero, suc, _≤_, _<_}
 use native.Mathlib.Omega.{arith}
 use borrow.Author.Tests.{eqb-true}
 use lib.Dec.{eqb}
 use lib.Ieee.{Float}
+use lib.ListN.{length}
 use Rattle.tokens.specs.Bytes.{oneOf}
-use Rattle.grammar.specs.Policies.{Policy}
+use Rattle.tokens.proofs.TokenLaws.{never, or-cases}
+use Rattle.grammar.specs.Policies.{PolicyOf, Policy}
 use Rattle.compiling.specs.Outcome.{said}
-use Rattle.compiling.specs.Promise.{BeginsExactly}
-use Rattle.compiling.proofs.Promised.{begins-exactly}
+use Rattle.compiling.specs.Promise.{Begun}
 use Rattle.bags.specs.Sections.{isBag}
-use Rattle.views.specs.Meaning.{View}
+use Rattle.bags.specs.Forms.{Contents, BagBytes, ABag, NoBag}
+use Rattle.bags.proofs.Laid.{laid-whole}
+use Rattle.bags.proofs.Exactly.{sections-complete, bag-exactly, not-a-bag}
+use Rattle.views.specs.Meaning.{View, asBag, look}
+use Rattle.views.proofs.BagForms.{bag-shows}
+use Rattle.placing.specs.Said.{Word, wordsOf}
+use Rattle.placing.proofs.Theorems.{policies-placed}
 use Rattle.meaning.specs.Targets.{Request, isSystem}
-use Rattle.meaning.specs.Decisions.{Numbered, first, later, SomeSatisfied, NamesPolicy, the-system as nobody, a-forbid, a-permit, none-named, byNumbers, policiesDecide, decisionOf, outcomeOf, policyOf, isAllowed}
+use Rattle.meaning.specs.Decisions.{Numbered, first, later, SomeSatisfied, LowestSatisfied, NamesPolicy, the-system as nobody, a-forbid, a-permit, none-named, byNumbers, policiesDecide, decisionOf, outcomeOf, policyOf, isAllowed}
 use Rattle.meaning.specs.Decisions as meaning
 use Rattle.meaning.specs.declared.Decision.{Decision}
-use Rattle.meaning.specs.declared.Decision.the-variants.{Allowed, Forbidden, Nothing}
+use Rattle.meaning.specs.declared.Decision.the-variants.{Allowed, Forbidden, Nothing, System}
 use Rattle.meaning.proofs.Deciding as meaning-proofs
-use Rattle.deciding.specs.Answers.{policiesOf, viewOf, answerOf, saidOf, saysYes}
-use Rattle.deciding.specs.Promise as deciding
-use Rattle.deciding.specs.Promise.{never-the-system, bad-subject, bad-action, bad-resource, no-bag, no-table, none-where-all-is-right}
-use Rattle.deciding.specs.declared.Answer.{Answer}
+use Rattle.deciding.specs.Answers.{wordsIn, viewIn, viewOf, answerOf, saidOf}
+use Rattle.deciding.specs.Promise.{DecideCall, Wellformed, RequestRefused, bad-subject, bad-action, bad-resource, DecideRefused, never-the-system, bad-request, no-bag, not-compiled, none-wrong, DecideRefusedExactly, AnsweredAlike}
 use Rattle.deciding.specs.declared.Answer.the-variants.{Decided}
 use Rattle.deciding.proofs.Answering.{the-system}
 use Rattle.deciding.proofs.HeldLaws.{policies-said}
-use Rattle.deciding.proofs.Promised as deciding-proofs
-use Rattle.tokens.proofs.TokenLaws.{never, or-cases}
+use Rattle.deciding.proofs.Promised.{decide-refused-exactly, zeros-elsewhere, begins-then, answered-alike}
 use Rattle.lookups.specs.Lookups as lookups
 use Rattle.lookups.specs.Lookups.{lookIn, bagOf, lookupOf}
 use Rattle.lookups.specs.Values.{nought, absent}
 use Rattle.lookups.specs.declared.Answer.the-variants.{Found, Refused}
 use Rattle.lookups.proofs.Answers.{refused}
-use Rattle.desk.specs.Answers.{decidedAs, decideSays, foundAs, lookupSays}
-use Rattle.desk.specs.Promises.{Says, Yes, allowed, system, Granted, OutcomeIs, by-permit, by-forbid, by-none, by-system}
+use Rattle.desk.specs.Answers.{decideSays, decisionFor, foundAs, lookupSays}
+use Rattle.desk.specs.Promises.{Says, SayAlike, Yes, allowed, system, Granted, OutcomeIs, by-permit, by-forbid, by-none, by-system}
 use Rattle.desk.specs.declared.DeskValue.{DeskValue}
 use Rattle.desk.proofs.TextsPromised.{read-as, one-reading}
 
@@ -79,13 +83,13 @@ three-if-none a-permit-there n = absurd (omega arith)
 three-if-none a-forbid-there n = absurd (omega arith)
 three-if-none none-there n = refl
 
-from-one : {n : ℕ} {p : Policy} {ps : List Policy} → Numbered n p ps → 0 < n
+from-one : {A : Type 0} {n : ℕ} {p : A} {ps : List A} → Numbered n p ps → 0 < n
 from-one first = omega arith
 from-one (later h) = omega arith
 
-module _ (text : List ℕ) (view : View) (q : Request) (ps : List Policy) where
+module _ (view : View) (q : Request) (ps : List (PolicyOf Word)) where
   abbrev decision : Decision
-  decision = decisionOf text view q ps
+  decision = decisionOf view q ps
 
   by-policies : isSystem (q .subject) ≡ false → Sorted decision
   unfolding decisionOf policiesDecide
@@ -95,158 +99,248 @@ module _ (text : List ℕ) (view : View) (q : Request) (ps : List Policy) where
   unfolding decisionOf outcomeOf
   four-for-system s = rw s
 
-  allowed-then : isSystem (q .subject) ≡ false → isAllowed decision ≡ true → SomeSatisfied text view q ps false → ⊥
+  allowed-then : isSystem (q .subject) ≡ false → isAllowed decision ≡ true → SomeSatisfied view q ps false → ⊥
   unfolding meaning.YesExactly
-  allowed-then s y = ⊎-elim (λ t. absurd (meaning-proofs.never s t)) (λ w. w .1) (meaning-proofs.yes-exactly text view q ps .0 y)
+  allowed-then s y = ⊎-elim (λ t. absurd (meaning-proofs.never s t)) (λ w. w .1) (meaning-proofs.yes-exactly view q ps .0 y)
 
-  permit-allowed : SomeSatisfied text view q ps true → (SomeSatisfied text view q ps false → ⊥) → isAllowed decision ≡ true
+  permit-allowed : SomeSatisfied view q ps true → (SomeSatisfied view q ps false → ⊥) → isAllowed decision ≡ true
   unfolding meaning.YesExactly
-  permit-allowed p f = meaning-proofs.yes-exactly text view q ps .1 (inr (p, f))
+  permit-allowed p f = meaning-proofs.yes-exactly view q ps .1 (inr (p, f))
 
-  outcome-named : (n : ℕ) → policyOf decision ≡ n → NamesPolicy text view q ps n → OutcomeIs text view q ps (outcomeOf decision) n
-  outcome-named n e (nobody s) = rw (four-for-system s) (by-system s)
-  outcome-named n e (a-forbid s l) =
-      let named : 0 < policyOf decision = rw e (from-one (l .satisfied-as .numbered)) in
-      rw (two-if-named (by-policies s) (λ y. allowed-then s y (record { number = n; satisfied-as = l .satisfied-as })) named) (by-forbid s l)
-  outcome-named n e (a-permit s f l) = rw (one-if-allowed (by-policies s) (permit-allowed (record { number = n; satisfied-as = l .satisfied-as }) f)) (by-permit s f l)
-  outcome-named n e (none-named s f g) = rw (three-if-none (by-policies s) e) (by-none s f g)
+  named-then : {n : ℕ} → policyOf decision ≡ n → LowestSatisfied view q ps false n → 0 < policyOf decision
+  named-then e l = rw e (from-one (l .satisfied-as .numbered))
 
--- what the policies that a text says decide over a view
-pub outcome-over : (text : List ℕ) (view : View) (q : Request) (ps : List Policy) → Says text ps
-    → OutcomeIs text view q ps (outcomeOf (decisionOf text view q (policiesOf text))) (policyOf (decisionOf text view q (policiesOf text)))
-unfolding said meaning.NamedRightly
-outcome-over text view q ps says =
-    rw (policies-said text ps (read-as text ps says)) (outcome-named text view q ps (policyOf (decisionOf text view q ps)) refl (meaning-proofs.named-rightly text view q ps))
+  -- the outcome, by the policy that is named
+  one-for-permit : {n : ℕ} → isSystem (q .subject) ≡ false → (SomeSatisfied view q ps false → ⊥) → LowestSatisfied view q ps true n → outcomeOf decision ≡ 1
+  one-for-permit {n} s f l = one-if-allowed (by-policies s) (permit-allowed (record { number = n; satisfied-as = l .satisfied-as }) f)
 
--- and who gets yes over it
-pub yes-over : (text : List ℕ) (view : View) (q : Request) (ps : List Policy) → Says text ps
-    → (isAllowed (decisionOf text view q (policiesOf text)) ≡ true) ↔ ((isSystem (q .subject) ≡ true) ⊎ Granted text view q)
-unfolding said meaning.YesExactly
-yes-over text view q ps says = rw (policies-said text ps (read-as text ps says)) (
-  λ y. ⊎-elim inl (λ w. inr (record { policies = ps; says = says; permit = w .0; no-forbid = w .1 })) (meaning-proofs.yes-exactly text view q ps .0 y),
-  λ y. meaning-proofs.yes-exactly text view q ps .1 (⊎-elim inl (λ g. inr (of-these g)) y),
-)
-  where
-    of-these : Granted text view q → SomeSatisfied text view q ps true × (SomeSatisfied text view q ps false → ⊥)
-    of-these g = rw (← one-reading text (g .policies) ps (g .says) says) (g .permit, g .no-forbid)
+  two-for-forbid : {n : ℕ} → isSystem (q .subject) ≡ false → policyOf decision ≡ n → LowestSatisfied view q ps false n → outcomeOf decision ≡ 2
+  two-for-forbid {n} s e l = two-if-named (by-policies s) (λ y. allowed-then s y (record { number = n; satisfied-as = l .satisfied-as })) (named-then e l)
+
+  -- and the policy that is named
+  named-as : {n : ℕ} → NamesPolicy view q ps n → policyOf decision ≡ n
+  unfolding meaning.NamedRightly meaning.OneName
+  named-as {n} m = meaning-proofs.one-name view q ps (policyOf decision) n (meaning-proofs.named-rightly view q ps) m
+
+-- ---- over any attributes
+
+module _ (text : List ℕ) (view : View) (q : Request) where
+  -- the decision of the policies that the text says
+  abbrev pub decidedOver : Decision
+  decidedOver = decisionOf view q (wordsIn text)
+
+  words-said : (ps : List Policy) → Says text ps → wordsIn text ≡ wordsOf text ps
+  unfolding said
+  words-said ps says = ap (wordsOf text) (policies-said text ps (read-as text ps says))
+
+  outcome-named : (ps : List Policy) → Says text ps → (n : ℕ) → policyOf (decisionOf view q (wordsOf text ps)) ≡ n → NamesPolicy view q (wordsOf text ps) n
+      → OutcomeIs text view q (outcomeOf (decisionOf view q (wordsOf text ps))) n
+  outcome-named ps says n e (nobody s) = rw (four-for-system view q (wordsOf text ps) s) (by-system s)
+  outcome-named ps says n e (a-forbid s l) = rw (two-for-forbid view q (wordsOf text ps) s e l) (by-forbid s says l)
+  outcome-named ps says n e (a-permit s f l) = rw (one-for-permit view q (wordsOf text ps) s f l) (by-permit s says f l)
+  outcome-named ps says n e (none-named s f g) = rw (three-if-none (by-policies view q (wordsOf text ps) s) e) (by-none s says f g)
+
+  -- what the policies that a text says decide
+  pub outcome-over : (ps : List Policy) → Says text ps → OutcomeIs text view q (outcomeOf decidedOver) (policyOf decidedOver)
+  unfolding meaning.NamedRightly
+  outcome-over ps says =
+      rw (words-said ps says) (outcome-named ps says (policyOf (decisionOf view q (wordsOf text ps))) refl (meaning-proofs.named-rightly view q (wordsOf text ps)))
+
+  -- what is decided for the system
+  pub system-over : isSystem (q .subject) ≡ true → OutcomeIs text view q (outcomeOf decidedOver) (policyOf decidedOver)
+  unfolding decisionOf outcomeOf policyOf
+  system-over s = rw s (by-system s)
+
+  -- and nothing else is
+  pub decided-as : {o n : ℕ} → OutcomeIs text view q o n → (o ≡ outcomeOf decidedOver) × (n ≡ policyOf decidedOver)
+  unfolding decisionOf outcomeOf policyOf
+  decided-as (by-permit {ps = ps} s says f l) =
+      rw (words-said ps says) (sym (one-for-permit view q (wordsOf text ps) s f l), sym (named-as view q (wordsOf text ps) (a-permit s f l)))
+  decided-as (by-forbid {ps = ps} s says l) =
+      let n = named-as view q (wordsOf text ps) (a-forbid s l) in
+      rw (words-said ps says) (sym (two-for-forbid view q (wordsOf text ps) s n l), sym n)
+  decided-as (by-none {ps = ps} s says f g) =
+      let n = named-as view q (wordsOf text ps) (none-named s f g) in
+      rw (words-said ps says) (sym (three-if-none (by-policies view q (wordsOf text ps) s) n), sym n)
+  decided-as (by-system s) = rw s (refl, refl)
+
+  -- who gets yes
+  pub yes-over : (ps : List Policy) → Says text ps
+      → (isAllowed decidedOver ≡ true) ↔ ((isSystem (q .subject) ≡ true) ⊎ (SomeSatisfied view q (wordsOf text ps) true × (SomeSatisfied view q (wordsOf text ps) false → ⊥)))
+  unfolding meaning.YesExactly
+  yes-over ps says = rw (words-said ps says) (meaning-proofs.yes-exactly view q (wordsOf text ps))
+
+  words-many : (ps : List Policy) → length (wordsOf text ps) ≡ length ps
+  unfolding wordsOf
+  words-many [] = refl
+  words-many (p ∷ ps) = ap suc (words-many ps)
+
+  number-few : {effect : Bool} {n : ℕ} (ps : List Policy) → Says text ps → LowestSatisfied view q (wordsOf text ps) effect n → n ≤ 64
+  number-few ps says l =
+      let few = policies-placed text ps (read-as text ps says) .few in
+      let k = meaning-proofs.numbered-few (l .satisfied-as .numbered) in
+      omega (arith, words-many ps)
+
+  pub policy-few : (outcome policy : ℕ) → OutcomeIs text view q outcome policy → policy ≤ 64
+  policy-few o n (by-permit {ps = ps} s says f l) = number-few ps says l
+  policy-few o n (by-forbid {ps = ps} s says l) = number-few ps says l
+  policy-few o n (by-none s says f g) = omega arith
+  policy-few o n (by-system s) = omega arith
+
+pub one-outcome : (text : List ℕ) (view : View) (q : Request) (outcome outcome′ policy policy′ : ℕ)
+    → OutcomeIs text view q outcome policy → OutcomeIs text view q outcome′ policy′ → (outcome ≡ outcome′) × (policy ≡ policy′)
+one-outcome text view q outcome outcome′ policy policy′ a b =
+    let x = decided-as text view q a in let y = decided-as text view q b in (x .0 ∙ sym (y .0), x .1 ∙ sym (y .1))
+
+-- a decision is yes by its outcome
+no-yes : {o : ℕ} → (o ≡ 1 → ⊥) → (o ≡ 4 → ⊥) → Yes o → ⊥
+no-yes f g (allowed e) = f e
+no-yes f g (system e) = g e
+
+pub yes-by-outcome : (d : Decision) {o : ℕ} → o ≡ outcomeOf d → (isAllowed d ≡ true) ↔ Yes o
+unfolding isAllowed outcomeOf
+yes-by-outcome (Allowed n) e = (λ y. allowed e, λ y. refl)
+yes-by-outcome (Forbidden n) e = (λ y. absurd (never y), λ y. absurd (no-yes (λ z. omega arith) (λ z. omega arith) y))
+yes-by-outcome Nothing e = (λ y. absurd (never y), λ y. absurd (no-yes (λ z. omega arith) (λ z. omega arith) y))
+yes-by-outcome System e = (λ y. system e, λ y. refl)
+
+-- ---- bags
+
+-- what deciding sees of a bag is what its bytes say
+pub seen : {s : List ℕ} {b : Contents} → BagBytes s b → viewOf s ≡ look (asBag b)
+unfolding viewIn
+seen {s} {b} w = let d = sections-complete (w .all) (laid-whole s) in fun-ext (λ root. fun-ext (λ path. rw (d .read) (bag-shows (d .places) (d .read) w root path)))
+
+pub a-bag : {s : List ℕ} {b : Contents} → BagBytes s b → isBag s ≡ true
+a-bag {s} {b} w = bag-exactly s .1 (b, w)
+
+-- ---- texts
+
+pub begun-says : {text table : List ℕ} (b : Begun text table) → Says text (b .value)
+begun-says b = record { short = b .short; belongs = b .belongs }
+
+-- texts that say the same
+pub alike-words : {text text′ : List ℕ} → SayAlike text text′ → wordsIn text ≡ wordsIn text′
+unfolding said
+alike-words {text} {text′} a =
+    ap (wordsOf text) (policies-said text (a .policies) (read-as text (a .policies) (a .says))) ∙ a .alike
+    ∙ sym (ap (wordsOf text′) (policies-said text′ (a .policies′) (read-as text′ (a .policies′) (a .says′))))
+
+pub words-decide : (text text′ table table′ bag : List ℕ) (q : Request) → SayAlike text text′ → Begun text table → Begun text′ table′
+    → decideSays text table bag q ≡ decideSays text′ table′ bag q
+unfolding decideSays AnsweredAlike
+words-decide text text′ table table′ bag q a b b′ = rw (answered-alike text text′ table table′ bag q (alike-words a) b b′)
 
 -- ---- deciding
 
-module _ (text table bag : List ℕ) (q : Request) where
-  pub decide-exactly : (number : ℕ) → (decideSays text table bag q .refusal ≡ number) ↔ deciding.Refusal text table bag q number
-  unfolding decideSays deciding.RefusedExactly
-  decide-exactly number = deciding-proofs.refused-exactly text table bag q number
+pub request-some : {q : Request} {n : ℕ} → RequestRefused q n → n ≡ 0 → ⊥
+request-some (bad-subject s t) e = omega arith
+request-some (bad-action s t u) e = omega arith
+request-some (bad-resource s t u v) e = omega arith
 
-  number-is : {n : ℕ} → deciding.Refusal text table bag q n → List·Memᴰ n (0 ∷ 20 ∷ 21 ∷ 22 ∷ 23 ∷ 24 ∷ [])
+module _ (c : DecideCall) where
+  pub decide-exactly : (number : ℕ) → (decisionFor c .refusal ≡ number) ↔ DecideRefused c number
+  unfolding decideSays DecideRefusedExactly
+  decide-exactly number = decide-refused-exactly c number
+
+  request-is : {n : ℕ} → RequestRefused (c .request) n → List·Memᴰ n (0 ∷ 20 ∷ 21 ∷ 22 ∷ 23 ∷ 24 ∷ [])
+  request-is (bad-subject s t) = among 21 _ refl
+  request-is (bad-action s t u) = among 22 _ refl
+  request-is (bad-resource s t u v) = among 23 _ refl
+
+  number-is : {n : ℕ} → DecideRefused c n → List·Memᴰ n (0 ∷ 20 ∷ 21 ∷ 22 ∷ 23 ∷ 24 ∷ [])
   number-is (never-the-system s) = among 0 _ refl
-  number-is (bad-subject s t) = among 21 _ refl
-  number-is (bad-action s t u) = among 22 _ refl
-  number-is (bad-resource s t u v) = among 23 _ refl
-  number-is (no-bag s t u v w) = among 24 _ refl
-  number-is (no-table s t u v w b) = among 20 _ refl
-  number-is (none-where-all-is-right s t u v w b) = among 0 _ refl
+  number-is (bad-request r) = request-is r
+  number-is (no-bag f w) = among 24 _ refl
+  number-is (not-compiled f w b) = among 20 _ refl
+  number-is (none-wrong f w b) = among 0 _ refl
 
-  pub decide-refusals : List·Memᴰ (decideSays text table bag q .refusal) (0 ∷ 20 ∷ 21 ∷ 22 ∷ 23 ∷ 24 ∷ [])
-  decide-refusals = number-is (decide-exactly (decideSays text table bag q .refusal) .0 refl)
+  pub decide-refusals : List·Memᴰ (decisionFor c .refusal) (0 ∷ 20 ∷ 21 ∷ 22 ∷ 23 ∷ 24 ∷ [])
+  decide-refusals = number-is (decide-exactly (decisionFor c .refusal) .0 refl)
 
-  pub decide-zeros : (decideSays text table bag q .refusal ≡ 0 → ⊥) → (decideSays text table bag q .outcome ≡ 0) × (decideSays text table bag q .policy ≡ 0)
-  unfolding decideSays deciding.ZerosElsewhere
-  decide-zeros = deciding-proofs.zeros-elsewhere (answerOf text table bag q)
+  pub decide-zeros : (decisionFor c .refusal ≡ 0 → ⊥) → (decisionFor c .outcome ≡ 0) × (decisionFor c .policy ≡ 0)
+  unfolding decideSays
+  decide-zeros = zeros-elsewhere (answerOf (c .text) (c .table) (c .bag) (c .request))
 
   -- ---- a request that is not refused
 
   -- whose it is: the system's, or one that the policies of the text decide
   data Heard : Type 0 where
-    of-the-system : isSystem (q .subject) ≡ true → Heard
-    of-another : ((ps : List Policy) → Says text ps → deciding.Heard text table bag q ps) → Heard
+    of-the-system : isSystem (c .request .subject) ≡ true → Heard
+    of-another : Wellformed (c .request) → ABag (c .bag) → Begun (c .text) (c .table) → Heard
 
-  heard-by : {n : ℕ} → n ≡ 0 → deciding.Refusal text table bag q n → Heard
+  heard-by : {n : ℕ} → n ≡ 0 → DecideRefused c n → Heard
   heard-by e (never-the-system s) = of-the-system s
-  heard-by e (bad-subject s t) = absurd (omega arith)
-  heard-by e (bad-action s t u) = absurd (omega arith)
-  heard-by e (bad-resource s t u v) = absurd (omega arith)
-  heard-by e (no-bag s t u v w) = absurd (omega arith)
-  heard-by e (no-table s t u v w b) = absurd (omega arith)
-  heard-by e (none-where-all-is-right s t u v w b) = of-another (λ ps says. record {
-    other = s;
-    subject = t;
-    action = u;
-    resource = v;
-    bag-form = w;
-    short = says .short;
-    belongs = says .belongs;
-    begins = rw (← one-reading text (b .value) ps (record { short = b .short; belongs = b .belongs }) says) (b .begins);
-  })
+  heard-by e (bad-request r) = absurd (request-some r e)
+  heard-by e (no-bag f w) = absurd (omega arith)
+  heard-by e (not-compiled f w b) = absurd (omega arith)
+  heard-by e (none-wrong f w b) = of-another f w b
 
-  heard : decideSays text table bag q .refusal ≡ 0 → Heard
-  heard e = heard-by e (decide-exactly (decideSays text table bag q .refusal) .0 refl)
+  heard : decisionFor c .refusal ≡ 0 → Heard
+  heard e = heard-by e (decide-exactly (decisionFor c .refusal) .0 refl)
+
+  -- what deciding sees, and what it decides over that
+  abbrev view : View
+  view = viewOf (c .bag)
+
+  abbrev decision-there : Decision
+  decision-there = decidedOver (c .text) view (c .request)
+
+  answered : Heard → answerOf (c .text) (c .table) (c .bag) (c .request) ≡ Decided decision-there
+  unfolding answerOf decisionOf
+  answered (of-the-system s) = rw s
+  answered (of-another f w b) = rw (f .other, f .subject-is, f .action-is, f .resource-is, bag-exactly (c .bag) .1 w, begins-then (c .text) (c .table) b)
+
+  outcome-told : Heard → (decisionFor c .outcome ≡ outcomeOf decision-there) × (decisionFor c .policy ≡ policyOf decision-there)
+  unfolding decideSays saidOf
+  outcome-told h = rw (answered h) (refl, refl)
+
+  outcome-there : Heard → OutcomeIs (c .text) view (c .request) (outcomeOf decision-there) (policyOf decision-there)
+  outcome-there (of-the-system s) = system-over (c .text) view (c .request) s
+  outcome-there (of-another f w b) = outcome-over (c .text) view (c .request) (b .value) (begun-says b)
+
+  pub outcome-rightly : (contents : Contents) → decisionFor c .refusal ≡ 0 → BagBytes (c .bag) contents
+      → OutcomeIs (c .text) (look (asBag contents)) (c .request) (decisionFor c .outcome) (decisionFor c .policy)
+  outcome-rightly contents e w =
+      let h = heard e in
+      let t = outcome-told h in
+      subst (λ (v : View). OutcomeIs (c .text) v (c .request) (decisionFor c .outcome) (decisionFor c .policy)) (seen w) (rw (t .0, t .1) (outcome-there h))
 
   -- ---- yes
 
-  yes-then : (a : Answer) → Yes (decidedAs (saidOf a)) → saysYes a ≡ true
-  unfolding saysYes
-  yes-then a (allowed e) = let h : saidOf a .outcome ≡ 1 = e in rw h
-  yes-then a (system e) = let h : saidOf a .outcome ≡ 4 = e in rw h
+  granted-there : Heard → (isAllowed decision-there ≡ true) ↔ ((isSystem (c .request .subject) ≡ true) ⊎ Granted (c .text) (c .bag) (c .request))
+  unfolding decisionOf isAllowed
+  granted-there (of-the-system s) = (λ y. inl s, λ y. rw s)
+  granted-there (of-another f w b) =
+      let yes = yes-over (c .text) view (c .request) (b .value) (begun-says b) in (
+        λ y. ⊎-elim inl (λ g. inr (rightly (w .1) g)) (yes .0 y),
+        λ g. yes .1 (⊎-elim inl (λ g. inr (granted g)) g),
+      )
+    where
+      rightly : {contents : Contents} → BagBytes (c .bag) contents
+          → SomeSatisfied view (c .request) (wordsOf (c .text) (b .value)) true × (SomeSatisfied view (c .request) (wordsOf (c .text) (b .value)) false → ⊥)
+          → Granted (c .text) (c .bag) (c .request)
+      rightly {contents} w g =
+          let h = subst (λ (v : View). SomeSatisfied v (c .request) (wordsOf (c .text) (b .value)) true × (SomeSatisfied v (c .request) (wordsOf (c .text) (b .value)) false → ⊥)) (seen w) g in
+          record { policies = b .value; says = begun-says b; contents = contents; bag-says = w; permit = h .0; no-forbid = h .1 }
 
-  then-yes : (a : Answer) → saysYes a ≡ true → Yes (decidedAs (saidOf a))
-  unfolding saysYes
-  then-yes a e = ⊎-elim (λ (h : eqb (saidOf a .outcome) 1 ≡ true). allowed (eqb-true _ _ h)) (λ (h : eqb (saidOf a .outcome) 4 ≡ true). system (eqb-true _ _ h)) (or-cases _ _ e)
+      granted : Granted (c .text) (c .bag) (c .request)
+          → SomeSatisfied view (c .request) (wordsOf (c .text) (b .value)) true × (SomeSatisfied view (c .request) (wordsOf (c .text) (b .value)) false → ⊥)
+      granted g =
+          let same = one-reading (c .text) (g .policies) (b .value) (g .says) (begun-says b) in
+          subst (λ (v : View). SomeSatisfied v (c .request) (wordsOf (c .text) (b .value)) true × (SomeSatisfied v (c .request) (wordsOf (c .text) (b .value)) false → ⊥)) (sym (seen (g .bag-says)))
+          (subst (λ (ps : List Policy). SomeSatisfied (look (asBag (g .contents))) (c .request) (wordsOf (c .text) ps) true × (SomeSatisfied (look (asBag (g .contents))) (c .request) (wordsOf (c .text) ps) false → ⊥)) same (g .permit, g .no-forbid))
 
-  with-table : Heard → Granted text (viewOf bag) q → (isSystem (q .subject) ≡ true) ⊎ deciding.Granted text table bag q
-  with-table (of-the-system s) g = inl s
-  with-table (of-another h) g = inr (record { policies = g .policies; heard = h (g .policies) (g .says); permit = g .permit; no-forbid = g .no-forbid })
+  pub yes-exactly : decisionFor c .refusal ≡ 0 → Yes (decisionFor c .outcome) ↔ ((isSystem (c .request .subject) ≡ true) ⊎ Granted (c .text) (c .bag) (c .request))
+  yes-exactly e =
+      let h = heard e in
+      let y = yes-by-outcome decision-there (outcome-told h .0) in
+      let g = granted-there h in
+      (λ x. g .0 (y .1 x), λ x. y .0 (g .1 x))
 
-  without-table : deciding.Granted text table bag q → Granted text (viewOf bag) q
-  without-table g = record { policies = g .policies; says = record { short = g .heard .short; belongs = g .heard .belongs }; permit = g .permit; no-forbid = g .no-forbid }
-
-  pub yes-exactly : decideSays text table bag q .refusal ≡ 0 → Yes (decideSays text table bag q) ↔ ((isSystem (q .subject) ≡ true) ⊎ Granted text (viewOf bag) q)
-  unfolding decideSays deciding.YesExactly
-  yes-exactly e = (
-    λ y. ⊎-elim inl (λ g. inr (without-table g)) (deciding-proofs.yes-exactly text table bag q .0 (yes-then (answerOf text table bag q) y)),
-    λ g. then-yes (answerOf text table bag q) (deciding-proofs.yes-exactly text table bag q .1 (⊎-elim inl (with-table (heard e)) g)),
-  )
-
-  -- ---- the policy named
-
-  pub system-names-none : isSystem (q .subject) ≡ true → decideSays text table bag q ≡ record { refusal = 0; outcome = 4; policy = 0 }
+  pub system-names-none : isSystem (c .request .subject) ≡ true → decisionFor c ≡ record { refusal = 0; outcome = 4; policy = 0 }
   unfolding decideSays saidOf outcomeOf policyOf
-  system-names-none s = rw (← the-system text table bag q s)
-
-  names-nobody : isSystem (q .subject) ≡ true → (ps : List Policy) → NamesPolicy text (viewOf bag) q ps (decideSays text table bag q .policy)
-  names-nobody s ps = rw (system-names-none s) (nobody s)
-
-  names : Heard → (ps : List Policy) → Says text ps → NamesPolicy text (viewOf bag) q ps (decideSays text table bag q .policy)
-  unfolding decideSays deciding.NamedRightly
-  names (of-the-system s) ps says = names-nobody s ps
-  names (of-another h) ps says = deciding-proofs.named-rightly text table bag q ps (h ps says)
-
-  pub named-rightly : (ps : List Policy) → decideSays text table bag q .refusal ≡ 0 → Says text ps → NamesPolicy text (viewOf bag) q ps (decideSays text table bag q .policy)
-  named-rightly ps e = names (heard e) ps
-
-  -- ---- over a view that is the bag's
-
-  decided-by : {n : ℕ} → n ≡ 0 → deciding.Refusal text table bag q n → answerOf text table bag q ≡ Decided (decisionOf text (viewOf bag) q (policiesOf text))
-  unfolding answerOf decisionOf BeginsExactly
-  decided-by e (never-the-system s) = rw s
-  decided-by e (bad-subject s t) = absurd (omega arith)
-  decided-by e (bad-action s t u) = absurd (omega arith)
-  decided-by e (bad-resource s t u v) = absurd (omega arith)
-  decided-by e (no-bag s t u v w) = absurd (omega arith)
-  decided-by e (no-table s t u v w b) = absurd (omega arith)
-  decided-by e (none-where-all-is-right s t u v w b) = rw (s, t, u, v, w, begins-exactly text table .1 b)
-
-  pub outcome-rightly : (ps : List Policy) → decideSays text table bag q .refusal ≡ 0 → Says text ps
-      → OutcomeIs text (viewOf bag) q ps (decideSays text table bag q .outcome) (decideSays text table bag q .policy)
-  unfolding decideSays saidOf
-  outcome-rightly ps e says = rw (decided-by e (decide-exactly (decideSays text table bag q .refusal) .0 refl)) (outcome-over text (viewOf bag) q ps says)
-
-  -- what is decided depends on the attributes alone
-  pub decided-over : decideSays text table bag q .refusal ≡ 0 → (view : View) → ((root : ℕ) (path : List ℕ) → viewOf bag root path ≡ view root path)
-      → (decideSays text table bag q .outcome ≡ outcomeOf (decisionOf text view q (policiesOf text))) × (decideSays text table bag q .policy ≡ policyOf (decisionOf text view q (policiesOf text)))
-  unfolding decideSays saidOf
-  decided-over e view shows =
-      let same : viewOf bag ≡ view = fun-ext (λ root. fun-ext (shows root)) in
-      rw (decided-by e (decide-exactly (decideSays text table bag q .refusal) .0 refl), same) (refl, refl)
+  system-names-none s = rw (← the-system (c .text) (c .table) (c .bag) (c .request) s)
 
 -- ---- look-ups
 
@@ -275,9 +369,9 @@ module _ (bag : List ℕ) (root : ℕ) (path : List ℕ) where
   no-bag-then (looked-up e) n = absurd (omega arith)
   no-bag-then (refused-there e) n = e
 
-  pub lookup-exactly : (lookupSays bag root path .refusal ≡ 24) ↔ (isBag bag ≡ false)
+  pub lookup-exactly : (lookupSays bag root path .refusal ≡ 24) ↔ NoBag bag
   unfolding lookupSays
-  lookup-exactly = (no-bag-then looked, λ e. rw (← refused bag root path e))
+  lookup-exactly = ((λ n. not-a-bag bag .0 (no-bag-then looked n)), λ e. rw (← refused bag root path (not-a-bag bag .1 e)))
 
   zeros : {r : DeskValue} → Looked r → (r .refusal ≡ 0 → ⊥) → r ≡ record { refusal = 24; kind = 0; number = nought; place = 0 }
   zeros (looked-up e) n = absurd (n refl)

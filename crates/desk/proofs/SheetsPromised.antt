@@ -1,275 +1,325 @@
--- What the desk promises of sheets: the list, its pages, the refusals. Assumes nothing.
-use mathlib.Core.Path.{_≡_, refl, sym, ap, _∙_, subst}
-use mathlib.Core.Logic.{_⊎_, inl, _↔_}
+-- What the desk promises of sheets: the one list of lines, its pages, the refusals. Assumes nothing.
+use mathlib.Core.Path.{_≡_, refl, sym, ap, _∙_, subst, fun-ext}
+use mathlib.Core.Logic.{_↔_, Iff·trans}
 use mathlib.Core.Bool.{Bool, true, false, cond}
 use mathlib.Core.List.{List, [], _∷_, _++_, List·Memᴰ}
-use Prim.Native.Nat.{ℕ, zero, suc, _+_, _-_, _*_, _≤_, _<_, zero-le}
-use native.Mathlib.Nat.{mul-pos}
+use Prim.Native.Nat.{ℕ, zero, suc, _+_, _*_, _≤_, _<_, zero-le}
+use native.Mathlib.Nat.{le-refl}
 use native.Mathlib.Decide.{decLe}
 use native.Mathlib.Omega.{arith}
-use lib.ListN.{length, getD, take, drop}
+use lib.ListN.{length, take, drop}
 use lib.Seq.{take-at}
 use Rattle.tokens.proofs.TokenLaws.{never}
-use Rattle.grammar.specs.Policies.{Policy}
 use Rattle.compiling.specs.Promise.{Begun}
-use Rattle.bags.specs.Reading.{many}
-use Rattle.bags.specs.Sections.{sectionsOf}
-use Rattle.bags.specs.declared.After.the-variants.{At}
-use Rattle.bags.specs.declared.sections.Divided.{Divided}
-use Rattle.bags.specs.declared.sections.Divided.the-variants.{In, Broken}
-use Rattle.bags.proofs.ReadLaws.{first}
-use Rattle.questions.specs.Columns.{columnEnd}
-use Rattle.questions.specs.Questions.{isQuestion, product, rowsOf}
-use Rattle.questions.proofs.ColumnLaws as questions
-use Rattle.questions.proofs.ColumnLaws.{column-at, question-is}
-use Rattle.questions.proofs.PlaceLaws.{rows-done, rows-more}
+use Rattle.bags.specs.Forms.{Contents, BagBytes}
+use Rattle.questions.specs.Forms.{Column, QuestionBytes, NoQuestion}
+use Rattle.questions.specs.Questions.{isQuestion, product}
+use Rattle.questions.proofs.Exactly.{question-exactly, not-a-question}
+use Rattle.views.specs.Meaning.{View, asBag, look}
 use Rattle.meaning.specs.Targets.{Request, isSystem}
-use Rattle.meaning.specs.Decisions.{decisionOf, outcomeOf, policyOf, isAllowed}
+use Rattle.meaning.specs.Decisions.{outcomeOf, policyOf, isAllowed}
 use Rattle.meaning.specs.declared.Decision.{Decision}
-use Rattle.meaning.specs.declared.Decision.the-variants.{Allowed, Forbidden, Nothing, System}
-use Rattle.pages.specs.Rows.{Combination, rowOf, choicesAt, countsOf}
-use Rattle.pages.specs.Listing.{pageRows, nextRow, rowSize, roomIn, bytesOf}
-use Rattle.pages.proofs.Listed.{lists-yes}
+use Rattle.deciding.specs.Answers.{wordsIn}
+use Rattle.deciding.specs.Promise.{DecideCall, Wellformed, RequestRefused, bad-subject, bad-action, bad-resource}
+use Rattle.pages.specs.declared.Page.{Page}
+use Rattle.pages.specs.Rows.{Combination, choicesAt}
+use Rattle.pages.specs.Listing.{pageRows, rowSize, roomIn, bytesOf, PageWritten}
+use Rattle.pages.specs.Pages as pages
+use Rattle.pages.specs.Pages.{Written}
+use Rattle.pages.specs.Lines.{Line, counts, linesBytes, linesFrom}
+use Rattle.pages.proofs.Listed.{all-written}
+use Rattle.pages.proofs.LineLaws.{one-list, lineOf, decidedAt, linesOf, lines-yes, lines-ordered, lines-from, lines-bytes, page-lines}
+use Rattle.pages.proofs.AskedForms as asked-forms
 use Rattle.pages.proofs.Progress.{bytes-length}
-use Rattle.sheets.specs.Sheets.{decisionBy, decisions, dividedAs, rowsIn, rowsAsked, saidTo}
-use Rattle.sheets.specs.Promise as sheets
-use Rattle.sheets.specs.Promise.{countsAsked, listedFrom, ListsExactly, ListedRightly, Called, no-call, call, PagesJoined, GoesOn, OthersStay, NothingChanged, Wellasked, Wellformed, no-room, no-question, above, never-the-system, bad-subject, bad-action, bad-resource, not-compiled, none-wrong}
+use Rattle.sheets.specs.Sheets.{sectionsIn, decisionBy, decisions, rowsAsked}
+use Rattle.sheets.specs.Promise.{SheetCall, Wellasked, SheetRefused, no-room, no-question, above, never-the-system, bad-request, not-compiled, none-wrong, SheetRefusedExactly, ListedAlike}
 use Rattle.sheets.proofs.Promised as sheets-proofs
-use Rattle.desk.specs.Answers.{sheetSays, sheetLeaves, decideSays, viewOfChoices, viewOfRow, rowsSay}
-use Rattle.desk.specs.Promises.{Says, Granted, OutcomeIs, Yes, allowed, system, writtenBy, pageOf, Pages, no-page, page, Shows}
-use Rattle.desk.specs.declared.DeskDecision.{DeskDecision}
-use Rattle.desk.proofs.RequestsPromised.{among, decided-over, outcome-over, yes-over}
-
--- ---- the list
-
-pub row-decided : (text question : List ℕ) (q : Request) (ps : List Policy) (row : ℕ) → Says text ps
-    → OutcomeIs text (viewOfRow question row) q ps (outcomeOf (decisions text question q row)) (policyOf (decisions text question q row))
-unfolding decisionBy
-row-decided text question q ps row says = outcome-over text (viewOfRow question row) q ps says
-
-pub row-listed : (text question : List ℕ) (q : Request) (ps : List Policy) (row : ℕ) → Says text ps
-    → List·Memᴰ row (listedFrom text question q 0) ↔ ((row < rowsAsked question) × ((isSystem (q .subject) ≡ true) ⊎ Granted text (viewOfRow question row) q))
-unfolding decisionBy
-row-listed text question q ps row says =
-    let both = lists-yes (decisions text question q) (rowsAsked question) 0 row in
-    let yes = yes-over text (viewOfRow question row) q ps says in
-    (λ m. let h = both .0 m in (h .1, yes .0 (h .2)), λ h. both .1 (zero-le, h .0, yes .1 (h .1)))
-
-pub decided-alike : (text table question : List ℕ) (q : Request) (row : ℕ) (bag : List ℕ) → decideSays text table bag q .refusal ≡ 0
-    → Shows bag question row → (decideSays text table bag q .outcome ≡ outcomeOf (decisions text question q row)) × (decideSays text table bag q .policy ≡ policyOf (decisions text question q row))
-unfolding decisionBy
-decided-alike text table question q row bag e shows = decided-over text table bag q e (viewOfRow question row) shows
-
--- a decision is yes by its outcome
-no-yes : {r : DeskDecision} → (r .outcome ≡ 1 → ⊥) → (r .outcome ≡ 4 → ⊥) → Yes r → ⊥
-no-yes f g (allowed e) = f e
-no-yes f g (system e) = g e
-
-yes-by-outcome : (d : Decision) {r : DeskDecision} → r .outcome ≡ outcomeOf d → (isAllowed d ≡ true) ↔ Yes r
-unfolding isAllowed outcomeOf
-yes-by-outcome (Allowed n) e = (λ y. allowed e, λ y. refl)
-yes-by-outcome (Forbidden n) e = (λ y. absurd (never y), λ y. absurd (no-yes (λ z. omega arith) (λ z. omega arith) y))
-yes-by-outcome Nothing e = (λ y. absurd (never y), λ y. absurd (no-yes (λ z. omega arith) (λ z. omega arith) y))
-yes-by-outcome System e = (λ y. system e, λ y. refl)
-
-pub listed-alike : (text table question : List ℕ) (q : Request) (row : ℕ) (bag : List ℕ) → decideSays text table bag q .refusal ≡ 0
-    → Shows bag question row → row < rowsAsked question → List·Memᴰ row (listedFrom text question q 0) ↔ Yes (decideSays text table bag q)
-listed-alike text table question q row bag e shows below =
-    let both = lists-yes (decisions text question q) (rowsAsked question) 0 row in
-    let yes = yes-by-outcome (decisions text question q row) (decided-alike text table question q row bag e shows .0) in
-    (λ m. yes .0 (both .0 m .2), λ y. both .1 (zero-le, below, yes .1 y))
-
-pub system-rows : (text question : List ℕ) (q : Request) (row : ℕ) → isSystem (q .subject) ≡ true
-    → (outcomeOf (decisions text question q row) ≡ 4) × (policyOf (decisions text question q row) ≡ 0)
-unfolding decisionBy decisionOf outcomeOf policyOf
-system-rows text question q row s = rw s (refl, refl)
-
-pub only-combinations : (text question : List ℕ) (q : Request) (row : ℕ) → isQuestion question ≡ true → List·Memᴰ row (listedFrom text question q 0)
-    → Combination (countsAsked question) (choicesAt (countsAsked question) row) × (rowOf (countsAsked question) (choicesAt (countsAsked question) row) ≡ row)
-unfolding ListedRightly
-only-combinations text question q row form m = let l = sheets-proofs.listed-rightly text question q 0 row form .0 m in (l .combination, l .its-row)
-
-pub from-start : (text question : List ℕ) (q : Request) (start row : ℕ) → List·Memᴰ row (listedFrom text question q start) ↔ ((start ≤ row) × List·Memᴰ row (listedFrom text question q 0))
-from-start text question q start row =
-    let here = lists-yes (decisions text question q) (rowsAsked question) start row in
-    let all = lists-yes (decisions text question q) (rowsAsked question) 0 row in
-    (λ m. let h = here .0 m in (h .0, all .1 (zero-le, h .1, h .2)), λ h. let k = all .0 (h .1) in here .1 (h .0, k .1, k .2))
-
-pub then-the-others : (n c : ℕ) (ns cs cs′ : List ℕ) → rowOf ns cs < rowOf ns cs′ → rowOf (n ∷ ns) (c ∷ cs) < rowOf (n ∷ ns) (c ∷ cs′)
-unfolding rowOf
-then-the-others n c ns cs cs′ h = omega arith
+use Rattle.sheets.proofs.Promised.{counts-asked, rows-asked, decision-asked}
+use Rattle.desk.specs.Answers.{decisionFor, sheetSays, sheetLeaves, pageFor, sheetFor, rowsSay}
+use Rattle.desk.specs.Promises.{SayAlike, OutcomeIs, attributes, LineOf, Sheet, writtenBy, PageOf, again, Pages, no-page, page, TheSheet, Shows}
+use Rattle.desk.proofs.RequestsPromised.{among, decidedOver, outcome-over, system-over, decided-as, yes-by-outcome, begun-says, alike-words, request-some, outcome-rightly}
 
 -- ---- the number of rows
 
-rows-some : (s : List ℕ) (n at e : ℕ) → many n (columnEnd s) at ≡ At e → 0 < rowsOf n s at
-rows-some s zero at e h = rw (rows-done s 0 at (omega arith)) (omega arith)
-rows-some s (suc n) at e h =
-    let f = first (columnEnd s) (suc n) at e (omega arith) h in
-    let m : suc n - 1 ≡ n = omega arith in
-    rw (rows-more s (suc n) at (f .stop) (omega arith) (f .ends), m)
-    (mul-pos (column-at s at (f .stop) (f .ends) .some) (rows-some s n (f .stop) e (rw m at (f .later))))
-
--- a question has a row
-asked-some : (question : List ℕ) → isQuestion question ≡ true → 0 < rowsAsked question
-unfolding dividedAs
-asked-some question form = go (sectionsOf question) refl
-  where
-    go : (d : Divided) → sectionsOf question ≡ d → 0 < rowsIn question (dividedAs d)
-    go (In p) q = let k = question-is question p (rw (form, q)) in rows-some question _ _ (k .last) (k .columns)
-    go Broken q = absurd (never (questions.no-question question (rw (form, q)) ∙ form))
-
-pub rows-counted : (question : List ℕ) → isQuestion question ≡ true → (rowsSay question ≡ rowsAsked question) × (rowsAsked question ≡ product (countsAsked question))
-unfolding rowsSay rowsOf countsOf
-rows-counted question form = (rw form, refl)
-
-pub rows-exactly : (question : List ℕ) → (rowsSay question ≡ 0) ↔ (isQuestion question ≡ false)
+pub rows-counted : (question : List ℕ) (base : Contents) (columns : List Column) → QuestionBytes question base columns → rowsSay question ≡ product (counts columns)
 unfolding rowsSay
-rows-exactly question = go (isQuestion question) refl
+rows-counted question base columns w = rw (question-exactly question .1 (base, (columns, w))) (rows-asked w)
+
+pub rows-few : (question : List ℕ) → rowsSay question ≤ 262144
+unfolding rowsSay
+rows-few question = go (isQuestion question) refl
+  where
+    go : (b : Bool) → isQuestion question ≡ b → cond b (rowsAsked question) 0 ≤ 262144
+    go true e = let w = question-exactly question .0 e in rw (rows-asked (w .1 .1)) (asked-forms.rows-few (w .1 .1) .1)
+    go false e = zero-le
+
+pub rows-exactly : (question : List ℕ) → (rowsSay question ≡ 0) ↔ NoQuestion question
+unfolding rowsSay
+rows-exactly question = Iff·trans (go (isQuestion question) refl) (not-a-question question)
   where
     go : (b : Bool) → isQuestion question ≡ b → (cond b (rowsAsked question) 0 ≡ 0) ↔ (b ≡ false)
-    go true e = (λ z. absurd (let h = asked-some question e in omega arith), λ f. absurd (never (sym f)))
+    go true e =
+        let w = question-exactly question .0 e in
+        (λ z. absurd (let h = asked-forms.rows-few (w .1 .1) .0 in let k = rows-asked (w .1 .1) in omega arith), λ f. absurd (never (sym f)))
     go false e = (λ z. refl, λ f. refl)
 
--- ---- the pages
+-- ---- a line
 
-called : {text table question : List ℕ} {q : Request} {start last : ℕ} {bytes : List ℕ} → Pages text table question q start bytes last → Called text table question q start bytes last
-unfolding sheetSays
-called no-page = no-call
-called (page sheet at e more) = call (record { answered = refl; sheet = refl }) e (called more)
+-- a line is what it has
+line-is : (choices : List ℕ) {o o′ n n′ : ℕ} → o ≡ o′ → n ≡ n′
+    → _≡_ {A = Line} (record { choices = choices; outcome = o; policy = n }) (record { choices = choices; outcome = o′; policy = n′ })
+line-is choices p q = λ i. record { choices = choices; outcome = p i; policy = q i }
 
-pub pages-joined : (text table question : List ℕ) (q : Request) (start : ℕ) (bytes : List ℕ) → Pages text table question q start bytes (rowsAsked question)
-    → bytes ≡ bytesOf (decisions text question q) (listedFrom text question q start)
-unfolding PagesJoined
-pages-joined text table question q start bytes p = sheets-proofs.pages-joined text table question q start bytes (called p)
+-- ---- the refusals
 
-module _ (text table question : List ℕ) (q : Request) (start : ℕ) (sheet : List ℕ) (at : ℕ) where
-  pub goes-on : sheetSays text table question q start sheet at .refusal ≡ 0
-      → (start < rowsAsked question → start < sheetSays text table question q start sheet at .next) × (sheetSays text table question q start sheet at .next ≤ rowsAsked question)
-  unfolding sheetSays GoesOn
-  goes-on = sheets-proofs.goes-on text table question q start at sheet
+module _ (c : SheetCall) where
+  pub sheet-exactly : (number : ℕ) → (pageFor c .refusal ≡ number) ↔ SheetRefused c number
+  unfolding sheetSays SheetRefusedExactly
+  sheet-exactly number = sheets-proofs.sheet-refused-exactly c number
 
-  pub others-stay : sheetSays text table question q start sheet at .refusal ≡ 0
-      → (take at (sheetLeaves text table question q start sheet at) ≡ take at sheet)
-      × (drop (at + rowSize * sheetSays text table question q start sheet at .written) (sheetLeaves text table question q start sheet at)
-      ≡ drop (at + rowSize * sheetSays text table question q start sheet at .written) sheet)
-  unfolding sheetSays OthersStay
-  others-stay = sheets-proofs.others-stay text table question q start at sheet
+  request-is : {n : ℕ} → RequestRefused (c .request) n → List·Memᴰ n (0 ∷ 20 ∷ 21 ∷ 22 ∷ 23 ∷ 24 ∷ 25 ∷ 26 ∷ [])
+  request-is (bad-subject s t) = among 21 _ refl
+  request-is (bad-action s t u) = among 22 _ refl
+  request-is (bad-resource s t u v) = among 23 _ refl
 
-  -- ---- the refusals
-
-  pub sheet-exactly : (number : ℕ) → (sheetSays text table question q start sheet at .refusal ≡ number) ↔ sheets.Refusal text table question q start sheet at number
-  unfolding sheetSays sheets.RefusedRightly sheets.OneRefusal
-  sheet-exactly number =
-      let rightly = sheets-proofs.refused-rightly text table question q start sheet at in
-      (λ e. subst (sheets.Refusal text table question q start sheet at) e rightly, sheets-proofs.one-refusal text table question q start sheet at (saidTo text table question q start sheet at .refusal) number rightly)
-
-  number-is : {n : ℕ} → sheets.Refusal text table question q start sheet at n → List·Memᴰ n (0 ∷ 20 ∷ 21 ∷ 22 ∷ 23 ∷ 24 ∷ 25 ∷ 26 ∷ [])
+  number-is : {n : ℕ} → SheetRefused c n → List·Memᴰ n (0 ∷ 20 ∷ 21 ∷ 22 ∷ 23 ∷ 24 ∷ 25 ∷ 26 ∷ [])
   number-is (no-room h) = among 25 _ refl
   number-is (no-question h e) = among 24 _ refl
-  number-is (above h e l) = among 26 _ refl
+  number-is (above h w l) = among 26 _ refl
   number-is (never-the-system w e) = among 0 _ refl
-  number-is (bad-subject w e f) = among 21 _ refl
-  number-is (bad-action w e f g) = among 22 _ refl
-  number-is (bad-resource w e f g h) = among 23 _ refl
+  number-is (bad-request w r) = request-is r
   number-is (not-compiled w f n) = among 20 _ refl
   number-is (none-wrong w f b) = among 0 _ refl
 
-  pub sheet-refusals : List·Memᴰ (sheetSays text table question q start sheet at .refusal) (0 ∷ 20 ∷ 21 ∷ 22 ∷ 23 ∷ 24 ∷ 25 ∷ 26 ∷ [])
-  sheet-refusals = number-is (sheet-exactly (sheetSays text table question q start sheet at .refusal) .0 refl)
+  pub sheet-refusals : List·Memᴰ (pageFor c .refusal) (0 ∷ 20 ∷ 21 ∷ 22 ∷ 23 ∷ 24 ∷ 25 ∷ 26 ∷ [])
+  sheet-refusals = number-is (sheet-exactly (pageFor c .refusal) .0 refl)
 
-  pub sheet-stays : (sheetSays text table question q start sheet at .refusal ≡ 0 → ⊥) → sheetLeaves text table question q start sheet at ≡ sheet
-  unfolding sheetSays NothingChanged
-  sheet-stays n = sheets-proofs.nothing-changed text table question q start sheet at n .0
+  pub sheet-stays : (pageFor c .refusal ≡ 0 → ⊥) → sheetFor c ≡ c .sheet
+  unfolding sheetSays
+  sheet-stays n = sheets-proofs.nothing-changed (c .text) (c .table) (c .question) (c .request) (c .start) (c .sheet) (c .at) n .0
 
-  pub sheet-zeros : (sheetSays text table question q start sheet at .refusal ≡ 0 → ⊥)
-      → (sheetSays text table question q start sheet at .written ≡ 0) × (sheetSays text table question q start sheet at .next ≡ 0)
-  unfolding sheetSays NothingChanged
-  sheet-zeros n = let z = sheets-proofs.nothing-changed text table question q start sheet at n in (z .1, z .2)
+  pub sheet-zeros : (pageFor c .refusal ≡ 0 → ⊥) → (pageFor c .written ≡ 0) × (pageFor c .next ≡ 0)
+  unfolding sheetSays
+  sheet-zeros n = let z = sheets-proofs.nothing-changed (c .text) (c .table) (c .question) (c .request) (c .start) (c .sheet) (c .at) n in (z .1, z .2)
 
   -- ---- a call that is not refused
 
   -- whose it is: the system's, or one for which the text says its policies
   data Heard : Type 0 where
-    of-the-system : Wellasked question start sheet at → isSystem (q .subject) ≡ true → Heard
-    of-another : Wellasked question start sheet at → Wellformed q → Begun text table → Heard
+    of-the-system : Wellasked c → isSystem (c .request .subject) ≡ true → Heard
+    of-another : Wellasked c → Wellformed (c .request) → Begun (c .text) (c .table) → Heard
 
-  heard-by : {n : ℕ} → n ≡ 0 → sheets.Refusal text table question q start sheet at n → Heard
+  heard-by : {n : ℕ} → n ≡ 0 → SheetRefused c n → Heard
   heard-by z (no-room h) = absurd (omega arith)
   heard-by z (no-question h e) = absurd (omega arith)
-  heard-by z (above h e l) = absurd (omega arith)
+  heard-by z (above h w l) = absurd (omega arith)
   heard-by z (never-the-system w e) = of-the-system w e
-  heard-by z (bad-subject w e f) = absurd (omega arith)
-  heard-by z (bad-action w e f g) = absurd (omega arith)
-  heard-by z (bad-resource w e f g h) = absurd (omega arith)
+  heard-by z (bad-request w r) = absurd (request-some r z)
   heard-by z (not-compiled w f n) = absurd (omega arith)
   heard-by z (none-wrong w f b) = of-another w f b
 
-  heard : sheetSays text table question q start sheet at .refusal ≡ 0 → Heard
-  heard e = heard-by e (sheet-exactly (sheetSays text table question q start sheet at .refusal) .0 refl)
+  heard : pageFor c .refusal ≡ 0 → Heard
+  heard e = heard-by e (sheet-exactly (pageFor c .refusal) .0 refl)
 
-  well-asked : Heard → Wellasked question start sheet at
+  well-asked : Heard → Wellasked c
   well-asked (of-the-system w s) = w
   well-asked (of-another w f b) = w
 
+  -- what is decided over any attributes
+  outcome-there : Heard → (view : View) → OutcomeIs (c .text) view (c .request) (outcomeOf (decidedOver (c .text) view (c .request))) (policyOf (decidedOver (c .text) view (c .request)))
+  outcome-there (of-the-system w s) view = system-over (c .text) view (c .request) s
+  outcome-there (of-another w f b) view = outcome-over (c .text) view (c .request) (b .value) (begun-says b)
+
   -- a call with another start row is not refused either
-  starts-at : (row : ℕ) → Wellasked question row sheet at → Heard → sheets.Refusal text table question q row sheet at 0
+  starts-at : (row : ℕ) → Wellasked (again c row (c .sheet) (c .at)) → Heard → SheetRefused (again c row (c .sheet) (c .at)) 0
   starts-at row w (of-the-system v s) = never-the-system w s
   starts-at row w (of-another v f b) = none-wrong w f b
 
-  -- who gets yes over the attributes of a combination
-  yes-there : (choices : List ℕ) → Heard → sheets.yesTo text question q choices ↔ ((isSystem (q .subject) ≡ true) ⊎ Granted text (viewOfChoices question choices) q)
-  unfolding decisionBy decisionOf isAllowed
-  yes-there choices (of-the-system w s) = (λ y. inl s, λ y. rw s)
-  yes-there choices (of-another w f b) = yes-over text (viewOfChoices question choices) q (b .value) (record { short = b .short; belongs = b .belongs })
+-- ---- the one list
 
-  pub combination-listed : (choices : List ℕ) → sheetSays text table question q start sheet at .refusal ≡ 0 → Combination (countsAsked question) choices
-      → List·Memᴰ (rowOf (countsAsked question) choices) (listedFrom text question q 0) ↔ ((isSystem (q .subject) ≡ true) ⊎ Granted text (viewOfChoices question choices) q)
-  unfolding ListsExactly
-  combination-listed choices e ok =
-      let h = heard e in
-      let there = sheets-proofs.lists-exactly text question q choices (well-asked h .question) ok in
-      let yes = yes-there choices h in
-      (λ m. yes .0 (there .0 m), λ y. there .1 (yes .1 y))
+module _ (c : SheetCall) (h : Heard c) {base : Contents} {columns : List Column} (w : QuestionBytes (c .question) base columns) where
+  -- what is decided of a combination
+  abbrev of-choices : List ℕ → Decision
+  of-choices choices = decisionBy (c .question) (sectionsIn (c .question)) (c .request) (wordsIn (c .text)) choices
 
-  -- ---- a page
+  abbrev ns : List ℕ
+  ns = counts columns
 
-  pub page-rightly : sheetSays text table question q start sheet at .refusal ≡ 0
-      → (sheetSays text table question q start sheet at .written ≡ length (pageOf text question q start sheet at))
-      × (writtenBy text table question q start sheet at ≡ bytesOf (decisions text question q) (pageOf text question q start sheet at))
-      × (sheetSays text table question q start sheet at .next ≡ getD (listedFrom text question q start) (roomIn (drop at sheet)) (rowsAsked question))
-  unfolding sheetSays pageRows nextRow
-  page-rightly e =
-      let w = sheets-proofs.page-written text table question q start sheet at e in
-      let bytes = bytesOf (decisions text question q) (pageOf text question q start sheet at) in
-      let long : length bytes ≡ rowSize * saidTo text table question q start sheet at .written = bytes-length (decisions text question q) _ ∙ ap (λ (n : ℕ). rowSize * n) (sym (w .written)) in
-      (w .written, rw (w .bytes) (take-at bytes (drop (length bytes) (drop at sheet)) (rowSize * saidTo text table question q start sheet at .written) long), w .next)
+  abbrev lines : List Line
+  lines = linesOf of-choices ns
+
+  -- over its attributes
+  over-attributes : {choices : List ℕ} → Combination ns choices → of-choices choices ≡ decidedOver (c .text) (attributes base columns choices) (c .request)
+  over-attributes ok = decision-asked w ok (c .request) (wordsIn (c .text))
+
+  listed-line : (l : Line) → Combination ns (l .choices) → l ≡ lineOf of-choices ns (l .choices) → isAllowed (of-choices (l .choices)) ≡ true
+      → LineOf (c .text) base columns (c .request) l
+  listed-line l ok e y =
+      let d = over-attributes ok in
+      let o : l .outcome ≡ outcomeOf (of-choices (l .choices)) = ap (λ (x : Line). x .outcome) e in
+      let n : l .policy ≡ policyOf (of-choices (l .choices)) = ap (λ (x : Line). x .policy) e in
+      record {
+        combination = ok;
+        decided = rw (o, n, d) (outcome-there c h (attributes base columns (l .choices)));
+        yes = yes-by-outcome (of-choices (l .choices)) o .0 y;
+      }
+
+  line-listed : (l : Line) → LineOf (c .text) base columns (c .request) l → List·Memᴰ l lines
+  line-listed l r =
+      let d = over-attributes (r .combination) in
+      let k = decided-as (c .text) (attributes base columns (l .choices)) (c .request) (r .decided) in
+      let o : l .outcome ≡ outcomeOf (of-choices (l .choices)) = k .0 ∙ ap outcomeOf (sym d) in
+      let n : l .policy ≡ policyOf (of-choices (l .choices)) = k .1 ∙ ap policyOf (sym d) in
+      lines-yes of-choices ns l .1 (r .combination, line-is (l .choices) o n, yes-by-outcome (of-choices (l .choices)) o .1 (r .yes))
+
+  is-sheet : Sheet (c .text) base columns (c .request) lines
+  is-sheet = record {
+    lists = λ l. ((λ i. let y = lines-yes of-choices ns l .0 i in listed-line l (y .0) (y .1) (y .2)), line-listed l);
+    in-order = lines-ordered of-choices ns;
+  }
+
+  no-other : (others : List Line) → Sheet (c .text) base columns (c .request) others → others ≡ lines
+  no-other others s =
+      one-list others lines (s .in-order) (is-sheet .in-order) (λ l i. is-sheet .lists l .1 (s .lists l .0 i)) (λ l i. s .lists l .1 (is-sheet .lists l .0 i))
+
+  -- ---- its pages
+
+  decisions-are : decisions (c .text) (c .question) (c .request) ≡ decidedAt of-choices ns
+  decisions-are = ap {B = ℕ → Decision} (λ ks row. of-choices (choicesAt ks row)) (counts-asked w)
+
+  -- what a call for a page of it writes
+  page-there : (start : ℕ) (sheet : List ℕ) (at : ℕ) → pageFor (again c start sheet at) .refusal ≡ 0
+      → PageWritten (decidedAt of-choices ns) (product ns) start (drop at sheet)
+      (record { written = pageFor (again c start sheet at) .written; next = pageFor (again c start sheet at) .next }) (drop at (sheetFor (again c start sheet at)))
+  unfolding sheetSays
+  page-there start sheet at e =
+      let p : Page = record { written = pageFor (again c start sheet at) .written; next = pageFor (again c start sheet at) .next } in
+      let after = drop at (sheetFor (again c start sheet at)) in
+      subst (λ (rows : ℕ). PageWritten (decidedAt of-choices ns) rows start (drop at sheet) p after) (rows-asked w)
+      (subst (λ (d : ℕ → Decision). PageWritten d (rowsAsked (c .question)) start (drop at sheet) p after) decisions-are
+      (sheets-proofs.page-written (c .text) (c .table) (c .question) (c .request) start sheet at e))
+
+  within : (start : ℕ) (sheet : List ℕ) (at : ℕ) → pageFor (again c start sheet at) .refusal ≡ 0 → start ≤ product ns
+  unfolding sheetSays
+  within start sheet at e = rw (rows-asked w) at (sheets-proofs.passed (c .text) (c .table) (c .question) (c .request) start sheet at e .1)
+
+  as-written : {start last : ℕ} {bytes : List ℕ} → Pages c start bytes last → Written (decidedAt of-choices ns) (product ns) start bytes last
+  as-written no-page = pages.nothing
+  as-written (page {start = start} sheet at e more) = pages.page (within start sheet at e) (page-there start sheet at e) (as-written more)
+
+  -- pages to a row that is there start at one
+  starts-within : {start last : ℕ} {bytes : List ℕ} → last ≤ product ns → Pages c start bytes last → start ≤ product ns
+  starts-within l no-page = l
+  starts-within l (page {start = start} sheet at e more) = within start sheet at e
+
+  joined-from : (start : ℕ) (bytes : List ℕ) → Pages c start bytes (product ns) → bytes ≡ linesBytes ns (linesFrom ns start lines)
+  joined-from start bytes p =
+      all-written (decidedAt of-choices ns) (product ns) (as-written p) ∙ lines-bytes of-choices ns start (starts-within (le-refl (product ns)) p)
+
+  joined : (bytes : List ℕ) → Pages c 0 bytes (product ns) → bytes ≡ linesBytes ns lines
+  joined bytes p = joined-from 0 bytes p ∙ ap (linesBytes ns) (lines-from of-choices ns 0 zero-le)
+
+  this-page : pageFor c .refusal ≡ 0 → PageOf c ns lines
+  unfolding sheetSays
+  this-page e =
+      let room = roomIn (drop (c .at) (c .sheet)) in
+      let p = page-there (c .start) (c .sheet) (c .at) e in
+      let k = page-lines of-choices ns (c .start) room (within (c .start) (c .sheet) (c .at) e) in
+      let rows = pageRows (decidedAt of-choices ns) (product ns) (c .start) room in
+      let bytes = bytesOf (decidedAt of-choices ns) rows in
+      let long : length bytes ≡ rowSize * pageFor c .written = bytes-length (decidedAt of-choices ns) rows ∙ ap (λ (n : ℕ). rowSize * n) (sym (p .written)) in
+      let others = sheets-proofs.others-there (c .text) (c .table) (c .question) (c .request) (c .start) (c .sheet) (c .at) e in
+      record {
+        written = p .written ∙ k .0;
+        bytes = ap (take (rowSize * pageFor c .written)) (p .bytes) ∙ take-at bytes (drop (length bytes) (drop (c .at) (c .sheet))) (rowSize * pageFor c .written) long ∙ k .1;
+        next = p .next ∙ k .2;
+        inside = sheets-proofs.fits-there (c .text) (c .table) (c .question) (c .request) (c .start) (c .sheet) (c .at) e;
+        before-stays = others .0;
+        behind-stays = others .1;
+      }
+
+pub the-sheet : (c : SheetCall) → pageFor c .refusal ≡ 0 → TheSheet c
+the-sheet c e =
+    let h = heard c e in
+    let a = well-asked c h in
+    let rows = rows-counted (c .question) (a .base) (a .columns) (a .question-says) in
+    record {
+      base = a .base;
+      columns = a .columns;
+      question-says = a .question-says;
+      lines = lines c h (a .question-says);
+      is-sheet = is-sheet c h (a .question-says);
+      no-other = no-other c h (a .question-says);
+      joined = λ bytes p. joined c h (a .question-says) bytes (subst (λ (n : ℕ). Pages c 0 bytes n) rows p);
+      joined-from = λ start bytes p. joined-from c h (a .question-says) start bytes (subst (λ (n : ℕ). Pages c start bytes n) rows p);
+      this-page = this-page c h (a .question-says) e;
+    }
+
+pub decided-alike : (c : DecideCall) (contents base : Contents) (columns : List Column) (choices : List ℕ) → decisionFor c .refusal ≡ 0 → BagBytes (c .bag) contents
+    → Shows contents base columns choices
+    → OutcomeIs (c .text) (attributes base columns choices) (c .request) (decisionFor c .outcome) (decisionFor c .policy)
+decided-alike c contents base columns choices e w shows =
+    let same : look (asBag contents) ≡ attributes base columns choices = fun-ext (λ root. fun-ext (shows root)) in
+    subst (λ (view : View). OutcomeIs (c .text) view (c .request) (decisionFor c .outcome) (decisionFor c .policy)) same (outcome-rightly c contents e w)
 
 -- ---- to the last page
 
-pub none-refused : (text table question : List ℕ) (q : Request) (start : ℕ) (sheet : List ℕ) (at row : ℕ) → sheetSays text table question q start sheet at .refusal ≡ 0
-    → row ≤ rowsAsked question → sheetSays text table question q row sheet at .refusal ≡ 0
-none-refused text table question q start sheet at row e l =
-    let h = heard text table question q start sheet at e in
-    let w = well-asked text table question q start sheet at h in
-    sheet-exactly text table question q row sheet at 0 .1 (starts-at text table question q start sheet at row (record { room = w .room; question = w .question; within = l }) h)
+-- the rows that are told are those that are asked for
+rows-told : (c : SheetCall) → Wellasked c → rowsSay (c .question) ≡ rowsAsked (c .question)
+rows-told c a = rows-counted (c .question) (a .base) (a .columns) (a .question-says) ∙ sym (rows-asked (a .question-says))
+
+pub goes-on : (c : SheetCall) → pageFor c .refusal ≡ 0
+    → (c .start < rowsSay (c .question) → c .start < pageFor c .next) × (pageFor c .next ≤ rowsSay (c .question))
+unfolding sheetSays
+goes-on c e =
+    let g = sheets-proofs.gets-on (c .text) (c .table) (c .question) (c .request) (c .start) (c .sheet) (c .at) e in
+    rw (rows-told c (well-asked c (heard c e))) g
+
+pub none-refused : (c : SheetCall) (row : ℕ) → pageFor c .refusal ≡ 0 → row ≤ rowsSay (c .question) → pageFor (again c row (c .sheet) (c .at)) .refusal ≡ 0
+none-refused c row e l =
+    let h = heard c e in
+    let a = well-asked c h in
+    sheet-exactly (again c row (c .sheet) (c .at)) 0 .1
+    (starts-at c row
+    (record {
+      room = a .room;
+      base = a .base;
+      columns = a .columns;
+      question-says = a .question-says;
+      within = rw (rows-counted (c .question) (a .base) (a .columns) (a .question-says)) at l;
+    })
+    h)
 
 -- so many rows are left at most
-pages-left : (text table question : List ℕ) (q : Request) (sheet : List ℕ) (at left start : ℕ) → rowsAsked question ≤ start + left → start ≤ rowsAsked question
-    → sheetSays text table question q start sheet at .refusal ≡ 0 → (bytes : List ℕ) × Pages text table question q start bytes (rowsAsked question)
-pages-left text table question q sheet at zero start enough within e =
-    let last : start ≡ rowsAsked question = omega arith in
+pages-left : (c : SheetCall) (left start : ℕ) → rowsSay (c .question) ≤ start + left → start ≤ rowsSay (c .question)
+    → pageFor (again c start (c .sheet) (c .at)) .refusal ≡ 0 → (bytes : List ℕ) × Pages c start bytes (rowsSay (c .question))
+pages-left c zero start enough within e =
+    let last : start ≡ rowsSay (c .question) = omega arith in
     ([], rw (← last) no-page)
-pages-left text table question q sheet at (suc left) start enough within e = elim (decLe (rowsAsked question) start) [
-  | yes l ↦ let last : start ≡ rowsAsked question = omega arith in ([], rw (← last) no-page)
+pages-left c (suc left) start enough within e = elim (decLe (rowsSay (c .question)) start) [
+  | yes l ↦ let last : start ≡ rowsSay (c .question) = omega arith in ([], rw (← last) no-page)
   | no l ↦
-      let next = sheetSays text table question q start sheet at .next in
-      let on = goes-on text table question q start sheet at e in
+      let here = again c start (c .sheet) (c .at) in
+      let next = pageFor here .next in
+      let on = goes-on here e in
       let further : start < next = on .0 (omega arith) in
-      let more = pages-left text table question q sheet at left next (omega arith) (on .1) (none-refused text table question q start sheet at next e (on .1)) in
-      (writtenBy text table question q start sheet at ++ more .0, page sheet at e (more .1))
+      let more = pages-left c left next (omega arith) (on .1) (none-refused here next e (on .1)) in
+      (writtenBy here ++ more .0, page (c .sheet) (c .at) e (more .1))
 ]
 
-pub to-the-last : (text table question : List ℕ) (q : Request) (start : ℕ) (sheet : List ℕ) (at : ℕ) → sheetSays text table question q start sheet at .refusal ≡ 0
-    → (bytes : List ℕ) × Pages text table question q start bytes (rowsAsked question)
-to-the-last text table question q start sheet at e =
-    pages-left text table question q sheet at (rowsAsked question) start (omega arith) (well-asked text table question q start sheet at (heard text table question q start sheet at e) .within) e
+pub to-the-last : (c : SheetCall) → pageFor c .refusal ≡ 0 → (bytes : List ℕ) × Pages c (c .start) bytes (rowsSay (c .question))
+to-the-last c e =
+    let a = well-asked c (heard c e) in
+    let l : c .start ≤ rowsSay (c .question) = rw (rows-counted (c .question) (a .base) (a .columns) (a .question-says)) (a .within) in
+    pages-left c (rowsSay (c .question)) (c .start) (omega arith) l e
+
+-- ---- what a text says
+
+pub words-list : (text text′ table table′ question : List ℕ) (q : Request) (start : ℕ) (sheet : List ℕ) (at : ℕ) → SayAlike text text′ → Begun text table
+    → Begun text′ table′
+    → (sheetSays text table question q start sheet at ≡ sheetSays text′ table′ question q start sheet at)
+    × (sheetLeaves text table question q start sheet at ≡ sheetLeaves text′ table′ question q start sheet at)
+unfolding sheetSays ListedAlike
+words-list text text′ table table′ question q start sheet at a b b′ =
+    let k = sheets-proofs.listed-alike text text′ table table′ question q start sheet at (alike-words a) b b′ in
+    (rw (k .0), k .1)

@@ -13,11 +13,10 @@ use Rattle.reading.specs.Lexemes.{choose, tokensOf}
 use Rattle.reading.specs.Reader.{took}
 use Rattle.grammar.specs.Policies.{Policy}
 use Rattle.grammar.specs.Parser.{read-text}
-use Rattle.grammar.specs.Promise as grammar
-use Rattle.grammar.specs.Promise.{Unambiguous}
-use Rattle.grammar.proofs.Exactly as grammar-proofs
-use Rattle.compiling.specs.Outcome.{mostBytes, roomFor, compiledBytes, said, compiledOf, saidOf, tableBy, tableAfter}
+use Rattle.grammar.proofs.Exactly.{says-exactly, says-once}
+use Rattle.compiling.specs.Outcome.{spot, nowhere, mostBytes, roomFor, compiledBytes, said, compiledOf, saidOf, tableBy, tableAfter}
 use Rattle.compiling.specs.Promise.{AcceptedExactly, UnfitExactly, RefusedThere, RefusedExactly, NothingChanged, ZerosElsewhere, CompiledBegins, BeginsExactly, EnoughRoom, NoPoliciesNoBytes}
+use Rattle.compiling.specs.declared.Spot.{Spot}
 use Rattle.compiling.specs.declared.Compiled.{Compiled}
 use Rattle.compiling.specs.declared.Compiled.the-variants.{Policies, Refused}
 use Rattle.compiling.proofs.Promised as compiling-proofs
@@ -28,34 +27,32 @@ use Rattle.desk.proofs.RefusalNumbers.{token-number}
 
 -- a text says one list of policies
 pub one-reading : (text : List ℕ) (ps qs : List Policy) → Says text ps → Says text qs → ps ≡ qs
-unfolding Unambiguous
-one-reading text ps qs a b = grammar-proofs.one-reading (tokensOf text) ps qs (a .belongs) (b .belongs)
+one-reading text ps qs a b = says-once text ps qs (a .belongs) (b .belongs)
 
 -- it is read as these
 pub read-as : (text : List ℕ) (ps : List Policy) → Says text ps → read-text (tokensOf text) ≡ took ps []
-unfolding grammar.AcceptedExactly
-read-as text ps s = grammar-proofs.accepted-exactly (tokensOf text) ps .1 (s .belongs)
+read-as text ps s = says-exactly text ps .1 (s .belongs)
 
 module _ (text table : List ℕ) where
   -- what compiling answers, and why
   data Told (c : Compiled) : Type 0 where
     told-accepted : (ps : List Policy) → Says text ps → roomFor text ≤ length table → c ≡ Policies (length ps) (length (compiledBytes ps)) → Told c
-    told-long : mostBytes < length text → c ≡ Refused 1 0 0 → Told c
-    told-no-room : length text ≤ mostBytes → length table < roomFor text → c ≡ Refused 2 0 0 → Told c
-    told-broken : (number line column : ℕ) → length text ≤ mostBytes → roomFor text ≤ length table → RefusedThere text number line column → c ≡ Refused number line column → Told c
+    told-long : mostBytes < length text → c ≡ Refused 1 nowhere → Told c
+    told-no-room : length text ≤ mostBytes → length table < roomFor text → c ≡ Refused 2 nowhere → Told c
+    told-broken : (number : ℕ) (at : Spot) → length text ≤ mostBytes → roomFor text ≤ length table → RefusedThere text number at → c ≡ Refused number at → Told c
 
   by-tokens : length text ≤ mostBytes → roomFor text ≤ length table → (c : Compiled) → compiledOf text (length table) ≡ c → Told c
   unfolding AcceptedExactly RefusedExactly
   by-tokens l h (Policies policies bytes) e =
       let b = accepted text (length table) policies bytes l h .0 e in
       told-accepted (b .value) (record { short = l; belongs = b .belongs }) h (ap₂ Policies (b .many) (b .used))
-  by-tokens l h (Refused number line column) e = told-broken number line column l h (refused-there text (length table) number line column l h .0 e) refl
+  by-tokens l h (Refused number at) e = told-broken number at l h (refused-there text (length table) number at l h .0 e) refl
 
-  long-answer : mostBytes < length text → compiledOf text (length table) ≡ Refused 1 0 0
+  long-answer : mostBytes < length text → compiledOf text (length table) ≡ Refused 1 nowhere
   unfolding UnfitExactly
   long-answer h = unfit text (length table) .0 .1 (λ l. omega arith)
 
-  no-room-answer : length text ≤ mostBytes → length table < roomFor text → compiledOf text (length table) ≡ Refused 2 0 0
+  no-room-answer : length text ≤ mostBytes → length table < roomFor text → compiledOf text (length table) ≡ Refused 2 nowhere
   unfolding UnfitExactly
   no-room-answer l h = unfit text (length table) .1 .1 (l, λ m. omega arith)
 
@@ -74,20 +71,20 @@ module _ (text table : List ℕ) where
   number-few (told-accepted ps s h e) = rw e (omega arith)
   number-few (told-long l e) = rw e (omega arith)
   number-few (told-no-room l h e) = rw e (omega arith)
-  number-few (told-broken number line column l h r e) = rw e (token-number r .1)
+  number-few (told-broken number at l h r e) = rw e (token-number r .1)
 
   pub compile-refusals : compileSays text table .refusal ≤ 16
   unfolding compileSays
   compile-refusals = number-few told
 
-  its-place : {c : Compiled} → Told c → 2 < saidOf c .refusal → RefusedThere text (saidOf c .refusal) (saidOf c .line) (saidOf c .column)
+  its-place : {c : Compiled} → Told c → 2 < saidOf c .refusal → RefusedThere text (saidOf c .refusal) (spot (saidOf c .line) (saidOf c .column))
   unfolding saidOf
   its-place (told-accepted ps s h e) = rw e (λ n. absurd (omega arith))
   its-place (told-long l e) = rw e (λ n. absurd (omega arith))
   its-place (told-no-room l h e) = rw e (λ n. absurd (omega arith))
-  its-place (told-broken number line column l h r e) = rw e (λ n. r)
+  its-place (told-broken number at l h r e) = rw e (λ n. r)
 
-  pub placed : 2 < compileSays text table .refusal → RefusedThere text (compileSays text table .refusal) (compileSays text table .line) (compileSays text table .column)
+  pub placed : 2 < compileSays text table .refusal → RefusedThere text (compileSays text table .refusal) (spot (compileSays text table .line) (compileSays text table .column))
   unfolding compileSays
   placed = its-place told
 
@@ -96,7 +93,7 @@ module _ (text table : List ℕ) where
   without-place (told-accepted ps s h e) = rw e (λ n. (refl, refl))
   without-place (told-long l e) = rw e (λ n. (refl, refl))
   without-place (told-no-room l h e) = rw e (λ n. (refl, refl))
-  without-place (told-broken number line column l h r e) = rw e (λ n. absurd (let k = token-number r .0 in omega arith))
+  without-place (told-broken number at l h r e) = rw e (λ n. absurd (let k = token-number r .0 in omega arith))
 
   pub no-place : compileSays text table .refusal ≤ 2 → (compileSays text table .line ≡ 0) × (compileSays text table .column ≡ 0)
   unfolding compileSays
@@ -108,7 +105,7 @@ module _ (text table : List ℕ) where
     where
       go : (c : Compiled) → compiledOf text (length table) ≡ c → (saidOf c .refusal ≡ 0 → ⊥) → tableAfter text table ≡ table
       go (Policies policies bytes) e n = absurd (n refl)
-      go (Refused number line column) e n = nothing-changed text table number line column e
+      go (Refused number at) e n = nothing-changed text table number at e
 
   -- ---- demand 2
 
@@ -117,7 +114,7 @@ module _ (text table : List ℕ) where
   accepted-says (told-accepted ps s h e) = rw e (λ n. record { policies = ps; says = s })
   accepted-says (told-long l e) = rw e (λ n. absurd (omega arith))
   accepted-says (told-no-room l h e) = rw e (λ n. absurd (omega arith))
-  accepted-says (told-broken number line column l h r e) = rw e (λ n. absurd (let k = token-number r .0 in omega arith))
+  accepted-says (told-broken number at l h r e) = rw e (λ n. absurd (let k = token-number r .0 in omega arith))
 
   says-accepted : (ps : List Policy) → Says text ps → roomFor text ≤ length table → compiledOf text (length table) ≡ Policies (length ps) (length (compiledBytes ps))
   unfolding AcceptedExactly
@@ -133,7 +130,7 @@ module _ (text table : List ℕ) where
   roomy (told-accepted ps s h e) = λ n. h
   roomy (told-long l e) = rw e (λ n. absurd (omega arith))
   roomy (told-no-room l h e) = rw e (λ n. absurd (omega arith))
-  roomy (told-broken number line column l h r e) = λ n. h
+  roomy (told-broken number at l h r e) = λ n. h
 
   pub compiled : (ps : List Policy) → compileSays text table .refusal ≡ 0 → Says text ps
       → (compileSays text table .policies ≡ length ps)
@@ -167,7 +164,7 @@ module _ (text table : List ℕ) where
     where
       go : (c : Compiled) → compiledOf text (length table) ≡ c → saidOf c .bytes ≤ roomFor text
       go (Policies policies bytes) e = compiling-proofs.enough-room text (length table) policies bytes e
-      go (Refused number line column) e = zero-le
+      go (Refused number at) e = zero-le
 
   pub no-policies-no-bytes : compileSays text table .policies ≡ 0 → compileSays text table .bytes ≡ 0
   unfolding compileSays saidOf NoPoliciesNoBytes
@@ -175,7 +172,7 @@ module _ (text table : List ℕ) where
     where
       go : (c : Compiled) → compiledOf text (length table) ≡ c → saidOf c .policies ≡ 0 → saidOf c .bytes ≡ 0
       go (Policies policies bytes) e n = compiling-proofs.no-policies-no-bytes text (length table) bytes (e ∙ ap (λ (p : ℕ). Policies p bytes) n)
-      go (Refused number line column) e n = refl
+      go (Refused number at) e n = refl
 
   -- ---- the refusals by size, and the zeros
 
@@ -184,7 +181,7 @@ module _ (text table : List ℕ) where
   long-then (told-accepted ps s h e) = rw e (λ n. absurd (omega arith))
   long-then (told-long l e) = λ n. l
   long-then (told-no-room l h e) = rw e (λ n. absurd (omega arith))
-  long-then (told-broken number line column l h r e) = rw e (λ n. absurd (let k = token-number r .0 in omega arith))
+  long-then (told-broken number at l h r e) = rw e (λ n. absurd (let k = token-number r .0 in omega arith))
 
   pub too-long : (compileSays text table .refusal ≡ 1) ↔ (mostBytes < length text)
   unfolding compileSays saidOf
@@ -195,7 +192,7 @@ module _ (text table : List ℕ) where
   no-room-then (told-accepted ps s h e) = rw e (λ n. absurd (omega arith))
   no-room-then (told-long l e) = rw e (λ n. absurd (omega arith))
   no-room-then (told-no-room l h e) = λ n. (l, h)
-  no-room-then (told-broken number line column l h r e) = rw e (λ n. absurd (let k = token-number r .0 in omega arith))
+  no-room-then (told-broken number at l h r e) = rw e (λ n. absurd (let k = token-number r .0 in omega arith))
 
   pub no-room : (compileSays text table .refusal ≡ 2) ↔ ((length text ≤ mostBytes) × (length table < roomFor text))
   unfolding compileSays saidOf
@@ -203,15 +200,15 @@ module _ (text table : List ℕ) where
 
   -- ---- the refusals by token
 
-  refused-as : {number line column : ℕ} → compiledOf text (length table) ≡ Refused number line column
+  refused-as : {number line column : ℕ} → compiledOf text (length table) ≡ Refused number (spot line column)
       → compileSays text table ≡ record { refusal = number; line = line; column = column; policies = 0; bytes = 0 }
   unfolding compileSays saidOf
   refused-as e = rw e
 
   pub token-exactly : (number line column : ℕ) → length text ≤ mostBytes → roomFor text ≤ length table → 2 < number
-      → (compileSays text table ≡ record { refusal = number; line = line; column = column; policies = 0; bytes = 0 }) ↔ RefusedThere text number line column
+      → (compileSays text table ≡ record { refusal = number; line = line; column = column; policies = 0; bytes = 0 }) ↔ RefusedThere text number (spot line column)
   unfolding RefusedExactly
-  token-exactly number line column l h m = (λ e. rw e at (placed) m, λ r. refused-as (refused-there text (length table) number line column l h .1 r))
+  token-exactly number line column l h m = (λ e. rw e at (placed) m, λ r. refused-as (refused-there text (length table) number (spot line column) l h .1 r))
 
   pub compile-zeros : (compileSays text table .refusal ≡ 0 → ⊥) → (compileSays text table .policies ≡ 0) × (compileSays text table .bytes ≡ 0)
   unfolding compileSays ZerosElsewhere

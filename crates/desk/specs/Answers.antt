@@ -6,12 +6,11 @@ use lib.ListN.{length}
 use Rattle.compiling.specs.Outcome as compiling
 use Rattle.meaning.specs.Targets.{Request}
 use Rattle.deciding.specs.Answers as deciding
+use Rattle.deciding.specs.Promise.{DecideCall}
 use Rattle.lookups.specs.Lookups as lookups
 use Rattle.questions.specs.Questions.{isQuestion}
-use Rattle.views.specs.Meaning.{View, look}
-use Rattle.views.specs.Rows.{bagOfRow}
-use Rattle.pages.specs.Rows.{choicesAt}
 use Rattle.sheets.specs.Sheets as sheets
+use Rattle.sheets.specs.Promise.{SheetCall}
 use Rattle.desk.specs.declared.DeskCompiled.{DeskCompiled}
 use Rattle.desk.specs.declared.DeskDecision.{DeskDecision}
 use Rattle.desk.specs.declared.DeskValue.{DeskValue}
@@ -48,6 +47,10 @@ decidedAs s = record { refusal = s .refusal; outcome = s .outcome; policy = s .p
 unfoldable pub decideSays : List ℕ → List ℕ → List ℕ → Request → DeskDecision
 decideSays text table bag q = decidedAs (deciding.saidOf (deciding.answerOf text table bag q))
 
+-- the same, of what travels together
+abbrev pub decisionFor : DecideCall → DeskDecision
+decisionFor c = decideSays (c .text) (c .table) (c .bag) (c .request)
+
 -- ---- lookup(bag, root, path), string(bag, root, path)
 
 -- the refusal, or the kind, the number and the place
@@ -76,18 +79,14 @@ sheetSays text table question q start sheet at = listedAs (sheets.saidTo text ta
 abbrev pub sheetLeaves : List ℕ → List ℕ → List ℕ → Request → ℕ → List ℕ → ℕ → List ℕ
 sheetLeaves text table question q start sheet at = sheets.sheetAfter text table question q start sheet at
 
+-- the same, of what travels together
+abbrev pub pageFor : SheetCall → DeskPage
+pageFor c = sheetSays (c .text) (c .table) (c .question) (c .request) (c .start) (c .sheet) (c .at)
+
+abbrev pub sheetFor : SheetCall → List ℕ
+sheetFor c = sheetLeaves (c .text) (c .table) (c .question) (c .request) (c .start) (c .sheet) (c .at)
+
 -- ---- rows(question): how many it has, and 0 where the bytes are no question
 
 unfoldable pub rowsSay : List ℕ → ℕ
 rowsSay question = cond (isQuestion question) (sheets.rowsAsked question) 0
-
--- ---- what the promises speak of
-
--- the attributes where the columns have these choices: the base with each column's attribute set to its choice or removed
-abbrev pub viewOfChoices : List ℕ → List ℕ → View
-viewOfChoices question choices =
-    look (bagOfRow question (sheets.sectionsIn question) (sheets.columnsIn question (sheets.sectionsIn question)) (sheets.firstIn (sheets.sectionsIn question)) choices)
-
--- the attributes of a row
-abbrev pub viewOfRow : List ℕ → ℕ → View
-viewOfRow question row = viewOfChoices question (choicesAt (sheets.countsIn question (sheets.sectionsIn question)) row)

@@ -1,6 +1,5 @@
 -- Document 01's checked examples over the desk's answers: A to L as one statement, and the worked example. Definitions only.
 use mathlib.Core.Path.{_≡_}
-use mathlib.Core.Bool.{true}
 use mathlib.Core.List.{List, [], _∷_, _++_}
 use Prim.Native.Nat.{ℕ, zero, suc, _*_}
 use Prim.Native.String.{String}
@@ -8,9 +7,11 @@ use lib.ListN.{length, take}
 use Rattle.slices.specs.Ascii.{bytes}
 use Rattle.compiling.specs.Promise.{bytesFor}
 use Rattle.meaning.specs.Targets.{Request}
-use Rattle.questions.specs.Questions.{isQuestion}
-use Rattle.sheets.specs.Sheets.{rowsAsked}
-use Rattle.desk.specs.Answers.{compileSays, decideSays, sheetSays, sheetLeaves}
+use Rattle.bags.specs.Forms.{Contents, BagBytes}
+use Rattle.questions.specs.Forms.{Column, QuestionBytes}
+use Rattle.pages.specs.Rows.{rowOf}
+use Rattle.pages.specs.Lines.{counts}
+use Rattle.desk.specs.Answers.{compileSays, decideSays, sheetSays, sheetLeaves, rowsSay}
 use Rattle.desk.specs.Promises.{Shows}
 use Rattle.desk.specs.declared.DeskCompiled.{DeskCompiled}
 use Rattle.desk.specs.declared.DeskDecision.{DeskDecision}
@@ -91,9 +92,10 @@ gradeThree = (1 ∷ 5 ∷ []) ++ bytes "grade" ++ (2 ∷ 0 ∷ 0 ∷ 0 ∷ 0 ∷
 -- what document 01 prints, by the sheet's answer and bytes
 pub record WorkedExample : Type 0 where
   -- rows 9; 3 1 1; 4 1 1; allowed 2
-  pub rows : (isQuestion question ≡ true) × (rowsAsked question ≡ 9)
+  pub rows : rowsSay question ≡ 9
   pub listed : sheetSays rules (bytesFor rules) question K7 0 (blank 54) 0 ≡ record { refusal = 0; written = 2; next = 9 }
   pub written : take 12 (sheetLeaves rules (bytesFor rules) question K7 0 (blank 54) 0) ≡ 3 ∷ 0 ∷ 0 ∷ 0 ∷ 1 ∷ 1 ∷ 4 ∷ 0 ∷ 0 ∷ 0 ∷ 1 ∷ 1 ∷ []
-  -- row 3 is the bag that knows grade 3 and nothing else, and is decided so
-  pub row-three : Shows gradeThree question 3
+  -- row 3, second choice and first, is the bag that knows grade 3 and nothing else, and is decided so
+  pub row-three : (contents base : Contents) (columns : List Column) → BagBytes gradeThree contents → QuestionBytes question base columns
+      → (rowOf (counts columns) (1 ∷ 0 ∷ []) ≡ 3) × Shows contents base columns (1 ∷ 0 ∷ [])
   pub decided-three : decideSays rules (bytesFor rules) gradeThree K7 ≡ outcome 1 1

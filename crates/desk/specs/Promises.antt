@@ -1,97 +1,117 @@
--- The desk's promises on one page: the three demands, what a look-up finds, when each refusal is given, and that every call has one result. proofs/Promised.antt proves each record. Definitions only.
--- `compileSays`, `decideSays`, `lookupSays` and `sheetSays` are what the calls answer, `compileLeaves` and `sheetLeaves` what they leave in the table and the sheet (Answers.antt; src/lib.rt has the
--- contracts). That every call ends and reads nothing outside what it is lent is what the prover shows of every function; no call has a `requires`, so this holds for arbitrary bytes.
+-- The desk's promises on one page: the three demands, what a look-up finds, when each refusal is given, and that every call has one result.
+-- proofs/Promised.antt proves each record. Definitions only.
+-- `compileSays`, `decisionFor`, `lookupSays` and `pageFor` are what the calls answer, `compileLeaves` and `sheetFor` what they leave in the table and the sheet
+-- (Answers.antt; src/lib.rt has the contracts). That every call ends and reads nothing outside what it is lent is what the prover shows of every function; no
+-- call has a `requires`, so this holds for arbitrary bytes.
 use mathlib.Core.Path.{_≡_}
 use mathlib.Core.Logic.{_⊎_, _↔_}
 use mathlib.Core.Bool.{Bool, true, false}
 use mathlib.Core.List.{List, [], _∷_, _++_, List·Memᴰ}
 use Prim.Native.Nat.{ℕ, suc, _+_, _*_, _≤_, _<_}
-use lib.ListN.{length, getD, take, drop}
+use lib.ListN.{length, take, drop}
 use denote.Ref.{RefT, now}
 use Rattle.slices.specs.Parts.{IsPart, part}
 use Rattle.numbers.specs.Bits.{numberAt}
-use Rattle.reading.specs.Lexemes.{tokensOf}
 use Rattle.grammar.specs.Policies.{Policy}
-use Rattle.grammar.specs.Grammar.{RuleText, sizes}
-use Rattle.compiling.specs.Outcome.{mostBytes, roomFor, compiledBytes}
+use Rattle.grammar.specs.Grammar.{SaysPolicies}
+use Rattle.compiling.specs.Outcome.{mostBytes, roomFor, compiledBytes, spot}
 use Rattle.compiling.specs.Promise.{RefusedThere, Begun}
+use Rattle.bags.specs.Forms.{Contents, BagBytes, NoBag}
 use Rattle.bags.specs.Reading.{byte}
-use Rattle.bags.specs.Sections.{pathAt, kindAt, entryEnd, sectionsOf, isBag}
+use Rattle.bags.specs.Sections.{pathAt, kindAt, entryEnd, sectionsOf}
 use Rattle.bags.specs.declared.After.the-variants.{At}
 use Rattle.bags.specs.declared.sections.Sections.{Sections}
 use Rattle.bags.specs.declared.sections.Divided.the-variants.{In}
-use Rattle.questions.specs.Questions.{isQuestion, product}
+use Rattle.questions.specs.Forms.{Column, QuestionBytes, NoQuestion}
+use Rattle.questions.specs.Questions.{product}
 use Rattle.views.specs.Meaning as views
-use Rattle.views.specs.Meaning.{View, Datum}
+use Rattle.views.specs.Meaning.{View, Datum, asBag, look, rowBag}
 use Rattle.views.specs.Values.{stringAt, listAt}
+use Rattle.views.specs.Rows.{pickedAll}
+use Rattle.placing.specs.Said.{wordsOf}
 use Rattle.meaning.specs.Targets.{Request, isSystem}
-use Rattle.meaning.specs.Decisions.{SomeSatisfied, LowestSatisfied, NamesPolicy, outcomeOf, policyOf}
-use Rattle.deciding.specs.Answers.{viewOf}
-use Rattle.deciding.specs.Promise as deciding
+use Rattle.meaning.specs.Decisions.{SomeSatisfied, LowestSatisfied}
+use Rattle.deciding.specs.Promise.{DecideCall, DecideRefused}
 use Rattle.lookups.specs.Lookups.{lookupOf, startOf, lengthOf}
 use Rattle.lookups.specs.Values.{nought, unit}
 use Rattle.pages.specs.Rows.{Combination, rowOf, choicesAt}
-use Rattle.pages.specs.Listing.{rowSize, roomIn, bytesOf}
-use Rattle.sheets.specs.Sheets.{decisions, rowsAsked}
-use Rattle.sheets.specs.Promise as sheets
-use Rattle.sheets.specs.Promise.{countsAsked, yesTo, listedFrom}
-use Rattle.desk.specs.Answers.{compileSays, compileLeaves, beginsSays, decideSays, lookupSays, sheetSays, sheetLeaves, viewOfChoices, viewOfRow, stringSays, rowsSay}
+use Rattle.pages.specs.Listing.{rowSize, roomIn, sixBytes}
+use Rattle.pages.specs.Lines.{Line, Sooner, InOrder, counts, linesBytes, littleEndian, linesFrom, firstRow}
+use Rattle.sheets.specs.Promise.{SheetCall, SheetRefused}
+use Rattle.desk.specs.Answers.{compileSays, compileLeaves, beginsSays, decideSays, decisionFor, lookupSays, stringSays}
+use Rattle.desk.specs.Answers.{sheetSays, sheetLeaves, pageFor, sheetFor, rowsSay}
 use Rattle.desk.specs.declared.DeskCompiled.{DeskCompiled}
 use Rattle.desk.specs.declared.DeskDecision.{DeskDecision}
 use Rattle.desk.specs.declared.DeskValue.{DeskValue}
 use Rattle.desk.specs.declared.DeskString.{DeskString}
 use Rattle.desk.specs.declared.DeskPage.{DeskPage}
 
--- ---- Demand 1. Every public call gives either its answer or one refusal from document 01's list. A refused rule text also gets line and column. A refused call changes no table and no sheet.
+-- ---- Demand 1. Every public call gives either its answer or one refusal from document 01's list. A refused rule text also gets line and column. A refused
+-- call changes no table and no sheet.
 
 pub record DemandOne : Type 0 where
   -- the refusals that each call can give; 0 is none
   pub compile-refusals : (text table : List ℕ) → compileSays text table .refusal ≤ 16
-  pub decide-refusals : (text table bag : List ℕ) (q : Request) → List·Memᴰ (decideSays text table bag q .refusal) (0 ∷ 20 ∷ 21 ∷ 22 ∷ 23 ∷ 24 ∷ [])
+  pub decide-refusals : (c : DecideCall) → List·Memᴰ (decisionFor c .refusal) (0 ∷ 20 ∷ 21 ∷ 22 ∷ 23 ∷ 24 ∷ [])
   pub lookup-refusals : (bag : List ℕ) (root : ℕ) (path : List ℕ) → List·Memᴰ (lookupSays bag root path .refusal) (0 ∷ 24 ∷ [])
-  pub sheet-refusals : (text table question : List ℕ) (q : Request) (start : ℕ) (sheet : List ℕ) (at : ℕ)
-      → List·Memᴰ (sheetSays text table question q start sheet at .refusal) (0 ∷ 20 ∷ 21 ∷ 22 ∷ 23 ∷ 24 ∷ 25 ∷ 26 ∷ [])
+  pub sheet-refusals : (c : SheetCall) → List·Memᴰ (pageFor c .refusal) (0 ∷ 20 ∷ 21 ∷ 22 ∷ 23 ∷ 24 ∷ 25 ∷ 26 ∷ [])
   -- refusals 3 to 16 stand at the one token before which nothing is broken and at which a rule is, with its line and column; 1 and 2 have the place 0, 0
   pub placed : (text table : List ℕ) → 2 < compileSays text table .refusal
-      → RefusedThere text (compileSays text table .refusal) (compileSays text table .line) (compileSays text table .column)
+      → RefusedThere text (compileSays text table .refusal) (spot (compileSays text table .line) (compileSays text table .column))
   pub no-place : (text table : List ℕ) → compileSays text table .refusal ≤ 2 → (compileSays text table .line ≡ 0) × (compileSays text table .column ≡ 0)
   -- a refused call changes nothing
   pub table-stays : (text table : List ℕ) → (compileSays text table .refusal ≡ 0 → ⊥) → compileLeaves text table ≡ table
-  pub sheet-stays : (text table question : List ℕ) (q : Request) (start : ℕ) (sheet : List ℕ) (at : ℕ)
-      → (sheetSays text table question q start sheet at .refusal ≡ 0 → ⊥) → sheetLeaves text table question q start sheet at ≡ sheet
+  pub sheet-stays : (c : SheetCall) → (pageFor c .refusal ≡ 0 → ⊥) → sheetFor c ≡ c .sheet
 
 -- ---- Demand 2. A rule text lent table enough is accepted exactly when it belongs to the drafts' grammar under document 01's limits and rulings.
 
--- the text has at most 8,192 bytes, and its tokens are a rule text that says these policies
+-- the text has at most 8,192 bytes, and it is a rule text that says these policies
 pub record Says (text : List ℕ) (ps : List Policy) : Type 0 where
   pub short : length text ≤ mostBytes
-  pub belongs : RuleText sizes (tokensOf text) ps
+  pub belongs : SaysPolicies text ps
 
 -- the text is a rule text within the limits
 pub record Belongs (text : List ℕ) : Type 0 where
   pub policies : List Policy
   pub says : Says text policies
 
+-- two texts say the same: their policies have the same words, wherever these stand and whatever else stands there
+pub record SayAlike (text text′ : List ℕ) : Type 0 where
+  pub policies : List Policy
+  pub policies′ : List Policy
+  pub says : Says text policies
+  pub says′ : Says text′ policies′
+  pub alike : wordsOf text policies ≡ wordsOf text′ policies′
+
 -- A request whose inputs are accepted gets yes exactly if the subject is the system, or some permit is satisfied and no forbid is.
 
 -- yes is outcome 1 or 4
-pub data Yes : DeskDecision → Type 0 where
-  allowed : {d : DeskDecision} → d .outcome ≡ 1 → Yes d
-  system : {d : DeskDecision} → d .outcome ≡ 4 → Yes d
+pub data Yes (outcome : ℕ) : Type 0 where
+  allowed : outcome ≡ 1 → Yes outcome
+  system : outcome ≡ 4 → Yes outcome
 
--- over these attributes some permit is satisfied and no forbid is
-pub record Granted (text : List ℕ) (view : View) (q : Request) : Type 0 where
+-- over what the bag holds some permit that the text says is satisfied, and no forbid is
+pub record Granted (text bag : List ℕ) (q : Request) : Type 0 where
   pub policies : List Policy
   pub says : Says text policies
-  pub permit : SomeSatisfied text view q policies true
-  pub no-forbid : SomeSatisfied text view q policies false → ⊥
+  pub contents : Contents
+  pub bag-says : BagBytes bag contents
+  pub permit : SomeSatisfied (look (asBag contents)) q (wordsOf text policies) true
+  pub no-forbid : SomeSatisfied (look (asBag contents)) q (wordsOf text policies) false → ⊥
 
--- outcome and policy: 1 where a permit decides, 2 where a forbid does, 3 where nothing is satisfied, 4 for the system; the policy number is 0 for 3 and 4
-pub data OutcomeIs (text : List ℕ) (view : View) (q : Request) (ps : List Policy) : ℕ → ℕ → Type 0 where
-  by-permit : {n : ℕ} → isSystem (q .subject) ≡ false → (SomeSatisfied text view q ps false → ⊥) → LowestSatisfied text view q ps true n → OutcomeIs text view q ps 1 n
-  by-forbid : {n : ℕ} → isSystem (q .subject) ≡ false → LowestSatisfied text view q ps false n → OutcomeIs text view q ps 2 n
-  by-none : isSystem (q .subject) ≡ false → (SomeSatisfied text view q ps false → ⊥) → (SomeSatisfied text view q ps true → ⊥) → OutcomeIs text view q ps 3 0
-  by-system : isSystem (q .subject) ≡ true → OutcomeIs text view q ps 4 0
+-- For any subject but the system the answer names the lowest-numbered satisfied forbid, else the lowest-numbered satisfied permit, else none; for the system it
+-- names none.
+
+-- outcome and policy over these attributes: 1 where a permit decides, 2 where a forbid does, 3 where nothing is satisfied, 4 for the system, the last two with
+-- policy 0
+pub data OutcomeIs (text : List ℕ) (view : View) (q : Request) : ℕ → ℕ → Type 0 where
+  by-permit : {n : ℕ} {ps : List Policy} → isSystem (q .subject) ≡ false → Says text ps
+      → (SomeSatisfied view q (wordsOf text ps) false → ⊥) → LowestSatisfied view q (wordsOf text ps) true n → OutcomeIs text view q 1 n
+  by-forbid : {n : ℕ} {ps : List Policy} → isSystem (q .subject) ≡ false → Says text ps
+      → LowestSatisfied view q (wordsOf text ps) false n → OutcomeIs text view q 2 n
+  by-none : {ps : List Policy} → isSystem (q .subject) ≡ false → Says text ps
+      → (SomeSatisfied view q (wordsOf text ps) false → ⊥) → (SomeSatisfied view q (wordsOf text ps) true → ⊥) → OutcomeIs text view q 3 0
+  by-system : isSystem (q .subject) ≡ true → OutcomeIs text view q 4 0
 
 pub record DemandTwo : Type 0 where
   pub accepted-exactly : (text table : List ℕ) → roomFor text ≤ length table → (compileSays text table .refusal ≡ 0) ↔ Belongs text
@@ -103,101 +123,125 @@ pub record DemandTwo : Type 0 where
   -- a table into which a text was compiled begins right
   pub compiled-begins : (text table : List ℕ) → compileSays text table .refusal ≡ 0 → beginsSays text (compileLeaves text table) ≡ true
   -- and so do the bytes used, alone
-  pub used-begins : (text table : List ℕ) → compileSays text table .refusal ≡ 0 → beginsSays text (take (compileSays text table .bytes) (compileLeaves text table)) ≡ true
+  pub used-begins : (text table : List ℕ) → compileSays text table .refusal ≡ 0
+      → beginsSays text (take (compileSays text table .bytes) (compileLeaves text table)) ≡ true
   -- 8 bytes of table for each byte of text are enough, and no policies use no bytes
   pub enough-room : (text table : List ℕ) → compileSays text table .bytes ≤ roomFor text
   pub no-policies-no-bytes : (text table : List ℕ) → compileSays text table .policies ≡ 0 → compileSays text table .bytes ≡ 0
   -- a text says one list of policies
   pub one-reading : (text : List ℕ) (ps qs : List Policy) → Says text ps → Says text qs → ps ≡ qs
-  pub yes-exactly : (text table bag : List ℕ) (q : Request) → decideSays text table bag q .refusal ≡ 0
-      → Yes (decideSays text table bag q) ↔ ((isSystem (q .subject) ≡ true) ⊎ Granted text (viewOf bag) q)
-  -- For any subject but the system the answer names the lowest-numbered satisfied forbid, else the lowest-numbered satisfied permit, else none; for the system it names none.
-  pub named-rightly : (text table bag : List ℕ) (q : Request) (ps : List Policy) → decideSays text table bag q .refusal ≡ 0 → Says text ps
-      → NamesPolicy text (viewOf bag) q ps (decideSays text table bag q .policy)
-  -- with its outcome
-  pub outcome-rightly : (text table bag : List ℕ) (q : Request) (ps : List Policy) → decideSays text table bag q .refusal ≡ 0 → Says text ps
-      → OutcomeIs text (viewOf bag) q ps (decideSays text table bag q .outcome) (decideSays text table bag q .policy)
-  pub system-names-none : (text table bag : List ℕ) (q : Request) → isSystem (q .subject) ≡ true → decideSays text table bag q ≡ record { refusal = 0; outcome = 4; policy = 0 }
+  pub yes-exactly : (c : DecideCall) → decisionFor c .refusal ≡ 0
+      → Yes (decisionFor c .outcome) ↔ ((isSystem (c .request .subject) ≡ true) ⊎ Granted (c .text) (c .bag) (c .request))
+  -- outcome and policy are those of the policies over what the bag holds, and there are no others
+  pub outcome-rightly : (c : DecideCall) (contents : Contents) → decisionFor c .refusal ≡ 0 → BagBytes (c .bag) contents
+      → OutcomeIs (c .text) (look (asBag contents)) (c .request) (decisionFor c .outcome) (decisionFor c .policy)
+  pub one-outcome : (text : List ℕ) (view : View) (q : Request) (outcome outcome′ policy policy′ : ℕ)
+      → OutcomeIs text view q outcome policy → OutcomeIs text view q outcome′ policy′ → (outcome ≡ outcome′) × (policy ≡ policy′)
+  pub system-names-none : (c : DecideCall) → isSystem (c .request .subject) ≡ true → decisionFor c ≡ record { refusal = 0; outcome = 4; policy = 0 }
+  -- a text has at most 64 policies, so that a policy's number fits its byte in a sheet
+  pub policy-few : (text : List ℕ) (view : View) (q : Request) (outcome policy : ℕ) → OutcomeIs text view q outcome policy → policy ≤ 64
+  -- the words that the policies say decide, without the text's other bytes: two texts that say the same, each with its table, get the same decisions
+  pub words-decide : (text text′ table table′ bag : List ℕ) (q : Request) → SayAlike text text′ → Begun text table → Begun text′ table′
+      → decideSays text table bag q ≡ decideSays text′ table′ bag q
 
--- ---- Demand 3. The sheet lists every combination that demand 2 answers with yes, and no other, each exactly once, first column slowest, with its deciding rule. Asked for page by page from
--- row 0 to the last, each page starting where the one before says to go on, the joined pages are that same list.
+-- ---- Demand 3. The sheet lists every combination that demand 2 answers with yes, and no other, each exactly once, first column slowest, with its deciding
+-- rule. Asked for page by page from row 0 to the last, each page starting where the one before says to go on, the joined pages are that same list.
+
+-- what a combination's bag holds: the base with each column's attribute set to its choice, or removed, however many entries that makes
+abbrev pub attributes : Contents → List Column → List ℕ → View
+attributes base columns choices = look (rowBag (asBag base) (pickedAll columns choices))
+
+-- a line of the sheet: a combination that demand 2 answers with yes, with its outcome and deciding policy
+pub record LineOf (text : List ℕ) (base : Contents) (columns : List Column) (q : Request) (l : Line) : Type 0 where
+  pub combination : Combination (counts columns) (l .choices)
+  pub decided : OutcomeIs text (attributes base columns (l .choices)) q (l .outcome) (l .policy)
+  pub yes : Yes (l .outcome)
+
+-- the sheet: all these lines, and no other; the first column slowest, so that each is there exactly once
+pub record Sheet (text : List ℕ) (base : Contents) (columns : List Column) (q : Request) (lines : List Line) : Type 0 where
+  pub lists : (l : Line) → List·Memᴰ l lines ↔ LineOf text base columns q l
+  pub in-order : InOrder lines
 
 -- the bytes that a call writes, from the named byte on
-abbrev pub writtenBy : List ℕ → List ℕ → List ℕ → Request → ℕ → List ℕ → ℕ → List ℕ
-writtenBy text table question q start sheet at =
-    take (rowSize * sheetSays text table question q start sheet at .written) (drop at (sheetLeaves text table question q start sheet at))
+abbrev pub writtenBy : SheetCall → List ℕ
+writtenBy c = take (rowSize * pageFor c .written) (drop (c .at) (sheetFor c))
 
--- as many listed rows from a start row on as fit from the named byte on
-abbrev pub pageOf : List ℕ → List ℕ → Request → ℕ → List ℕ → ℕ → List ℕ
-pageOf text question q start sheet at = take (roomIn (drop at sheet)) (listedFrom text question q start)
+-- as many of these lines as fit there, from the start row on; and those that are left
+abbrev pub onPage : SheetCall → List ℕ → List Line → List Line
+onPage c ns lines = take (roomIn (drop (c .at) (c .sheet))) (linesFrom ns (c .start) lines)
 
--- calls for pages, each starting where the one before says to go on: from a start row, what they wrote, joined, and where the last one says to go on; each may lend another sheet and name another byte
-pub data Pages (text table question : List ℕ) (q : Request) : ℕ → List ℕ → ℕ → Type 0 where
-  no-page : {start : ℕ} → Pages text table question q start [] start
-  page : {start last : ℕ} {bytes : List ℕ} (sheet : List ℕ) (at : ℕ) → sheetSays text table question q start sheet at .refusal ≡ 0
-      → Pages text table question q (sheetSays text table question q start sheet at .next) bytes last
-      → Pages text table question q start (writtenBy text table question q start sheet at ++ bytes) last
+abbrev pub notOnPage : SheetCall → List ℕ → List Line → List Line
+notOnPage c ns lines = drop (roomIn (drop (c .at) (c .sheet))) (linesFrom ns (c .start) lines)
 
--- a bag has the attributes of a row
-abbrev pub Shows : List ℕ → List ℕ → ℕ → Type 0
-Shows bag question row = (root : ℕ) (path : List ℕ) → viewOf bag root path ≡ viewOfRow question row root path
+-- a page of these lines: how many, their bytes, and as next the row of the first that is not on it, else the number of rows; all other bytes of the sheet stay
+pub record PageOf (c : SheetCall) (ns : List ℕ) (lines : List Line) : Type 0 where
+  pub written : pageFor c .written ≡ length (onPage c ns lines)
+  pub bytes : writtenBy c ≡ linesBytes ns (onPage c ns lines)
+  pub next : pageFor c .next ≡ firstRow ns (notOnPage c ns lines)
+  pub inside : c .at + rowSize * pageFor c .written ≤ length (c .sheet)
+  pub before-stays : take (c .at) (sheetFor c) ≡ take (c .at) (c .sheet)
+  pub behind-stays : drop (c .at + rowSize * pageFor c .written) (sheetFor c) ≡ drop (c .at + rowSize * pageFor c .written) (c .sheet)
+
+-- the same call for another page: from another start row, into another sheet, from another byte on
+abbrev pub again : SheetCall → ℕ → List ℕ → ℕ → SheetCall
+again c start sheet at =
+    record { text = c .text; table = c .table; question = c .question; request = c .request; start = start; sheet = sheet; at = at }
+
+-- calls for pages, each starting where the one before says to go on: from a start row, what they wrote, joined, and where the last one says to go on;
+-- each may lend another sheet and name another byte
+pub data Pages (c : SheetCall) : ℕ → List ℕ → ℕ → Type 0 where
+  no-page : {start : ℕ} → Pages c start [] start
+  page : {start last : ℕ} {bytes : List ℕ} (sheet : List ℕ) (at : ℕ) → pageFor (again c start sheet at) .refusal ≡ 0
+      → Pages c (pageFor (again c start sheet at) .next) bytes last → Pages c start (writtenBy (again c start sheet at) ++ bytes) last
+
+-- what a call that is not refused is about: the base and columns that its question says, the one list of lines, its page of them, and the bytes of all pages
+pub record TheSheet (c : SheetCall) : Type 0 where
+  pub base : Contents
+  pub columns : List Column
+  pub question-says : QuestionBytes (c .question) base columns
+  pub lines : List Line
+  pub is-sheet : Sheet (c .text) base columns (c .request) lines
+  pub no-other : (others : List Line) → Sheet (c .text) base columns (c .request) others → others ≡ lines
+  -- the joined pages are that list: from row 0 to the last, and from any other row the lines from there on
+  pub joined : (bytes : List ℕ) → Pages c 0 bytes (rowsSay (c .question)) → bytes ≡ linesBytes (counts columns) lines
+  pub joined-from : (start : ℕ) (bytes : List ℕ) → Pages c start bytes (rowsSay (c .question))
+      → bytes ≡ linesBytes (counts columns) (linesFrom (counts columns) start lines)
+  -- this call's page
+  pub this-page : PageOf c (counts columns) lines
+
+-- a bag that holds this has the attributes of a combination. A combination may have more attributes than a bag can hold; nothing rests on there being such a
+-- bag, since lines are decided over the attributes themselves
+abbrev pub Shows : Contents → Contents → List Column → List ℕ → Type 0
+Shows contents base columns choices = (root : ℕ) (path : List ℕ) → look (asBag contents) root path ≡ attributes base columns choices root path
 
 pub record DemandThree : Type 0 where
-  -- a row is decided by the policies over its attributes, however many they are, and is listed exactly if it gets yes over them
-  pub row-decided : (text question : List ℕ) (q : Request) (ps : List Policy) (row : ℕ) → Says text ps
-      → OutcomeIs text (viewOfRow question row) q ps (outcomeOf (decisions text question q row)) (policyOf (decisions text question q row))
-  pub row-listed : (text question : List ℕ) (q : Request) (ps : List Policy) (row : ℕ) → Says text ps
-      → List·Memᴰ row (listedFrom text question q 0) ↔ ((row < rowsAsked question) × ((isSystem (q .subject) ≡ true) ⊎ Granted text (viewOfRow question row) q))
-  -- a row is decided as demand 2 decides over a bag that has its attributes, and is listed exactly if demand 2 answers that with yes
-  pub decided-alike : (text table question : List ℕ) (q : Request) (row : ℕ) (bag : List ℕ) → decideSays text table bag q .refusal ≡ 0 → Shows bag question row
-      → (decideSays text table bag q .outcome ≡ outcomeOf (decisions text question q row)) × (decideSays text table bag q .policy ≡ policyOf (decisions text question q row))
-  pub listed-alike : (text table question : List ℕ) (q : Request) (row : ℕ) (bag : List ℕ) → decideSays text table bag q .refusal ≡ 0 → Shows bag question row
-      → row < rowsAsked question → List·Memᴰ row (listedFrom text question q 0) ↔ Yes (decideSays text table bag q)
-  -- a question has as many rows as its columns' candidates have combinations
-  pub rows-counted : (question : List ℕ) → isQuestion question ≡ true → (rowsSay question ≡ rowsAsked question) × (rowsAsked question ≡ product (countsAsked question))
-  -- the system's rows are all outcome 4
-  pub system-rows : (text question : List ℕ) (q : Request) (row : ℕ) → isSystem (q .subject) ≡ true
-      → (outcomeOf (decisions text question q row) ≡ 4) × (policyOf (decisions text question q row) ≡ 0)
-  -- every combination that gets yes, and no other
-  pub lists-exactly : (text question : List ℕ) (q : Request) (choices : List ℕ) → isQuestion question ≡ true → Combination (countsAsked question) choices
-      → List·Memᴰ (rowOf (countsAsked question) choices) (listedFrom text question q 0) ↔ yesTo text question q choices
-  -- so of any call that is accepted: the list has the combination exactly if the subject is the system, or over its attributes some permit is satisfied and no forbid is
-  pub combination-listed : (text table question : List ℕ) (q : Request) (start : ℕ) (sheet : List ℕ) (at : ℕ) (choices : List ℕ) → sheetSays text table question q start sheet at .refusal ≡ 0
-      → Combination (countsAsked question) choices
-      → List·Memᴰ (rowOf (countsAsked question) choices) (listedFrom text question q 0) ↔ ((isSystem (q .subject) ≡ true) ⊎ Granted text (viewOfChoices question choices) q)
-  pub only-combinations : (text question : List ℕ) (q : Request) (row : ℕ) → isQuestion question ≡ true → List·Memᴰ row (listedFrom text question q 0)
-      → Combination (countsAsked question) (choicesAt (countsAsked question) row) × (rowOf (countsAsked question) (choicesAt (countsAsked question) row) ≡ row)
-  -- each exactly once: a combination has a row of its own, and the rows ascend
-  pub one-row : (question choices choices′ : List ℕ) → isQuestion question ≡ true → Combination (countsAsked question) choices → Combination (countsAsked question) choices′
-      → rowOf (countsAsked question) choices ≡ rowOf (countsAsked question) choices′ → choices ≡ choices′
-  pub ascends : (text question : List ℕ) (q : Request) (start i j : ℕ) → i < j → j < length (listedFrom text question q start)
-      → getD (listedFrom text question q start) i 0 < getD (listedFrom text question q start) j 0
-  -- first column slowest
-  pub first-slowest : (n c c′ : ℕ) (ns cs cs′ : List ℕ) → Combination ns cs → c < c′ → rowOf (n ∷ ns) (c ∷ cs) < rowOf (n ∷ ns) (c′ ∷ cs′)
-  -- and where its choices are the same, the other columns order the rows among themselves
-  pub then-the-others : (n c : ℕ) (ns cs cs′ : List ℕ) → rowOf ns cs < rowOf ns cs′ → rowOf (n ∷ ns) (c ∷ cs) < rowOf (n ∷ ns) (c ∷ cs′)
-  -- from a start row on: the rows of the list that are not before it
-  pub from-start : (text question : List ℕ) (q : Request) (start row : ℕ) → List·Memᴰ row (listedFrom text question q start) ↔ ((start ≤ row) × List·Memᴰ row (listedFrom text question q 0))
-  -- a page has as many of them as fit, their bytes from the named byte on, and as next the first that is not on it, else the number of rows
-  pub page-rightly : (text table question : List ℕ) (q : Request) (start : ℕ) (sheet : List ℕ) (at : ℕ) → sheetSays text table question q start sheet at .refusal ≡ 0
-      → (sheetSays text table question q start sheet at .written ≡ length (pageOf text question q start sheet at))
-      × (writtenBy text table question q start sheet at ≡ bytesOf (decisions text question q) (pageOf text question q start sheet at))
-      × (sheetSays text table question q start sheet at .next ≡ getD (listedFrom text question q start) (roomIn (drop at sheet)) (rowsAsked question))
-  -- the joined pages, from row 0 or any other to the last, are the list's bytes from there: row, outcome and policy of each
-  pub pages-joined : (text table question : List ℕ) (q : Request) (start : ℕ) (bytes : List ℕ) → Pages text table question q start bytes (rowsAsked question)
-      → bytes ≡ bytesOf (decisions text question q) (listedFrom text question q start)
+  pub the-sheet : (c : SheetCall) → pageFor c .refusal ≡ 0 → TheSheet c
+  -- a combination is decided as demand 2 decides over any bag that has its attributes
+  pub decided-alike : (c : DecideCall) (contents base : Contents) (columns : List Column) (choices : List ℕ) → decisionFor c .refusal ≡ 0
+      → BagBytes (c .bag) contents → Shows contents base columns choices
+      → OutcomeIs (c .text) (attributes base columns choices) (c .request) (decisionFor c .outcome) (decisionFor c .policy)
+  -- a question has as many rows as its columns' candidates have combinations, at most 262,144
+  pub rows-counted : (question : List ℕ) (base : Contents) (columns : List Column) → QuestionBytes question base columns
+      → rowsSay question ≡ product (counts columns)
+  pub rows-few : (question : List ℕ) → rowsSay question ≤ 262144
+  -- each combination has a row of its own, each row is a combination's, and the combination that comes first has the lower row
+  pub row-within : (ns choices : List ℕ) → Combination ns choices → rowOf ns choices < product ns
+  pub row-there : (ns : List ℕ) (row : ℕ) → row < product ns → Combination ns (choicesAt ns row) × (rowOf ns (choicesAt ns row) ≡ row)
+  pub one-row : (ns choices choices′ : List ℕ) → Combination ns choices → Combination ns choices′ → rowOf ns choices ≡ rowOf ns choices′ → choices ≡ choices′
+  pub first-slowest : (ns choices choices′ : List ℕ) → Combination ns choices → Combination ns choices′
+      → Sooner choices choices′ ↔ (rowOf ns choices < rowOf ns choices′)
+  -- the four bytes of a row say its number
+  pub row-read : (row outcome policy : ℕ) → row ≤ 262144 → littleEndian (take 4 (sixBytes row outcome policy)) ≡ row
   -- whoever follows the pages gets on, is refused no page, and gets to the last row
-  pub goes-on : (text table question : List ℕ) (q : Request) (start : ℕ) (sheet : List ℕ) (at : ℕ) → sheetSays text table question q start sheet at .refusal ≡ 0
-      → (start < rowsAsked question → start < sheetSays text table question q start sheet at .next) × (sheetSays text table question q start sheet at .next ≤ rowsAsked question)
-  pub none-refused : (text table question : List ℕ) (q : Request) (start : ℕ) (sheet : List ℕ) (at row : ℕ) → sheetSays text table question q start sheet at .refusal ≡ 0
-      → row ≤ rowsAsked question → sheetSays text table question q row sheet at .refusal ≡ 0
-  pub to-the-last : (text table question : List ℕ) (q : Request) (start : ℕ) (sheet : List ℕ) (at : ℕ) → sheetSays text table question q start sheet at .refusal ≡ 0
-      → (bytes : List ℕ) × Pages text table question q start bytes (rowsAsked question)
-  -- all other bytes of the sheet stay
-  pub others-stay : (text table question : List ℕ) (q : Request) (start : ℕ) (sheet : List ℕ) (at : ℕ) → sheetSays text table question q start sheet at .refusal ≡ 0
-      → (take at (sheetLeaves text table question q start sheet at) ≡ take at sheet)
-      × (drop (at + rowSize * sheetSays text table question q start sheet at .written) (sheetLeaves text table question q start sheet at)
-      ≡ drop (at + rowSize * sheetSays text table question q start sheet at .written) sheet)
+  pub goes-on : (c : SheetCall) → pageFor c .refusal ≡ 0
+      → (c .start < rowsSay (c .question) → c .start < pageFor c .next) × (pageFor c .next ≤ rowsSay (c .question))
+  pub none-refused : (c : SheetCall) (row : ℕ) → pageFor c .refusal ≡ 0 → row ≤ rowsSay (c .question) → pageFor (again c row (c .sheet) (c .at)) .refusal ≡ 0
+  pub to-the-last : (c : SheetCall) → pageFor c .refusal ≡ 0 → (bytes : List ℕ) × Pages c (c .start) bytes (rowsSay (c .question))
+  -- and, for the same words, the same sheets
+  pub words-list : (text text′ table table′ question : List ℕ) (q : Request) (start : ℕ) (sheet : List ℕ) (at : ℕ) → SayAlike text text′ → Begun text table
+      → Begun text′ table′
+      → (sheetSays text table question q start sheet at ≡ sheetSays text′ table′ question q start sheet at)
+      × (sheetLeaves text table question q start sheet at ≡ sheetLeaves text′ table′ question q start sheet at)
 
 -- ---- Look-ups. What is found in a bag is the attribute that deciding sees.
 
@@ -240,23 +284,31 @@ StringAllows bag root path r = IsPart bag r (startOf (lookupOf (now bag) root pa
 -- what is found, where it stands, and where a string's bytes are
 pub record LookUps : Type 0 where
   -- it is what deciding sees
-  pub looked-rightly : (bag : List ℕ) (root : ℕ) (path : List ℕ) → isBag bag ≡ true → Means bag (lookupSays bag root path) (viewOf bag root path)
+  pub looked-rightly : (bag : List ℕ) (contents : Contents) (root : ℕ) (path : List ℕ) → BagBytes bag contents
+      → Means bag (lookupSays bag root path) (look (asBag contents) root path)
   -- an attribute is found, with its kind and its place, exactly where an entry with its path stands in its root's section
   pub found-rightly : (bag : List ℕ) (root : ℕ) (path : List ℕ) → (lookupSays bag root path .kind ≡ 0 → ⊥)
       → StandsIn bag root path (lookupSays bag root path .kind) (lookupSays bag root path .place)
-  pub found-where-it-stands : (bag : List ℕ) (root : ℕ) (path : List ℕ) (kind place : ℕ) → isBag bag ≡ true → StandsIn bag root path kind place → lookupSays bag root path .kind ≡ 0 → ⊥
+  pub found-where-it-stands : (bag : List ℕ) (contents : Contents) (root : ℕ) (path : List ℕ) (kind place : ℕ) → BagBytes bag contents
+      → StandsIn bag root path kind place
+      → (lookupSays bag root path .kind ≡ kind) × (lookupSays bag root path .place ≡ place)
+  -- a section has one entry at most with a path
+  pub stands-once : (bag : List ℕ) (contents : Contents) (root : ℕ) (path : List ℕ) (kind kind′ place place′ : ℕ) → BagBytes bag contents
+      → StandsIn bag root path kind place → StandsIn bag root path kind′ place′ → (kind ≡ kind′) × (place ≡ place′)
   -- a string's bytes are the part of the bag that is told, behind the length byte at its place
-  pub string-rightly : (bag : List ℕ) (root : ℕ) (path : List ℕ) → lookupSays bag root path .kind ≡ 1
-      → (viewOf bag root path ≡ views.text (part bag (stringSays bag root path .start) (stringSays bag root path .length)))
+  pub string-rightly : (bag : List ℕ) (contents : Contents) (root : ℕ) (path : List ℕ) → BagBytes bag contents → lookupSays bag root path .kind ≡ 1
+      → (look (asBag contents) root path ≡ views.text (part bag (stringSays bag root path .start) (stringSays bag root path .length)))
       × (stringSays bag root path .start + stringSays bag root path .length ≤ length bag)
   pub string-placed : (bag : List ℕ) (root : ℕ) (path : List ℕ) → lookupSays bag root path .kind ≡ 1
-      → (stringSays bag root path .start ≡ lookupSays bag root path .place + 1) × (stringSays bag root path .length ≡ byte bag (lookupSays bag root path .place))
+      → (stringSays bag root path .start ≡ lookupSays bag root path .place + 1)
+      × (stringSays bag root path .length ≡ byte bag (lookupSays bag root path .place))
   -- `string_part` gives that part itself
   pub part-rightly : (bag : RefT (List ℕ)) (root : ℕ) (path : List ℕ) (r : RefT (List ℕ)) → StringAllows bag root path r
       → IsPart bag r (stringSays (now bag) root path .start) (stringSays (now bag) root path .length)
   -- any other kind has the empty part, and so has what is no bag, which has kind 0
-  pub string-empty : (bag : List ℕ) (root : ℕ) (path : List ℕ) → (lookupSays bag root path .kind ≡ 1 → ⊥) → stringSays bag root path ≡ record { start = 0; length = 0 }
-  pub string-none : (bag : List ℕ) (root : ℕ) (path : List ℕ) → isBag bag ≡ false → stringSays bag root path ≡ record { start = 0; length = 0 }
+  pub string-empty : (bag : List ℕ) (root : ℕ) (path : List ℕ) → (lookupSays bag root path .kind ≡ 1 → ⊥)
+      → stringSays bag root path ≡ record { start = 0; length = 0 }
+  pub string-none : (bag : List ℕ) (root : ℕ) (path : List ℕ) → NoBag bag → stringSays bag root path ≡ record { start = 0; length = 0 }
 
 -- ---- Refusals. Each is given exactly when document 01 says, in its order, with zeros beside its number.
 
@@ -266,21 +318,21 @@ pub record Refusals : Type 0 where
   pub no-room : (text table : List ℕ) → (compileSays text table .refusal ≡ 2) ↔ ((length text ≤ mostBytes) × (length table < roomFor text))
   -- 3 to 16, where the sizes are right: exactly by the number, at the line and column, of the one token at which a rule is first broken
   pub token-exactly : (text table : List ℕ) (number line column : ℕ) → length text ≤ mostBytes → roomFor text ≤ length table → 2 < number
-      → (compileSays text table ≡ record { refusal = number; line = line; column = column; policies = 0; bytes = 0 }) ↔ RefusedThere text number line column
-  pub decide-exactly : (text table bag : List ℕ) (q : Request) (number : ℕ) → (decideSays text table bag q .refusal ≡ number) ↔ deciding.Refusal text table bag q number
-  pub lookup-exactly : (bag : List ℕ) (root : ℕ) (path : List ℕ) → (lookupSays bag root path .refusal ≡ 24) ↔ (isBag bag ≡ false)
-  pub sheet-exactly : (text table question : List ℕ) (q : Request) (start : ℕ) (sheet : List ℕ) (at number : ℕ)
-      → (sheetSays text table question q start sheet at .refusal ≡ number) ↔ sheets.Refusal text table question q start sheet at number
+      → (compileSays text table ≡ record { refusal = number; line = line; column = column; policies = 0; bytes = 0 })
+      ↔ RefusedThere text number (spot line column)
+  pub decide-exactly : (c : DecideCall) (number : ℕ) → (decisionFor c .refusal ≡ number) ↔ DecideRefused c number
+  pub lookup-exactly : (bag : List ℕ) (root : ℕ) (path : List ℕ) → (lookupSays bag root path .refusal ≡ 24) ↔ NoBag bag
+  pub sheet-exactly : (c : SheetCall) (number : ℕ) → (pageFor c .refusal ≡ number) ↔ SheetRefused c number
   -- the number of rows is 0 exactly where the bytes are no question
-  pub rows-exactly : (question : List ℕ) → (rowsSay question ≡ 0) ↔ (isQuestion question ≡ false)
+  pub rows-exactly : (question : List ℕ) → (rowsSay question ≡ 0) ↔ NoQuestion question
   -- a table begins right exactly when the text belongs to the grammar and the table begins with its compiled bytes
   pub begins-exactly : (text table : List ℕ) → (beginsSays text table ≡ true) ↔ Begun text table
-  pub compile-zeros : (text table : List ℕ) → (compileSays text table .refusal ≡ 0 → ⊥) → (compileSays text table .policies ≡ 0) × (compileSays text table .bytes ≡ 0)
-  pub decide-zeros : (text table bag : List ℕ) (q : Request) → (decideSays text table bag q .refusal ≡ 0 → ⊥)
-      → (decideSays text table bag q .outcome ≡ 0) × (decideSays text table bag q .policy ≡ 0)
-  pub lookup-zeros : (bag : List ℕ) (root : ℕ) (path : List ℕ) → (lookupSays bag root path .refusal ≡ 0 → ⊥) → lookupSays bag root path ≡ record { refusal = 24; kind = 0; number = nought; place = 0 }
-  pub sheet-zeros : (text table question : List ℕ) (q : Request) (start : ℕ) (sheet : List ℕ) (at : ℕ) → (sheetSays text table question q start sheet at .refusal ≡ 0 → ⊥)
-      → (sheetSays text table question q start sheet at .written ≡ 0) × (sheetSays text table question q start sheet at .next ≡ 0)
+  pub compile-zeros : (text table : List ℕ) → (compileSays text table .refusal ≡ 0 → ⊥)
+      → (compileSays text table .policies ≡ 0) × (compileSays text table .bytes ≡ 0)
+  pub decide-zeros : (c : DecideCall) → (decisionFor c .refusal ≡ 0 → ⊥) → (decisionFor c .outcome ≡ 0) × (decisionFor c .policy ≡ 0)
+  pub lookup-zeros : (bag : List ℕ) (root : ℕ) (path : List ℕ) → (lookupSays bag root path .refusal ≡ 0 → ⊥)
+      → lookupSays bag root path ≡ record { refusal = 24; kind = 0; number = nought; place = 0 }
+  pub sheet-zeros : (c : SheetCall) → (pageFor c .refusal ≡ 0 → ⊥) → (pageFor c .written ≡ 0) × (pageFor c .next ≡ 0)
 
 -- ---- One result. What a call's contract allows, for each call; any two allowed results coincide, refusals included, and so do what they leave.
 
@@ -294,14 +346,20 @@ pub record SheetAllows (text table question : List ℕ) (q : Request) (start : �
   pub answered : r ≡ sheetSays text table question q start before at
   pub sheet : after ≡ sheetLeaves text table question q start before at
 
+-- the same, of what travels together
+abbrev pub PageAllows : SheetCall → List ℕ → DeskPage → Type 0
+PageAllows c after r = SheetAllows (c .text) (c .table) (c .question) (c .request) (c .start) (c .sheet) (c .at) after r
+
 -- two results that a contract allows are the same
 pub record OneResult : Type 0 where
-  pub of-compile : (text before after after′ : List ℕ) (r r′ : DeskCompiled) → CompileAllows text before after r → CompileAllows text before after′ r′ → (r ≡ r′) × (after ≡ after′)
+  pub of-compile : (text before after after′ : List ℕ) (r r′ : DeskCompiled) → CompileAllows text before after r → CompileAllows text before after′ r′
+      → (r ≡ r′) × (after ≡ after′)
   pub of-begins : (text table : List ℕ) (r r′ : Bool) → r ≡ beginsSays text table → r′ ≡ beginsSays text table → r ≡ r′
-  pub of-decide : (text table bag : List ℕ) (q : Request) (r r′ : DeskDecision) → r ≡ decideSays text table bag q → r′ ≡ decideSays text table bag q → r ≡ r′
+  pub of-decide : (c : DecideCall) (r r′ : DeskDecision) → r ≡ decisionFor c → r′ ≡ decisionFor c → r ≡ r′
   pub of-lookup : (bag : List ℕ) (root : ℕ) (path : List ℕ) (r r′ : DeskValue) → r ≡ lookupSays bag root path → r′ ≡ lookupSays bag root path → r ≡ r′
-  pub of-string : (bag : RefT (List ℕ)) (root : ℕ) (path : List ℕ) (r r′ : RefT (List ℕ)) → StringAllows bag root path r → StringAllows bag root path r′ → (now r ≡ now r′) × (r .ptr ≡ r′ .ptr)
-  pub of-string-place : (bag : List ℕ) (root : ℕ) (path : List ℕ) (r r′ : DeskString) → r ≡ stringSays bag root path → r′ ≡ stringSays bag root path → r ≡ r′
-  pub of-sheet : (text table question : List ℕ) (q : Request) (start : ℕ) (before : List ℕ) (at : ℕ) (after after′ : List ℕ) (r r′ : DeskPage)
-      → SheetAllows text table question q start before at after r → SheetAllows text table question q start before at after′ r′ → (r ≡ r′) × (after ≡ after′)
+  pub of-string : (bag : RefT (List ℕ)) (root : ℕ) (path : List ℕ) (r r′ : RefT (List ℕ)) → StringAllows bag root path r → StringAllows bag root path r′
+      → (now r ≡ now r′) × (r .ptr ≡ r′ .ptr)
+  pub of-string-place : (bag : List ℕ) (root : ℕ) (path : List ℕ) (r r′ : DeskString) → r ≡ stringSays bag root path → r′ ≡ stringSays bag root path
+      → r ≡ r′
+  pub of-sheet : (c : SheetCall) (after after′ : List ℕ) (r r′ : DeskPage) → PageAllows c after r → PageAllows c after′ r′ → (r ≡ r′) × (after ≡ after′)
   pub of-rows : (question : List ℕ) (r r′ : ℕ) → r ≡ rowsSay question → r′ ≡ rowsSay question → r ≡ r′

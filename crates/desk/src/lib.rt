@@ -64,10 +64,10 @@ pub extern "C" fn desk_compile(text: &[u8], table: &mut [u8]) -> DeskCompiled
             policies: policies,
             bytes: bytes,
         },
-        Compiled::Refused(number, line, column) => DeskCompiled {
+        Compiled::Refused(number, spot) => DeskCompiled {
             refusal: number as u32,
-            line: line,
-            column: column,
+            line: spot.line,
+            column: spot.column,
             policies: 0,
             bytes: 0,
         },

@@ -1,263 +1,364 @@
--- From a condition's last entry to the part that is met next, and what is kept on the way. Assumes nothing.
+-- From a condition's last entry to the part that is met next, and what is kept on the way, for any meaning that joins the verdicts of parts. Assumes nothing.
 use mathlib.Core.Path.{_≡_, refl, sym, _∙_, ap, subst}
-use mathlib.Core.Bool.{Bool, true, false, cond, not, _&&_, _||_, false≢true}
+use mathlib.Core.Logic.{_≢_}
+use mathlib.Core.Bool.{Bool, true, false, cond, not, _&&_, false≢true}
 use mathlib.Core.List.{List}
-use Prim.Native.Nat.{ℕ, _-_, _≤_, _<_}
+use Prim.Native.Nat.{ℕ, _+_, _*_, _-_, _≤_, _<_}
 use native.Mathlib.Omega.{arith}
-use lib.Dec.{eqb, ltb}
-use borrow.Author.Tests.{eqb-true, eqb-false, ltb-true, ltb-false, lt-ltb, le-ltb}
+use lib.Dec.{eqb, leb, ltb}
+use borrow.Author.Tests.{eqb-true, eqb-false, ltb-true, ltb-false, leb-true, ne-eqb}
+use Rattle.grammar.specs.Policies.{Tree}
 use Rattle.table.specs.declared.Entry.{Entry}
 use Rattle.table.specs.Layout.{entryAt}
-use Rattle.views.specs.Meaning.{View}
-use Rattle.stored.specs.ReadBack.{treeOf, treeAt}
-use Rattle.stored.specs.Ready.{Ready, ReadyPart, Node}
+use Rattle.stored.specs.ReadBack.{treeIn, treeBy, treeOf, treeAt}
+use Rattle.stored.specs.Ready.{NodeBy, Ready, ReadyPart, Node}
 use Rattle.stored.proofs.Nodes.{as-not, as-brackets, as-both, as-either, as-choice}
 use Rattle.stored.proofs.Evaluating.{node-of}
-use Rattle.meaning.specs.Conditions.{bothOf, eitherOf, choiceOf, verdict, isYes}
+use Rattle.meaning.specs.Conditions.{negated, bothOf, eitherOf, choiceOf}
 use Rattle.meaning.specs.declared.Verdict.{Verdict}
-use Rattle.evaluating.proofs.Verdicts.{Clear, clear, turnedBy, one-more, both-stops, both-on, either-stops, either-on, choice-on}
+use Rattle.meaning.specs.declared.Verdict.the-variants.{Yes, No, Missing}
+use Rattle.evaluating.specs.declared.Way.{Way}
+use Rattle.evaluating.specs.Ways.{partMet, endedBy, goneOn, enteredAt, comeBack, afterYes, afterNo, afterMissing, afterPart, insidePart}
+use Rattle.evaluating.proofs.Verdicts.{unchanged, by-negation, by-both, by-either, by-none, Joining}
 
--- ---- an entry with two parts or three
+-- ---- the way falls: there are fewer entries than 65536
 
-data Joined (k : ℕ) : Type 0 where
-  by-and : k ≡ 26 → Joined k
-  by-or : k ≡ 27 → Joined k
-  by-if : k ≡ 28 → Joined k
+unfoldable pub lengthOf : ℕ → ℕ → ℕ
+lengthOf rest at = cond (eqb rest 0) (65537 * at) (65537 * (rest - 1) + 1 + at)
 
-joined-by : (k : ℕ) (a b : Bool) → eqb k 26 ≡ a → eqb k 27 ≡ b → 26 ≤ k → k ≤ 28 → Joined k
-joined-by k true b p q l h = by-and (eqb-true k 26 p)
-joined-by k false true p q l h = by-or (eqb-true k 27 q)
-joined-by k false false p q l h = by-if (omega (arith, eqb-false k 26 p, eqb-false k 27 q))
+pub less-on : (r a b : ℕ) → a < b → lengthOf r a < lengthOf r b
+unfolding lengthOf
+less-on r a b h = go (eqb r 0)
+  where
+    go : (z : Bool) → cond z (65537 * a) (65537 * (r - 1) + 1 + a) < cond z (65537 * b) (65537 * (r - 1) + 1 + b)
+    go true = omega arith
+    go false = omega arith
 
--- where the part ends that is met first, and the one that is met next
-abbrev pub firstMet : ℕ → Entry → ℕ
-firstMet at x = cond (eqb (x .kind) 28) (x .first) (at - 1)
+less-in : (a b : ℕ) → a < b → b < 65536 → lengthOf b a < lengthOf 0 b
+unfolding lengthOf
+less-in a b h k = rw (ne-eqb b 0 (λ z. omega arith)) (omega arith)
 
-abbrev pub nextMet : ℕ → Entry → Bool → ℕ
-nextMet at x b = cond (eqb (x .kind) 28) (cond b (x .second) (at - 1)) (x .first)
+less-back : (r a : ℕ) → a < r → lengthOf 0 a < lengthOf r 0
+unfolding lengthOf
+less-back r a h = rw (ne-eqb r 0 (λ z. omega arith)) (omega arith)
 
--- the part that is met first, or all that is left
-abbrev pub partMet : ℕ → Entry → ℕ
-partMet at x = cond (ltb (x .kind) 26) at (firstMet at x)
+-- ---- what is left
 
+module _ (text table : List ℕ) (m : Tree → Verdict) (end : ℕ) where
+  -- What v is: the verdict of the whole; or that of the part that is met first of what ends before `rest`, which gives the verdict of the whole.
+  pub data Aim (rest : ℕ) (held kept v : Verdict) : Type 0 where
+    the-whole : rest ≡ 0 → v ≡ m (treeAt table end) → Aim rest held kept v
+    a-part : Ready text table rest → rest ≤ end → choiceOf (m (treeAt table rest)) held kept ≡ m (treeAt table end)
+        → v ≡ m (treeAt table (partMet rest (entryAt table (rest - 1)))) → Aim rest held kept v
+
+  -- What is left to be met. Where `at` is 0 there is nothing; by itself its verdict would be No.
+  pub record Going (w : Way) : Type 0 where
+    pub here : 0 < w .at → Ready text table (w .at)
+    pub low : w .at ≤ end
+    pub is : Aim (w .rest) (w .held) (w .kept) (choiceOf (m (treeAt table (w .at))) (w .yes) (w .no))
+
+  -- a turn of the loop, with the same rest
+  pub record Turn (w u : Way) : Type 0 where
+    pub going : Going u
+    pub falls : u .at < w .at
+    pub same : u .rest ≡ w .rest
+
+-- the entry's kind, and where its part ends that is met first
 data Met (at : ℕ) (x : Entry) (part : ℕ) : Type 0 where
   whole : x .kind < 26 → part ≡ at → Met at x part
-  first : 26 ≤ x .kind → part ≡ firstMet at x → Met at x part
+  by-and : x .kind ≡ 26 → part ≡ at - 1 → Met at x part
+  by-or : x .kind ≡ 27 → part ≡ at - 1 → Met at x part
+  by-if : x .kind ≡ 28 → part ≡ x .first → Met at x part
 
-met-by : (at : ℕ) (x : Entry) (part : ℕ) → part ≡ partMet at x → Met at x part
-met-by at x part q = go (ltb (x .kind) 26) refl q
+met-by : (at : ℕ) (x : Entry) (part : ℕ) → x .kind ≤ 28 → part ≡ partMet at x → Met at x part
+met-by at x part h q = go (ltb (x .kind) 26) (eqb (x .kind) 28) refl refl q
   where
-    go : (b : Bool) → ltb (x .kind) 26 ≡ b → part ≡ cond b at (firstMet at x) → Met at x part
-    go true e q = whole (ltb-true (x .kind) 26 e) q
-    go false e q = first (ltb-false (x .kind) 26 e) q
+    two : (b : Bool) → eqb (x .kind) 26 ≡ b → 26 ≤ x .kind → (x .kind ≡ 28 → ⊥) → part ≡ at - 1 → Met at x part
+    two true e l n q = by-and (eqb-true (x .kind) 26 e) q
+    two false e l n q = let d = eqb-false (x .kind) 26 e in by-or (omega arith) q
 
--- `&&` stops at false, `||` at true
-abbrev pub stopping : ℕ → Bool → Bool
-stopping k b = (eqb k 26 && not b) || (eqb k 27 && b)
+    go : (b c : Bool) → ltb (x .kind) 26 ≡ b → eqb (x .kind) 28 ≡ c → part ≡ cond b at (cond c (x .first) (at - 1)) → Met at x part
+    go true c e d q = whole (ltb-true (x .kind) 26 e) q
+    go false true e d q = by-if (eqb-true (x .kind) 28 d) q
+    go false false e d q = two (eqb (x .kind) 26) refl (ltb-false (x .kind) 26 e) (eqb-false (x .kind) 28 d) q
 
--- nothing is met after that part
-abbrev pub lastBy : ℕ → Bool → Bool
-lastBy k b = ltb k 26 || (eqb k 26 && not b) || (eqb k 27 && b)
+-- ---- what stands where
 
-last-joined : (k : ℕ) (b c : Bool) → 26 ≤ k → lastBy k b ≡ c → stopping k b ≡ c
-last-joined k b c l h = rw (le-ltb k 26 l) at h
+module _ {text : List ℕ} {table : ℕ → Entry} {many : ℕ} {m : Tree → Verdict} (j : Joining m) {at : ℕ} {x : Entry} (n : NodeBy text table many at x) where
+  -- the verdict of the condition that ends before number e
+  abbrev ended : ℕ → Verdict
+  ended e = m (treeBy table e)
 
-last-whole : (k : ℕ) (b : Bool) → k < 26 → lastBy k b ≡ false → ⊥
-last-whole k b l h = let z : true ≡ false = rw (lt-ltb k 26 l) at h in false≢true (sym z)
+  -- what the verdict of all that is left becomes
+  abbrev becomes : Verdict → Verdict → Verdict
+  becomes a b = choiceOf (ended at) a b
 
-and-stops : (b : Bool) → stopping 26 b ≡ true → b ≡ false
-and-stops true h = sym h
-and-stops false h = refl
+  not-becomes : (a b : Verdict) → x .kind ≡ 24 → becomes a b ≡ choiceOf (ended (at - 1)) b a
+  not-becomes a b e = ap (λ (v : Verdict). choiceOf v a b) (ap m (n .is ∙ as-not (treeBy table) table at x e) ∙ j .negation _) ∙ by-negation _ a b
 
-and-goes : (b : Bool) → stopping 26 b ≡ false → b ≡ true
-and-goes true h = refl
-and-goes false h = sym h
+  brackets-becomes : (a b : Verdict) → x .kind ≡ 25 → becomes a b ≡ choiceOf (ended (at - 1)) a b
+  brackets-becomes a b e = ap (λ (v : Verdict). choiceOf v a b) (ap m (n .is ∙ as-brackets (treeBy table) table at x e) ∙ j .bracketed _)
 
-or-stops : (b : Bool) → stopping 27 b ≡ true → b ≡ true
-or-stops true h = refl
-or-stops false h = h
+  both-becomes : (a b v : Verdict) → x .kind ≡ 26 → v ≡ ended (at - 1) → becomes a b ≡ choiceOf (ended (x .first)) (choiceOf v a b) b
+  both-becomes a b v e r =
+      ap (λ (u : Verdict). choiceOf u a b) (ap m (n .is ∙ as-both (treeBy table) table at x e) ∙ j .conjunction _ _)
+      ∙ by-both (ended (x .first)) (ended (at - 1)) a b
+      ∙ ap (λ (u : Verdict). choiceOf (ended (x .first)) (choiceOf u a b) b) (sym r)
 
-or-goes : (b : Bool) → stopping 27 b ≡ false → b ≡ false
-or-goes true h = h
-or-goes false h = refl
+  either-becomes : (a b v : Verdict) → x .kind ≡ 27 → v ≡ ended (at - 1) → becomes a b ≡ choiceOf (ended (x .first)) a (choiceOf v a b)
+  either-becomes a b v e r =
+      ap (λ (u : Verdict). choiceOf u a b) (ap m (n .is ∙ as-either (treeBy table) table at x e) ∙ j .disjunction _ _)
+      ∙ by-either (ended (x .first)) (ended (at - 1)) a b
+      ∙ ap (λ (u : Verdict). choiceOf (ended (x .first)) a (choiceOf u a b)) (sym r)
 
-if-stops : (b : Bool) → stopping 28 b ≡ true → ⊥
-if-stops true h = false≢true h
-if-stops false h = false≢true h
+  choice-becomes : (a b v : Verdict) → x .kind ≡ 28 → v ≡ ended (x .first) → becomes a b ≡ choiceOf (choiceOf v (ended (x .second)) (ended (at - 1))) a b
+  choice-becomes a b v e r =
+      ap (λ (u : Verdict). choiceOf u a b) (ap m (n .is ∙ as-choice (treeBy table) table at x e) ∙ j .chosen _ _ _)
+      ∙ ap (λ (u : Verdict). choiceOf (choiceOf u (ended (x .second)) (ended (at - 1))) a b) (sym r)
 
-module _ {text table : List ℕ} {at : ℕ} {x : Entry} (n : Node text table at x) where
-  joined-of : 26 ≤ x .kind → Joined (x .kind)
-  joined-of l = joined-by (x .kind) (eqb (x .kind) 26) (eqb (x .kind) 27) refl refl l (n .high)
+-- ---- a turn
 
-  pub first-ready : {part : ℕ} → 26 ≤ x .kind → part ≡ firstMet at x → ReadyPart text table at part
-  first-ready {part} l q = go (joined-of l)
-    where
-      go : Joined (x .kind) → ReadyPart text table at part
-      go (by-and e) = subst (ReadyPart text table at) (sym (q ∙ rw e)) (n .parts .last (omega arith))
-      go (by-or e) = subst (ReadyPart text table at) (sym (q ∙ rw e)) (n .parts .last (omega arith))
-      go (by-if e) = subst (ReadyPart text table at) (sym (q ∙ rw e)) (n .parts .left (omega arith))
+pub set-out : {text table : List ℕ} {m : Tree → Verdict} {end : ℕ} → Ready text table end
+    → Going text table m end (record { at = end; yes = Yes; no = No; rest = 0; held = Yes; kept = Yes })
+set-out r = record { here = λ h. r; low = omega arith; is = the-whole refl (unchanged _) }
 
-  chosen-ready : (b : Bool) → x .kind ≡ 28 → ReadyPart text table at (cond b (x .second) (at - 1))
-  chosen-ready true e = n .parts .middle e
-  chosen-ready false e = n .parts .last (omega arith)
-
-  pub next-ready : (b : Bool) {part : ℕ} → 26 ≤ x .kind → part ≡ nextMet at x b → ReadyPart text table at part
-  next-ready b {part} l q = go (joined-of l)
-    where
-      go : Joined (x .kind) → ReadyPart text table at part
-      go (by-and e) = subst (ReadyPart text table at) (sym (q ∙ rw e)) (n .parts .left (omega arith))
-      go (by-or e) = subst (ReadyPart text table at) (sym (q ∙ rw e)) (n .parts .left (omega arith))
-      go (by-if e) = subst (ReadyPart text table at) (sym (q ∙ rw e)) (chosen-ready b e)
-
-  module _ (view : View) where
-    -- the verdict of the condition that ends before number m
-    abbrev ended : ℕ → Verdict
-    ended m = verdict text view (treeAt table m)
-
-    both-is : x .kind ≡ 26 → ended at ≡ bothOf (ended (x .first)) (ended (at - 1))
-    unfolding verdict
-    both-is e = ap (verdict text view) (n .is ∙ as-both (treeAt table) table at x e)
-
-    either-is : x .kind ≡ 27 → ended at ≡ eitherOf (ended (x .first)) (ended (at - 1))
-    unfolding verdict
-    either-is e = ap (verdict text view) (n .is ∙ as-either (treeAt table) table at x e)
-
-    choice-is : x .kind ≡ 28 → ended at ≡ choiceOf (ended (x .first)) (ended (x .second)) (ended (at - 1))
-    unfolding verdict
-    choice-is e = ap (verdict text view) (n .is ∙ as-choice (treeAt table) table at x e)
-
-    chosen-is : (b : Bool) → cond b (ended (x .second)) (ended (at - 1)) ≡ ended (cond b (x .second) (at - 1))
-    chosen-is true = refl
-    chosen-is false = refl
-
-    clear-at : (m : ℕ) → Clear (ended m)
-    clear-at m = clear text view (treeAt table m)
-
-    module _ {part : ℕ} {v : Verdict} {b : Bool} (l : 26 ≤ x .kind) (q : part ≡ firstMet at x) (r : v ≡ ended part) (y : b ≡ isYes v) where
-      right-is : firstMet at x ≡ at - 1 → v ≡ ended (at - 1)
-      right-is e = r ∙ ap ended (q ∙ e)
-
-      -- where the part that is met first stops the chain, its verdict is the chain's
-      stops : stopping (x .kind) b ≡ true → v ≡ ended at
-      stops s = go (joined-of l)
-        where
-          go : Joined (x .kind) → v ≡ ended at
-          go (by-and e) =
-              let w = right-is (rw e) in
-              w ∙ both-stops (clear-at (x .first)) (clear-at (at - 1)) (ap isYes (sym w) ∙ sym y ∙ and-stops b (rw e at s)) ∙ sym (both-is e)
-          go (by-or e) =
-              let w = right-is (rw e) in
-              w ∙ either-stops (clear-at (x .first)) (clear-at (at - 1)) (ap isYes (sym w) ∙ sym y ∙ or-stops b (rw e at s)) ∙ sym (either-is e)
-          go (by-if e) = absurd (if-stops b (rw e at s))
-
-      -- else the condition's verdict is that of the part that is met next
-      goes : {next : ℕ} → stopping (x .kind) b ≡ false → next ≡ nextMet at x b → ended at ≡ ended next
-      goes {next} s m = go (joined-of l)
-        where
-          go : Joined (x .kind) → ended at ≡ ended next
-          go (by-and e) =
-              both-is e ∙ both-on (clear-at (x .first)) (clear-at (at - 1)) (ap isYes (sym (right-is (rw e))) ∙ sym y ∙ and-goes b (rw e at s)) ∙ ap ended (sym (m ∙ rw e))
-          go (by-or e) =
-              either-is e ∙ either-on (clear-at (x .first)) (clear-at (at - 1)) (ap isYes (sym (right-is (rw e))) ∙ sym y ∙ or-goes b (rw e at s)) ∙ ap ended (sym (m ∙ rw e))
-          go (by-if e) =
-              let w : v ≡ ended (x .first) = r ∙ ap ended (q ∙ rw e) in
-              let known : isYes (ended (x .first)) ≡ b = ap isYes (sym w) ∙ sym y in
-              choice-is e ∙ choice-on (ended (x .second)) (ended (at - 1)) (clear-at (x .first))
-              ∙ ap (λ (c : Bool). cond c (ended (x .second)) (ended (at - 1))) known ∙ chosen-is b ∙ ap ended (sym (m ∙ rw e))
-
--- ---- on the way
-
--- what is left to be met ends before `at`, and its verdict, turned where `odd`, is that of the whole
-pub record Going (text table : List ℕ) (view : View) (end at : ℕ) (odd : Bool) : Type 0 where
-  pub here : Ready text table at
-  pub low : at ≤ end
-  pub is : turnedBy odd (verdict text view (treeAt table at)) ≡ verdict text view (treeAt table end)
-
-pub set-out : {text table : List ℕ} {view : View} {end : ℕ} → Ready text table end → Going text table view end end false
-set-out r = record { here = r; low = omega arith; is = refl }
-
-module _ {text table : List ℕ} {view : View} {end at : ℕ} {odd : Bool} (g : Going text table view end at odd) where
+module _ {text table : List ℕ} {m : Tree → Verdict} (j : Joining m) {end : ℕ} {w : Way} (g : Going text table m end w) (some : 0 < w .at) where
   -- the entry that is read there
-  pub met : {x : Entry} → x ≡ entryAt table (at - 1) → Node text table at x
-  met e = subst (Node text table at) (sym e) (node-of (g .here))
+  pub met : {x : Entry} → x ≡ entryAt table (w .at - 1) → Node text table (w .at) x
+  met e = subst (Node text table (w .at)) (sym e) (node-of (g .here some))
 
-  arrived : {v w : Verdict} → w ≡ turnedBy odd v → v ≡ verdict text view (treeAt table at) → w ≡ verdict text view (treeAt table end)
-  arrived q e = q ∙ ap (turnedBy odd) e ∙ g .is
+  abbrev left : Verdict
+  left = choiceOf (m (treeAt table (w .at))) (w .yes) (w .no)
 
-  go-on : {part : ℕ} → ReadyPart text table at part → verdict text view (treeAt table at) ≡ verdict text view (treeAt table part) → Going text table view end part odd
-  go-on r e = record { here = r .ready; low = let l = r .falls in let h = g .low in omega arith; is = ap (turnedBy odd) (sym e) ∙ g .is }
+  go-on : (part : ℕ) (a b : Verdict) → ReadyPart text table (w .at) part → left ≡ choiceOf (m (treeAt table part)) a b → Turn text table m end w (goneOn w part a b)
+  unfolding goneOn
+  go-on part a b r e =
+      record {
+        going = record {
+          here = λ h. r .ready;
+          low = let l = r .falls in let h = g .low in omega arith;
+          is = subst (Aim text table m end (w .rest) (w .held) (w .kept)) e (g .is);
+        };
+        falls = r .falls;
+        same = refl;
+      }
 
-  module _ {x : Entry} (n : Node text table at x) where
-    under-not : x .kind ≡ 24 → Going text table view end (at - 1) (not odd)
-    unfolding verdict
-    under-not e =
-        let p = n .parts .last (omega arith) in let l = p .falls in let h = g .low in
-        record {
-          here = p .ready;
+  go-end : (k : Verdict) → left ≡ k → Turn text table m end w (endedBy w k)
+  unfolding endedBy treeIn choiceOf
+  go-end k e =
+      record {
+        going = record {
+          here = λ h. absurd (omega arith);
           low = omega arith;
-          is = one-more odd _ ∙ ap (turnedBy odd) (sym (ap (verdict text view) (n .is ∙ as-not (treeAt table) table at x e))) ∙ g .is;
-        }
+          is = subst (Aim text table m end (w .rest) (w .held) (w .kept)) (e ∙ sym (ap (λ (v : Verdict). choiceOf v (w .yes) k) (j .nothing))) (g .is);
+        };
+        falls = some;
+        same = refl;
+      }
 
-    in-brackets : x .kind ≡ 25 → Going text table view end (at - 1) odd
-    unfolding verdict
-    in-brackets e = go-on (n .parts .last (omega arith)) (ap (verdict text view) (n .is ∙ as-brackets (treeAt table) table at x e))
+  module _ {x : Entry} (n : Node text table (w .at) x) where
+    last-part : 24 ≤ x .kind → ReadyPart text table (w .at) (w .at - 1)
+    last-part l = n .parts .last l
 
-    -- inside `!` or brackets
-    pub inside : {o : Bool} → 23 < x .kind → x .kind < 26 → o ≡ cond (eqb (x .kind) 24) (not odd) odd → Going text table view end (at - 1) o
-    inside {o} l h q = go (eqb (x .kind) 24) refl q
-      where
-        go : (b : Bool) → eqb (x .kind) 24 ≡ b → o ≡ cond b (not odd) odd → Going text table view end (at - 1) o
-        go true e q = subst (Going text table view end (at - 1)) (sym q) (under-not (eqb-true (x .kind) 24 e))
-        go false e q = let d = eqb-false (x .kind) 24 e in subst (Going text table view end (at - 1)) (sym q) (in-brackets (omega arith))
+    left-part : 26 ≤ x .kind → ReadyPart text table (w .at) (x .first)
+    left-part l = n .parts .left l
 
-    module _ {part : ℕ} {v : Verdict} {b : Bool} (l : 26 ≤ x .kind) (q : part ≡ firstMet at x) (r : v ≡ verdict text view (treeAt table part)) (y : b ≡ isYes v) where
-      stopped : {w : Verdict} → stopping (x .kind) b ≡ true → w ≡ turnedBy odd v → w ≡ verdict text view (treeAt table end)
-      stopped s t = arrived t (stops n view l q r y s)
+    -- the part is all that is left
+    all-becomes : {part : ℕ} (v : Verdict) → v ≡ m (treeAt table part) → part ≡ w .at → left ≡ choiceOf v (w .yes) (w .no)
+    all-becomes v r q = ap (λ (u : Verdict). choiceOf u (w .yes) (w .no)) (sym (r ∙ ap (λ (e : ℕ). m (treeAt table e)) q))
 
-      gone-on : {next : ℕ} → stopping (x .kind) b ≡ false → next ≡ nextMet at x b → Going text table view end next odd
-      gone-on s m = go-on (next-ready n b l m) (goes n view l q r y s m)
+    part-is : {part e : ℕ} {v : Verdict} → v ≡ m (treeAt table part) → part ≡ e → v ≡ m (treeAt table e)
+    part-is r q = r ∙ ap (λ (e : ℕ). m (treeAt table e)) q
 
-    module _ {part : ℕ} (q : part ≡ partMet at x) where
+    yes-turn : (s : Bool) {part : ℕ} → (s ≡ true → (e : ℕ) → m (treeAt table e) ≢ Missing) → Yes ≡ m (treeAt table part) → Met (w .at) x part → Turn text table m end w (afterYes s w x)
+    unfolding afterYes choiceOf
+    yes-turn s c r (whole l q) =
+        rw (ne-eqb (x .kind) 26 (λ e. omega arith), ne-eqb (x .kind) 28 (λ e. omega arith), ne-eqb (x .kind) 27 (λ e. omega arith)) (go-end (w .yes) (all-becomes Yes r q))
+    yes-turn s c r (by-and e q) = rw e (go-on (x .first) (w .yes) (w .no) (left-part (omega arith)) (both-becomes j n (w .yes) (w .no) Yes e (part-is r q)))
+    yes-turn true c r (by-or e q) =
+        rw e (go-end (w .yes) (either-becomes j n (w .yes) (w .no) Yes e (part-is r q) ∙ by-none (m (treeAt table (x .first))) (w .yes) (c refl (x .first))))
+    yes-turn false c r (by-or e q) = rw e (go-on (x .first) (w .yes) (w .yes) (left-part (omega arith)) (either-becomes j n (w .yes) (w .no) Yes e (part-is r q)))
+    yes-turn s c r (by-if e q) = rw e (go-on (x .second) (w .yes) (w .no) (n .parts .middle e) (choice-becomes j n (w .yes) (w .no) Yes e (part-is r q)))
+
+    no-turn : (s : Bool) {part : ℕ} → (s ≡ true → (e : ℕ) → m (treeAt table e) ≢ Missing) → No ≡ m (treeAt table part) → Met (w .at) x part → Turn text table m end w (afterNo s w x)
+    unfolding afterNo choiceOf
+    no-turn s c r (whole l q) =
+        rw (ne-eqb (x .kind) 26 (λ e. omega arith), ne-eqb (x .kind) 28 (λ e. omega arith), ne-eqb (x .kind) 27 (λ e. omega arith)) (go-end (w .no) (all-becomes No r q))
+    no-turn s c r (by-or e q) = rw e (go-on (x .first) (w .yes) (w .no) (left-part (omega arith)) (either-becomes j n (w .yes) (w .no) No e (part-is r q)))
+    no-turn true c r (by-and e q) =
+        rw e (go-end (w .no) (both-becomes j n (w .yes) (w .no) No e (part-is r q) ∙ by-none (m (treeAt table (x .first))) (w .no) (c refl (x .first))))
+    no-turn false c r (by-and e q) = rw e (go-on (x .first) (w .no) (w .no) (left-part (omega arith)) (both-becomes j n (w .yes) (w .no) No e (part-is r q)))
+    no-turn s c r (by-if e q) = rw e (go-on (w .at - 1) (w .yes) (w .no) (last-part (omega arith)) (choice-becomes j n (w .yes) (w .no) No e (part-is r q)))
+
+    missing-turn : {part : ℕ} → Missing ≡ m (treeAt table part) → Met (w .at) x part → Turn text table m end w (afterMissing w x)
+    unfolding afterMissing choiceOf
+    missing-turn r (whole l q) =
+        rw (ne-eqb (x .kind) 26 (λ e. omega arith), ne-eqb (x .kind) 27 (λ e. omega arith)) (go-end Missing (all-becomes Missing r q))
+    missing-turn r (by-or e q) = rw e (go-on (x .first) (w .yes) Missing (left-part (omega arith)) (either-becomes j n (w .yes) (w .no) Missing e (part-is r q)))
+    missing-turn r (by-and e q) = rw e (go-on (x .first) Missing (w .no) (left-part (omega arith)) (both-becomes j n (w .yes) (w .no) Missing e (part-is r q)))
+    missing-turn r (by-if e q) = rw e (go-end Missing (choice-becomes j n (w .yes) (w .no) Missing e (part-is r q)))
+
+    inside-not : x .kind ≡ 24 → Turn text table m end w (insidePart w x)
+    unfolding insidePart
+    inside-not e = rw e (go-on (w .at - 1) (w .no) (w .yes) (last-part (omega arith)) (not-becomes j n (w .yes) (w .no) e))
+
+    inside-brackets : x .kind ≡ 25 → Turn text table m end w (insidePart w x)
+    unfolding insidePart
+    inside-brackets e = rw e (go-on (w .at - 1) (w .yes) (w .no) (last-part (omega arith)) (brackets-becomes j n (w .yes) (w .no) e))
+
+    module _ {part : ℕ} (q : part ≡ partMet (w .at) x) where
+      how : Met (w .at) x part
+      how = met-by (w .at) x part (n .high) q
+
+      -- after the verdict of the part that is met first
+      pub after-turn : {s : Bool} {v : Verdict} {u : Way} → (s ≡ true → (e : ℕ) → m (treeAt table e) ≢ Missing) → v ≡ m (treeAt table part) → u ≡ afterPart s w x v → Turn text table m end w u
+      after-turn {s} {v} c r d = subst (Turn text table m end w) (sym d) (go v r)
+        where
+          go : (v : Verdict) → v ≡ m (treeAt table part) → Turn text table m end w (afterPart s w x v)
+          go Yes r = yes-turn s c r how
+          go No r = no-turn s c r how
+          go Missing r = missing-turn r how
+
       pub part-ready : Ready text table part
-      part-ready = go (met-by at x part q)
+      part-ready = go how
         where
-          go : Met at x part → Ready text table part
-          go (whole l e) = subst (Ready text table) (sym e) (g .here)
-          go (first l e) = first-ready n l e .ready
+          go : Met (w .at) x part → Ready text table part
+          go (whole l e) = subst (Ready text table) (sym e) (g .here some)
+          go (by-and k e) = subst (Ready text table) (sym e) (last-part (omega arith) .ready)
+          go (by-or k e) = subst (Ready text table) (sym e) (last-part (omega arith) .ready)
+          go (by-if k e) = subst (Ready text table) (sym e) (left-part (omega arith) .ready)
 
-      pub part-falls : 26 ≤ x .kind → part < at
-      part-falls l = go (met-by at x part q)
+      part-before : 26 ≤ x .kind → part < w .at
+      part-before h = go how
         where
-          go : Met at x part → part < at
-          go (whole h e) = absurd (omega arith)
-          go (first h e) = first-ready n h e .falls
+          go : Met (w .at) x part → part < w .at
+          go (whole l e) = absurd (omega arith)
+          go (by-and k e) = let f = last-part (omega arith) .falls in omega arith
+          go (by-or k e) = let f = last-part (omega arith) .falls in omega arith
+          go (by-if k e) = let f = left-part (omega arith) .falls in omega arith
+
+      pub part-falls : 26 ≤ x .kind → part < end
+      part-falls h = let f = part-before h in let l = g .low in omega arith
+
+      -- in the part that is met first, with the rest kept
+      entered-is : w .rest ≡ 0 → left ≡ m (treeAt table end)
+      entered-is z = go (g .is)
+        where
+          go : Aim text table m end (w .rest) (w .held) (w .kept) left → left ≡ m (treeAt table end)
+          go (the-whole y e) = e
+          go (a-part r l c e) = let k = node-of r .some in absurd (omega arith)
+
+      pub entering : {u : Way} → x ≡ entryAt table (w .at - 1) → w .rest < 1 → u ≡ enteredAt w part → Going text table m end u
+      unfolding enteredAt
+      entering i z d =
+          subst (Going text table m end) (sym d)
+          (record {
+            here = λ h. part-ready;
+            low = part-low how;
+            is = a-part (g .here some) (g .low) (entered-is (omega arith)) (unchanged _ ∙ ap (λ (e : ℕ). m (treeAt table e)) (q ∙ ap (partMet (w .at)) i));
+          })
+        where
+          part-low : Met (w .at) x part → part ≤ end
+          part-low (whole l e) = let l = g .low in omega arith
+          part-low (by-and k e) = let f = last-part (omega arith) .falls in let l = g .low in omega arith
+          part-low (by-or k e) = let f = last-part (omega arith) .falls in let l = g .low in omega arith
+          part-low (by-if k e) = let f = left-part (omega arith) .falls in let l = g .low in omega arith
+
+      pub entering-less : {u : Way} → 26 ≤ x .kind → w .rest < 1 → u ≡ enteredAt w part → lengthOf (u .rest) (u .at) < lengthOf (w .rest) (w .at)
+      unfolding enteredAt
+      entering-less h z d =
+          let e : w .rest ≡ 0 = omega arith in
+          subst (λ (u : Way). lengthOf (u .rest) (u .at) < lengthOf (w .rest) (w .at)) (sym d)
+          (subst (λ (r : ℕ). lengthOf (w .at) part < lengthOf r (w .at)) (sym e) (less-in part (w .at) (part-before h) (n .few)))
 
       -- the entry that is read there
       pub part-node : {z : Entry} → z ≡ entryAt table (part - 1) → Node text table part z
       part-node e = subst (Node text table part) (sym e) (node-of part-ready)
 
-      pub same-kind : {z : Entry} → x ≡ entryAt table (at - 1) → z ≡ entryAt table (part - 1) → x .kind < 26 → 23 < z .kind → 23 < x .kind
-      same-kind {z} i j l h = go (met-by at x part q)
-        where
-          go : Met at x part → 23 < x .kind
-          go (first k e) = absurd (omega arith)
-          go (whole k e) = let s : z ≡ x = j ∙ ap (λ (m : ℕ). entryAt table (m - 1)) e ∙ sym i in subst (λ (u : Entry). 23 < u .kind) s h
-
-      module _ {v : Verdict} {b : Bool} (r : v ≡ verdict text view (treeAt table part)) (y : b ≡ isYes v) where
-        pub last-met : {w : Verdict} → lastBy (x .kind) b ≡ true → w ≡ turnedBy odd v → w ≡ verdict text view (treeAt table end)
-        last-met {w} s t = go (met-by at x part q)
-          where
-            go : Met at x part → w ≡ verdict text view (treeAt table end)
-            go (whole l e) = arrived t (r ∙ ap (λ (m : ℕ). verdict text view (treeAt table m)) e)
-            go (first l e) = stopped l e r y (last-joined (x .kind) b true l s) t
-
-        pub next-going : {next : ℕ} → lastBy (x .kind) b ≡ false → next ≡ nextMet at x b → Going text table view end next odd × (next < at)
-        next-going {next} s m = go (met-by at x part q)
-          where
-            go : Met at x part → Going text table view end next odd × (next < at)
-            go (whole l e) = absurd (last-whole (x .kind) b l s)
-            go (first l e) = (gone-on l e r y (last-joined (x .kind) b false l s) m, next-ready n b l m .falls)
-
       -- the verdict of a part without parts
-      pub flat-part : {z : Entry} {v : Verdict} → z ≡ entryAt table (part - 1) → v ≡ verdict text view (treeOf (treeAt table) table part z) → v ≡ verdict text view (treeAt table part)
-      flat-part e d = d ∙ ap (verdict text view) (sym (part-node e .is))
+      pub flat-part : {z : Entry} {v : Verdict} → z ≡ entryAt table (part - 1) → v ≡ m (treeOf table part z) → v ≡ m (treeAt table part)
+      flat-part e d = d ∙ ap m (sym (part-node e .is))
+
+      same-kind : {z : Entry} → x ≡ entryAt table (w .at - 1) → z ≡ entryAt table (part - 1) → 23 < z .kind → x .kind < 26 → 23 < x .kind
+      same-kind {z} i k h l = go how
+        where
+          go : Met (w .at) x part → 23 < x .kind
+          go (whole b e) = let s : z ≡ x = k ∙ ap (λ (e : ℕ). entryAt table (e - 1)) e ∙ sym i in subst (λ (u : Entry). 23 < u .kind) s h
+          go (by-and b e) = omega arith
+          go (by-or b e) = omega arith
+          go (by-if b e) = omega arith
+
+      -- inside `!` or brackets
+      pub inside-turn : {z : Entry} {u : Way} → x ≡ entryAt table (w .at - 1) → z ≡ entryAt table (part - 1) → 23 < z .kind → x .kind < 26 → u ≡ insidePart w x → Turn text table m end w u
+      inside-turn i k h l d = subst (Turn text table m end w) (sym d) (one (eqb (x .kind) 24) refl (same-kind i k h l))
+        where
+          one : (b : Bool) → eqb (x .kind) 24 ≡ b → 23 < x .kind → Turn text table m end w (insidePart w x)
+          one true e h = inside-not (eqb-true (x .kind) 24 e)
+          one false e h = let f = eqb-false (x .kind) 24 e in inside-brackets (omega arith)
+
+pub turn-less : {text table : List ℕ} {m : Tree → Verdict} {end : ℕ} {w u : Way} → Turn text table m end w u → lengthOf (u .rest) (u .at) < lengthOf (w .rest) (w .at)
+turn-less {w = w} {u = u} t = subst (λ (r : ℕ). lengthOf r (u .at) < lengthOf (w .rest) (w .at)) (sym (t .same)) (less-on (w .rest) (u .at) (w .at) (t .falls))
+
+-- ---- nothing is left
+
+module _ {text table : List ℕ} {m : Tree → Verdict} (j : Joining m) {end : ℕ} {w : Way} (g : Going text table m end w) (none : w .at < 1) where
+  became : choiceOf (m (treeAt table (w .at))) (w .yes) (w .no) ≡ w .no
+  unfolding treeIn choiceOf
+  became =
+      let a : w .at ≡ 0 = omega arith in
+      ap (λ (v : Verdict). choiceOf v (w .yes) (w .no)) (ap (λ (e : ℕ). m (treeAt table e)) a ∙ j .nothing)
+
+  pub arrived : w .rest < 1 → w .no ≡ m (treeAt table end)
+  arrived z = go (g .is)
+    where
+      go : Aim text table m end (w .rest) (w .held) (w .kept) (choiceOf (m (treeAt table (w .at))) (w .yes) (w .no)) → w .no ≡ m (treeAt table end)
+      go (the-whole y e) = sym became ∙ e
+      go (a-part r l c e) = let k = node-of r .some in absurd (omega arith)
+
+  pub rest-ready : 1 ≤ w .rest → Ready text table (w .rest)
+  rest-ready z = go (g .is)
+    where
+      go : Aim text table m end (w .rest) (w .held) (w .kept) (choiceOf (m (treeAt table (w .at))) (w .yes) (w .no)) → Ready text table (w .rest)
+      go (the-whole y e) = absurd (omega arith)
+      go (a-part r l c e) = r
+
+  -- the way that was kept
+  pub back : {u : Way} → 1 ≤ w .rest → u ≡ comeBack w → Going text table m end u
+  unfolding comeBack
+  back z d = subst (Going text table m end) (sym d) (go (g .is))
+    where
+      go : Aim text table m end (w .rest) (w .held) (w .kept) (choiceOf (m (treeAt table (w .at))) (w .yes) (w .no)) → Going text table m end (comeBack w)
+      go (the-whole y e) = absurd (omega arith)
+      go (a-part r l c e) = record { here = λ h. r; low = l; is = the-whole refl c }
+
+  pub back-at : {u : Way} → u ≡ comeBack w → u .at ≡ w .rest
+  unfolding comeBack
+  back-at d = ap (λ (u : Way). u .at) d
+
+  pub back-rest : {u : Way} → u ≡ comeBack w → u .rest ≡ 0
+  unfolding comeBack
+  back-rest d = ap (λ (u : Way). u .rest) d
+
+  -- its part's verdict was found
+  pub found : {u : Way} {x : Entry} → 1 ≤ w .rest → u ≡ comeBack w → x ≡ entryAt table (w .rest - 1) → w .no ≡ m (treeAt table (partMet (u .at) x))
+  found {u} {x} z d i = go (g .is)
+    where
+      go : Aim text table m end (w .rest) (w .held) (w .kept) (choiceOf (m (treeAt table (w .at))) (w .yes) (w .no)) → w .no ≡ m (treeAt table (partMet (u .at) x))
+      go (the-whole y e) = absurd (omega arith)
+      go (a-part r l c e) = sym became ∙ e ∙ rw (back-at d, i)
+
+  pub back-less : {u t : Way} → 1 ≤ w .rest → u ≡ comeBack w → Turn text table m end u t → lengthOf (t .rest) (t .at) < lengthOf (w .rest) (w .at)
+  back-less {u} {t} z d k =
+      let a : w .at ≡ 0 = omega arith in
+      let f : t .at < w .rest = subst (λ (e : ℕ). t .at < e) (back-at d) (k .falls) in
+      let same : t .rest ≡ 0 = k .same ∙ back-rest d in
+      rw (a, same) (less-back (w .rest) (t .at) f)
+
+  -- and it goes on after that
+  pub back-turn : {u t : Way} {x : Entry} {s : Bool} → (s ≡ true → (e : ℕ) → m (treeAt table e) ≢ Missing) → 1 ≤ w .rest → x ≡ entryAt table (w .rest - 1)
+      → u ≡ comeBack w → t ≡ afterPart s u x (w .no) → Turn text table m end u t
+  back-turn {u} {t} {x} c z i d a =
+      let h = back z d in
+      let some : 0 < u .at = subst (λ (e : ℕ). 0 < e) (sym (back-at d)) (omega arith) in
+      let k : x ≡ entryAt table (u .at - 1) = i ∙ ap (λ (e : ℕ). entryAt table (e - 1)) (sym (back-at d)) in
+      after-turn j h some (met j h some k) refl c (found z d i) a

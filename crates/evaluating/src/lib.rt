@@ -1,14 +1,12 @@
 // The verdict of a compiled condition. It is met from its last entry on, in a loop; only what nests calls again.
-// Kinds of entries (docs/TABLE.md): up to 23 conditions without parts, 24 `!`, 25 brackets, 26 `&&`, 27 `||`, 28 `if`.
+// Kinds of entries have names (table::entries, docs/TABLE.md): conditions up to CONTAINS_ANY have no parts.
 ghost use mathlib.Core.Path.{_≡_};
-ghost use mathlib.Core.Bool.{cond, not, _&&_, _||_};
-ghost use Prim.Native.Nat.{_-_, _<_};
-ghost use lib.Dec.{eqb, ltb};
-ghost use Rattle.views.specs.Rows.{rowView, RowStands};
+ghost use Prim.Native.Nat.{_<_};
+ghost use Rattle.views.specs.Rows.{RowStands};
 ghost use Rattle.stored.specs.ReadBack.{treeAt};
 ghost use Rattle.stored.specs.Ready.{Ready};
-ghost use Rattle.meaning.specs.Values.{withAction};
-ghost use Rattle.meaning.specs.Conditions.{negated, isYes, verdict};
+ghost use Rattle.operators.specs.Operands.{seen, judged};
+ghost use Rattle.evaluating.specs.Ways.{Settling, firstMet, partMet, endedBy, goneOn, enteredAt, comeBack, afterYes, afterNo, afterMissing, afterPart, insidePart};
 use bags::sections::Sections;
 use meaning::Verdict;
 use operators::flat;
@@ -16,36 +14,22 @@ use table::Entry;
 use table::entries;
 use table::entry_in;
 
-// Whether a condition is true.
-fn is_yes(v: Verdict) -> bool
-    ensures { λ r. ⌜ r ≡ isYes v ⌝ }
-{
-    match v {
-        Verdict::Yes => true,
-        Verdict::No => false,
-        Verdict::Missing => false,
-    }
-}
-
-// The verdict under an odd number of `!`, or an even one.
-fn turned(odd: bool, v: Verdict) -> Verdict
-    ensures { λ r. ⌜ r ≡ cond odd (negated v) v ⌝ }
-{
-    if odd {
-        match v {
-            Verdict::Yes => Verdict::No,
-            Verdict::No => Verdict::Yes,
-            Verdict::Missing => Verdict::Missing,
-        }
-    } else {
-        v
-    }
+// What is left to be met. It ends before entry number `at`; its Yes becomes `yes`, its No becomes `no`, and its Missing stays Missing. Where `at` is
+// 0 nothing is left, and it became `no`. Where `rest` is not 0, that is the verdict of the part that is met first of what ends before `rest`, whose
+// Yes becomes `held` and whose No becomes `kept`.
+pub struct Way {
+    pub at: usize,
+    pub yes: Verdict,
+    pub no: Verdict,
+    pub rest: usize,
+    pub held: Verdict,
+    pub kept: Verdict,
 }
 
 // Where the part ends that is met first: what `if` asks, and the right part of `&&` and `||`.
 fn first_met(at: usize, x: Entry) -> usize
     requires { ⌜ 0 < at ⌝ }
-    ensures { λ r. ⌜ r ≡ cond (eqb (x .kind) 28) (x .first) (at - 1) ⌝ }
+    ensures { λ r. ⌜ r ≡ firstMet at x ⌝ }
 {
     if x.kind == entries::IF {
         x.first
@@ -57,7 +41,7 @@ fn first_met(at: usize, x: Entry) -> usize
 // Where the part ends that is met first, or all that is left, where no `if`, `&&` or `||` joins parts.
 fn part_met(at: usize, x: Entry) -> usize
     requires { ⌜ 0 < at ⌝ }
-    ensures { λ r. ⌜ r ≡ cond (ltb (x .kind) 26) at (cond (eqb (x .kind) 28) (x .first) (at - 1)) ⌝ }
+    ensures { λ r. ⌜ r ≡ partMet at x ⌝ }
 {
     if x.kind < entries::AND {
         return at;
@@ -65,39 +49,211 @@ fn part_met(at: usize, x: Entry) -> usize
     first_met(at, x)
 }
 
-// Whether nothing is to be met after that part: it was all, or stops the chain.
-fn is_last(x: Entry, yes: bool) -> bool
-    ensures { λ r. ⌜ r ≡ (ltb (x .kind) 26 || (eqb (x .kind) 26 && not yes) || (eqb (x .kind) 27 && yes)) ⌝ }
+// What is left becomes k.
+fn ended_by(w: Way, k: Verdict) -> Way
+    ensures { λ r. ⌜ r ≡ endedBy w k ⌝ }
 {
-    (x.kind < entries::AND) | ((x.kind == entries::AND) & !yes) | ((x.kind == entries::OR) & yes)
-}
-
-// Whether the number of `!` is odd, after this entry.
-fn odd_after(odd: bool, x: Entry) -> bool
-    ensures { λ r. ⌜ r ≡ cond (eqb (x .kind) 24) (not odd) odd ⌝ }
-{
-    if x.kind == entries::NOT {
-        return !odd;
+    let yes = w.yes;
+    let held = w.held;
+    let kept = w.kept;
+    Way {
+        at: 0,
+        yes: yes,
+        no: k,
+        rest: w.rest,
+        held: held,
+        kept: kept,
     }
-    odd
 }
 
-// Where the part ends that is met next: the one that `if` chooses, and the left part of `&&` and `||`.
-fn next_met(at: usize, x: Entry, yes: bool) -> usize
-    requires { ⌜ 0 < at ⌝ }
-    ensures { λ r. ⌜ r ≡ cond (eqb (x .kind) 28) (cond yes (x .second) (at - 1)) (x .first) ⌝ }
+// What ends before `at` is left, and its Yes and No become these.
+fn gone_on(w: Way, at: usize, yes: Verdict, no: Verdict) -> Way
+    ensures { λ r. ⌜ r ≡ goneOn w at yes no ⌝ }
 {
+    let held = w.held;
+    let kept = w.kept;
+    Way {
+        at: at,
+        yes: yes,
+        no: no,
+        rest: w.rest,
+        held: held,
+        kept: kept,
+    }
+}
+
+// The part that is met first is left, and ends before `part`; the rest is kept for then.
+fn entered(w: Way, part: usize) -> Way
+    ensures { λ r. ⌜ r ≡ enteredAt w part ⌝ }
+{
+    let yes = w.yes;
+    let no = w.no;
+    Way {
+        at: part,
+        yes: Verdict::Yes,
+        no: Verdict::No,
+        rest: w.at,
+        held: yes,
+        kept: no,
+    }
+}
+
+// What was kept is left.
+fn come_back(w: Way) -> Way
+    ensures { λ r. ⌜ r ≡ comeBack w ⌝ }
+{
+    let held = w.held;
+    let kept = w.kept;
+    Way {
+        at: w.rest,
+        yes: held,
+        no: kept,
+        rest: 0,
+        held: Verdict::Yes,
+        kept: Verdict::Yes,
+    }
+}
+
+// What is left after a Yes of the part that is met first. It stops `||` where nothing before it can be Missing.
+fn after_yes(settles: bool, w: Way, x: Entry) -> Way
+    ensures { λ r. ⌜ r ≡ afterYes settles w x ⌝ }
+{
+    let yes = w.yes;
+    let no = w.no;
+    if x.kind == entries::AND {
+        return gone_on(w, x.first, yes, no);
+    }
     if x.kind == entries::IF {
-        if yes { x.second } else { at - 1 }
-    } else {
-        x.first
+        return gone_on(w, x.second, yes, no);
+    }
+    if (x.kind == entries::OR) & !settles {
+        return gone_on(w, x.first, yes, yes);
+    }
+    ended_by(w, yes)
+}
+
+// The same after a No, which stops `&&` so.
+fn after_no(settles: bool, w: Way, x: Entry) -> Way
+    requires { ⌜ 0 < w .at ⌝ }
+    ensures { λ r. ⌜ r ≡ afterNo settles w x ⌝ }
+{
+    let yes = w.yes;
+    let no = w.no;
+    if x.kind == entries::OR {
+        return gone_on(w, x.first, yes, no);
+    }
+    if x.kind == entries::IF {
+        return gone_on(w, w.at - 1, yes, no);
+    }
+    if (x.kind == entries::AND) & !settles {
+        return gone_on(w, x.first, no, no);
+    }
+    ended_by(w, no)
+}
+
+// The same after a Missing.
+fn after_missing(w: Way, x: Entry) -> Way
+    ensures { λ r. ⌜ r ≡ afterMissing w x ⌝ }
+{
+    let yes = w.yes;
+    let no = w.no;
+    if x.kind == entries::OR {
+        return gone_on(w, x.first, yes, Verdict::Missing);
+    }
+    if x.kind == entries::AND {
+        return gone_on(w, x.first, Verdict::Missing, no);
+    }
+    ended_by(w, Verdict::Missing)
+}
+
+// The same after the verdict v.
+fn after_part(settles: bool, w: Way, x: Entry, v: Verdict) -> Way
+    requires { ⌜ 0 < w .at ⌝ }
+    ensures { λ r. ⌜ r ≡ afterPart settles w x v ⌝ }
+{
+    match v {
+        Verdict::Yes => after_yes(settles, w, x),
+        Verdict::No => after_no(settles, w, x),
+        Verdict::Missing => after_missing(w, x),
     }
 }
 
-// The verdict of the condition whose entries end before number `end`.
-// What is left to be met ends before `at`, and its verdict, turned where `odd`, is that of the whole. No part's verdict is ever Missing (`never-missing`).
-// So a chain may be met from its right end: a No there makes `&&` No, and a Yes makes `||` Yes, whatever stands before; else the chain is what stands before.
-// A part without parts is found out here, without a call.
+// What is left inside `!` or brackets.
+fn inside_part(w: Way, x: Entry) -> Way
+    requires { ⌜ 0 < w .at ⌝ }
+    ensures { λ r. ⌜ r ≡ insidePart w x ⌝ }
+{
+    let yes = w.yes;
+    let no = w.no;
+    if x.kind == entries::NOT {
+        return gone_on(w, w.at - 1, no, yes);
+    }
+    gone_on(w, w.at - 1, yes, no)
+}
+
+// The verdict of the condition whose entries end before number `end`. A chain is met from its right end: evaluating has no effects, and what its
+// parts become says which of them counts. A part without parts is found out here, without a call; one with parts too, unless it is met inside such a
+// one. Where `settles`, a No stops `&&` and a Yes stops `||`.
+fn evaluate_by<'a>(
+    settles: bool,
+    text: &'a [u8],
+    table: &[u8],
+    end: usize,
+    s: &'a [u8],
+    p: Sections,
+    n: usize,
+    heads: &[usize; 6],
+    values: &[usize; 6],
+    action: &'a [u8],
+) -> Verdict
+    requires { ⌜ Ready (now text) (now table) end ⌝ }
+    requires { ⌜ RowStands (now s) p n (now heads) (now values) ⌝ }
+    requires { ⌜ Settling settles (now text) (now table) (seen (now s) p n (now heads) (now values) (now action)) ⌝ }
+    ensures { λ r. ⌜ r ≡ judged (now (text .entry)) (now (s .entry)) p n (now (heads .entry)) (now (values .entry)) (now (action .entry))
+        (treeAt (now (table .entry)) end) ⌝ }
+{
+    let mut w = Way {
+        at: end,
+        yes: Verdict::Yes,
+        no: Verdict::No,
+        rest: 0,
+        held: Verdict::Yes,
+        kept: Verdict::Yes,
+    };
+    loop {
+        if w.at < 1 {
+            let v = w.no;
+            if w.rest < 1 {
+                return v;
+            }
+            let x = entry_in(table, w.rest - 1);
+            let u = come_back(w);
+            w = after_part(settles, u, x, v);
+            continue;
+        }
+        let at = w.at;
+        let x = entry_in(table, at - 1);
+        let part = part_met(at, x);
+        let y = entry_in(table, part - 1);
+        if y.kind <= entries::CONTAINS_ANY {
+            let v = flat(text, table, part, y, s, p, n, heads, values, action);
+            w = after_part(settles, w, x, v);
+            continue;
+        }
+        if x.kind < entries::AND {
+            w = inside_part(w, x);
+            continue;
+        }
+        if w.rest < 1 {
+            w = entered(w, part);
+            continue;
+        }
+        let v = evaluate_by(settles, text, table, part, s, p, n, heads, values, action);
+        w = after_part(settles, w, x, v);
+    }
+}
+
+// The same. Today every operator settles what it met, so no verdict is Missing.
 pub fn evaluate<'a>(
     text: &'a [u8],
     table: &[u8],
@@ -111,33 +267,8 @@ pub fn evaluate<'a>(
 ) -> Verdict
     requires { ⌜ Ready (now text) (now table) end ⌝ }
     requires { ⌜ RowStands (now s) p n (now heads) (now values) ⌝ }
-    ensures { λ r. ⌜ r ≡ verdict (now (text .entry)) (withAction (now (action .entry)) (rowView (now (s .entry)) p n (now (heads .entry)) (now (values .entry)))) (treeAt (now (table .entry)) end) ⌝ }
+    ensures { λ r. ⌜ r ≡ judged (now (text .entry)) (now (s .entry)) p n (now (heads .entry)) (now (values .entry)) (now (action .entry))
+        (treeAt (now (table .entry)) end) ⌝ }
 {
-    let mut at = end;
-    let mut odd = false;
-    loop {
-        let x = entry_in(table, at - 1);
-        let part = part_met(at, x);
-        let y = entry_in(table, part - 1);
-        if y.kind <= entries::CONTAINS_ANY {
-            let v = flat(text, table, part, y, s, p, n, heads, values, action);
-            let yes = is_yes(v);
-            if is_last(x, yes) {
-                return turned(odd, v);
-            }
-            at = next_met(at, x, yes);
-            continue;
-        }
-        if 26 <= x.kind {
-            let v = evaluate(text, table, part, s, p, n, heads, values, action);
-            let yes = is_yes(v);
-            if is_last(x, yes) {
-                return turned(odd, v);
-            }
-            at = next_met(at, x, yes);
-            continue;
-        }
-        odd = odd_after(odd, x);
-        at -= 1;
-    }
+    evaluate_by(true, text, table, end, s, p, n, heads, values, action)
 }

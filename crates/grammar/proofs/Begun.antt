@@ -11,8 +11,8 @@ use Rattle.reading.specs.Reads.{Reading, Chain, Chain.alone, Chain.more, Onto, 
 use Rattle.reading.specs.Reader.{Reader, need, before, mapped, onwards, chain}
 use Rattle.reading.proofs.Local.{Alike}
 use Rattle.reading.proofs.Readers.{Goes, good, goes-weaker, goes-bind, goes-need, goes-onwards}
-use Rattle.grammar.specs.Policies.{Root}
-use Rattle.grammar.specs.Grammar.{Limits, sizesTo, lifting}
+use Rattle.grammar.specs.Rules.{mostInside}
+use Rattle.grammar.specs.Grammar.{Limit, Limits, sizesTo, lifting}
 
 -- What the grammar reads, under each limits.
 abbrev pub Family : Type 0 → Type 1
@@ -35,33 +35,30 @@ swap-behind (x ∷ ts) w = step (swap-behind ts w)
 
 -- With s in the place of r, M asks no more than L.
 pub record Eases (L M : Limits) (r s : List Lexeme) : Type 0 where
-  pub name : {m n : List Lexeme} → Swap r s m n → (root : Root) (used : ℕ) (x : Lexeme) → L .Name root used x m → M .Name root used x n
-  pub pattern : {m n : List Lexeme} → Swap r s m n → (x : Lexeme) → L .Pattern x m → M .Pattern x n
-  pub count : {m n : List Lexeme} → Swap r s m n → (k : ℕ) → L .Count k m → M .Count k n
-  pub effect : {m n : List Lexeme} → Swap r s m n → (k : ℕ) → L .Effect k m → M .Effect k n
+  pub asks : {m n : List Lexeme} → Swap r s m n → (l : Limit) → L .Asks l m → M .Asks l n
   pub levels : L .levels ≡ M .levels
 
 -- ---- which limits are asked of what
 
 -- document 01's, with k levels more
 abbrev pub taken : ℕ → Limits
-taken k = sizesTo (31 + k)
+taken k = sizesTo (mostInside + k)
 
 -- The limit m is not asked of a token with r behind it: the token stands in s. But where a limit n refused the first token of s, the other limits are asked of it.
-pub record Beyond (n : ℕ) (s : List Lexeme) (m : ℕ) (r : List Lexeme) : Type 0 where
+pub record Exempt (n : ℕ) (s : List Lexeme) (m : ℕ) (r : List Lexeme) : Type 0 where
   pub behind : length r < length s
   pub first : (m ≡ n → ⊥) → 11 ≤ n → suc (length r) < length s
 
 -- the same, with k levels more, where what is refused by n is gone on with by s
 abbrev pub beyond : ℕ → ℕ → List Lexeme → Limits
-beyond k n s = lifting (31 + k) (Beyond n s)
+beyond k n s = lifting (mostInside + k) (Exempt n s)
 
 -- Where a limit refused the first token of r, it stands first in s too; for 12 that takes one level more.
 abbrev pub Kept : ℕ → ℕ → List Lexeme → List Lexeme → Type 0
 Kept k n r s = 11 ≤ n → (n ≡ 12 → 1 ≤ k) → Alike r s
 
 pub eased : (k n : ℕ) (on : List Lexeme) {r s : List Lexeme} → Eases (taken k) (beyond k n on) r s
-eased k n on = record { name = λ w root used x h. inl h; pattern = λ w x h. inl h; count = λ w k h. inl h; effect = λ w k h. inl h; levels = refl }
+eased k n on = record { asks = λ w l h. inl h; levels = refl }
 
 -- with s in the place of r, i is a list that R reads up to n
 abbrev pub Moved : {A : Type 0} → Reading A → (r s i n : List Lexeme) → A → Type 0
@@ -135,7 +132,7 @@ pub record Begun (k : ℕ) {A : Type 0} (R : Family A) (i : List Lexeme) (n : �
 pub few : {k n : ℕ} {r s : List Lexeme} → n < 11 → Kept k n r s
 few l = λ h e. absurd (omega arith)
 
-pub beyond-few : {m n : ℕ} {s w : List Lexeme} → n < 11 → length w < length s → Beyond n s m w
+pub beyond-few : {m n : ℕ} {s w : List Lexeme} → n < 11 → length w < length s → Exempt n s m w
 beyond-few l h = record { behind = h; first = λ d e. absurd (omega arith) }
 
 module _ {k n : ℕ} where

@@ -17,21 +17,19 @@ use Rattle.reading.specs.Reader.{Answer, took, Reader, refuseBy, numbered, bind
 use Rattle.reading.proofs.Readers.{Shrinks, shrinks-onto, Without, on-without, on-token, on-other}
 use Rattle.reading.proofs.Complete.{Nearly, exact, excused, nearly-bind, nearly-on, Complete, complete-mapped, complete-before, complete-chain}
 use Rattle.grammar.specs.Policies.{Span, Root, Literal, truth, Operand, attribute, literal, Tree, within, contains, both, either, Part, typed, Actions, Policy}
-use Rattle.grammar.specs.Rules.{inside, isEffect, isRoot, rootOf, isTruth, isLiteral, literalOf, isComparator, isContains, whichOf, deepens, principalTypes, resourceTypes, typeOf, isType, admitted, mostLiterals, mostPolicies, isPattern}
-use Rattle.grammar.specs.Grammar.{Limits, Path, spanned, FirstName, first, NextName, next, APath, rooted, AnOperand, given, Element, element, Literals, Simple, comparison, likeness, listed, held, call, having, Conjunction, Disjunction, ConditionOver, simple, negation, bracketed, conditional, Nothing, Condition, Typed, ResourceRest, ActionRest, When, PolicyRest, Policies, policy, RuleText}
+use Rattle.grammar.specs.Rules.{isEffect, isRoot, rootOf, isTruth, isLiteral, literalOf, isComparator, isContains, whichOf, deepens, principalTypes, resourceTypes, typeOf, isType, mostPolicies, mostInside}
+use Rattle.grammar.specs.Grammar.{Limit, a-name, a-pattern, a-literal, a-policy, limitNumber, kept, Limits, Path, spanned, FirstName, first, NextName, next, APath, rooted, AnOperand, given, Element, element, Literals, Simple, comparison, likeness, listed, held, call, having, Conjunction, Disjunction, ConditionOver, simple, negation, bracketed, conditional, Nothing, Condition, Typed, ResourceRest, ActionRest, When, PolicyRest, Policies, policy, RuleText}
 use Rattle.grammar.specs.Grammar as grammar
-use Rattle.grammar.specs.Parser.{Way, calling, noName, noLevel, noPattern, tooMany, noPolicy, fits, read-first-name, goesOn, read-next-name, read-way, noExit, spannedBy, read-path, read-attribute, read-operand, isElement, read-element, read-list, read-bare, read-in, isLike, read-pattern, read-operator, read-call, read-rest, read-rooted, read-simple, read-joined, read-conjunction, read-disjunction, read-negated, read-bracketed, read-conditional, read-deeper, read-condition, read-conditions, read-type, read-principal, read-action, read-resource, read-when, read-policy, mayBegin, read-next-policy, atEnd, read-text}
+use Rattle.grammar.specs.Parser.{Way, calling, noName, noLevel, noPolicy, fits, read-first-name, goesOn, read-next-name, read-way, noExit, spannedBy, read-path, read-attribute, read-operand, isElement, read-element, read-list, read-bare, read-in, isLike, read-pattern, read-operator, read-call, read-rest, read-rooted, read-simple, read-joined, read-conjunction, read-disjunction, read-negated, read-bracketed, read-conditional, read-deeper, read-condition, read-conditions, read-type, read-principal, read-action, read-resource, read-when, read-policy, mayBegin, read-next-policy, atEnd, read-text}
 use Rattle.grammar.specs.Parser as parser
 use Rattle.grammar.proofs.Begun.{made}
+use Rattle.grammar.proofs.Limits.{name-number, string-number, literal-number, effect-number, level-number}
 use Rattle.grammar.proofs.Framing.{shrinks-element, shrinks-condition, shrinks-conjunction, shrinks-policy}
 
 -- Z excuses each refusal of what L admits and the sizes do not.
 pub record Excuses (L : Limits) (Z : ℕ → List Lexeme → Type 0) : Type 0 where
-  pub no-name : (root : Root) (used : ℕ) (x : Lexeme) (r : List Lexeme) → x .kind ≡ kinds.name → L .Name root used x r → admitted root used x ≡ false → Z (numbered (noName root) x) (x ∷ r)
-  pub no-pattern : (x : Lexeme) (r : List Lexeme) → x .kind ≡ kinds.string → L .Pattern x r → isPattern (inside x) ≡ false → Z (numbered noPattern x) (x ∷ r)
-  pub too-many : (sort : Lexeme → Bool) (k : ℕ) (x : Lexeme) (r : List Lexeme) → isLiteral x ≡ true → sort x ≡ true → L .Count k r → ltb k mostLiterals ≡ false → Z (numbered (tooMany sort) x) (x ∷ r)
-  pub no-policy : (k : ℕ) (x : Lexeme) (r : List Lexeme) → isEffect x ≡ true → L .Effect k r → ltb k mostPolicies ≡ false → Z (numbered noPolicy x) (x ∷ r)
-  pub no-level : 31 < L .levels → (x : Lexeme) (r : List Lexeme) → deepens x ≡ true → Z (numbered noLevel x) (x ∷ r)
+  pub over : (l : Limit) (x : Lexeme) (r : List Lexeme) → L .Asks l r → kept l ≡ false → Z (limitNumber l) (x ∷ r)
+  pub no-level : mostInside < L .levels → (x : Lexeme) (r : List Lexeme) → Z 12 (x ∷ r)
 
 abbrev Any : List Lexeme → Type 0
 Any r = Unit {0}
@@ -117,10 +115,16 @@ shrinks-next-way L exit root w = record { at = go }
     go (exits e) = omega arith
 
 module _ {L : Limits} {Z : ℕ → List Lexeme → Type 0} (ok : Excuses L Z) where
-  fitting : {A : Type 0} {a : A} {s : List Lexeme} (root : Root) (used : ℕ) (f : Lexeme → Reader A) (x : Lexeme) (r : List Lexeme) → x .kind ≡ kinds.name → L .Name root used x r
+  too-deep-there : mostInside < L .levels → (x : Lexeme) (r : List Lexeme) → deepens x ≡ true → Z (numbered noLevel x) (x ∷ r)
+  too-deep-there l x r t = rw (level-number x t) (ok .no-level l x r)
+
+  no-policy-there : (ps : List Policy) (x : Lexeme) (r : List Lexeme) → isEffect x ≡ true → L .Asks (a-policy (length ps)) r → ltb (length ps) mostPolicies ≡ false → Z (numbered noPolicy x) (x ∷ r)
+  no-policy-there ps x r t c u = rw (effect-number x t) (ok .over (a-policy (length ps)) x r c u)
+
+  fitting : {A : Type 0} {a : A} {s : List Lexeme} (root : Root) (used : ℕ) (f : Lexeme → Reader A) (x : Lexeme) (r : List Lexeme) → x .kind ≡ kinds.name → L .Asks (a-name root used x) r
       → Nearly Z a s (f x r) → Nearly Z a s (on (fits root used) f (refuseBy (noName root)) (x ∷ r))
   unfolding fits
-  fitting root used f x r e l h = nearly-on _ _ _ x r h (λ u. ok .no-name root used x r e l (rw (eq-eqb _ _ e) at u))
+  fitting root used f x r e l h = nearly-on _ _ _ x r h (λ u. rw (name-number root x e) (ok .over (a-name root used x) x r l (rw (eq-eqb _ _ e) at u)))
 
   complete-first : (root : Root) → Complete Z Any (read-first-name root) (Onto (λ p. parser.Way.plain p) (FirstName L root))
   unfolding read-first-name
@@ -175,7 +179,7 @@ module _ {L : Limits} {Z : ℕ → List Lexeme → Type 0} (ok : Excuses L Z) wh
     complete-element ls = record { at = go }
       where
         go : {i r : List Lexeme} {ks : List Literal} → Element L sort ls i r ks → Any r → Nearly Z ks r (read-element sort ls i)
-        go (element {x = x} {r = r} t c) u = nearly-on _ _ _ x r exact (λ f. ok .too-many sort (length ls) x r (sorts x t) t c (rw t at f))
+        go (element {x = x} {r = r} t c) u = nearly-on _ _ _ x r exact (λ f. rw (literal-number sort x (sorts x t) t) (ok .over (a-literal (length ls)) x r c (rw t at f)))
 
     complete-list : {i r : List Lexeme} {ls : List Literal}
         → Literals L sort i r ls → Nearly Z ls r (read-list sort i)
@@ -203,7 +207,7 @@ module _ {L : Limits} {Z : ℕ → List Lexeme → Type 0} (ok : Excuses L Z) wh
       complete-left deeper h (other-kind (λ k. isComparator (made k)) (x .kind) kinds.dot t refl) (rw (on-token isComparator _ _ x m t) (nearly-bind _ (complete-operand k (f .3)) exact))
   complete-simple deeper (likeness {x = x} {s = s} {r = r} h e e′ l) f =
       complete-left deeper h (rw e) (rw (on-other isComparator _ _ x (s ∷ r) (rw e), on-token (is kinds.likeWord) _ _ x (s ∷ r) (eq-eqb _ _ e))
-      (nearly-on _ _ _ s r exact (λ u. ok .no-pattern s r e′ l (rw (eq-eqb _ _ e′) at u))))
+      (nearly-on _ _ _ s r exact (λ u. rw (string-number s e′) (ok .over (a-pattern s) s r l (rw (eq-eqb _ _ e′) at u)))))
   complete-simple deeper (listed {x = x} h e (begun {x = y} e′ k)) f =
       complete-left deeper h (rw e) (rw (on-other isComparator _ _ x _ (rw e), on-other (is kinds.likeWord) _ _ x _ (rw e), on-token (is kinds.inWord) _ _ x _ (eq-eqb _ _ e), on-token (is kinds.leftSquare) _ _ y _ (eq-eqb _ _ e′))
       (nearly-bind _ (complete-list isLiteral (λ x e. e) k) exact))
@@ -263,9 +267,9 @@ module _ {L : Limits} {Z : ℕ → List Lexeme → Type 0} (ok : Excuses L Z) wh
   too-deep : {R : Reading Tree} → 31 < L .levels → {i r : List Lexeme} {t : Tree} → ConditionOver L R i r t → Free r → Nearly Z t r (read-simple (refuseBy noLevel) i)
   unfolding read-simple refuseBy
   too-deep l (simple h) f = complete-simple _ h f
-  too-deep l (negation {x = x} {i = i} e h) f = rw (on-other isLiteral _ _ x i (rw e), on-other isRoot _ _ x i (rw e)) (excused (ok .no-level l x i (rw e)))
-  too-deep l (bracketed {x = x} {i = i} e h) f = rw (on-other isLiteral _ _ x i (rw e), on-other isRoot _ _ x i (rw e)) (excused (ok .no-level l x i (rw e)))
-  too-deep l (conditional {x = x} {i = i} e h₁ h₂ h₃) f = rw (on-other isLiteral _ _ x i (rw e), on-other isRoot _ _ x i (rw e)) (excused (ok .no-level l x i (rw e)))
+  too-deep l (negation {x = x} {i = i} e h) f = rw (on-other isLiteral _ _ x i (rw e), on-other isRoot _ _ x i (rw e)) (excused (too-deep-there l x i (rw e)))
+  too-deep l (bracketed {x = x} {i = i} e h) f = rw (on-other isLiteral _ _ x i (rw e), on-other isRoot _ _ x i (rw e)) (excused (too-deep-there l x i (rw e)))
+  too-deep l (conditional {x = x} {i = i} e h₁ h₂ h₃) f = rw (on-other isLiteral _ _ x i (rw e), on-other isRoot _ _ x i (rw e)) (excused (too-deep-there l x i (rw e)))
 
   -- the reader has d levels left inside, the grammar e
   complete-condition : (d e : ℕ) → (d < e → 31 < L .levels) → Complete Z Free (read-condition d) (Condition L e)
@@ -346,7 +350,7 @@ module _ {L : Limits} {Z : ℕ → List Lexeme → Type 0} (ok : Excuses L Z) wh
       go : (o : Bool) → ltb (length ps) mostPolicies ≡ o → Nearly Z p m (read-policy (is kinds.permitWord x) i) → Nearly Z qs [] (bind (upTo n mayBegin read-next-policy (ps ++ p ∷ []) m) atEnd)
           → Nearly Z qs [] (bind (choose o (λ _. bind (read-next-policy ps x i) (upTo n mayBegin read-next-policy)) (λ _. took ps (x ∷ i))) atEnd)
       go true u h′ k′ = turn h′ k′
-      go false u h′ k′ = excused (ok .no-policy (length ps) x i e c u)
+      go false u h′ k′ = excused (no-policy-there ps x i e c u)
 
   pub complete-text : (i : List Lexeme) {ps : List Policy} → RuleText L i ps → Nearly Z ps [] (read-text i)
   unfolding read-text onwards

@@ -8,7 +8,8 @@ use lib.ListN.{length}
 use Rattle.reading.specs.Lexemes.{Lexeme}
 use Rattle.reading.specs.Reader.{refuse}
 use Rattle.reading.proofs.Local.{same}
-use Rattle.grammar.specs.Grammar.{lifting}
+use Rattle.grammar.specs.Rules.{mostInside}
+use Rattle.grammar.specs.Grammar.{lifting, Beyond}
 use Rattle.grammar.specs.Parser.{read-text}
 use Rattle.grammar.specs.Lowest.{Under}
 use Rattle.grammar.proofs.Completeness.{Excuses}
@@ -23,9 +24,9 @@ data Excused (Asked : ℕ → Type 0) (on : List Lexeme) : ℕ → List Lexeme �
   lifted : {n : ℕ} {s : List Lexeme} → 11 ≤ n → ¬ Asked n → Excused Asked on n s
   further : {n : ℕ} {s : List Lexeme} → length s ≤ length on → Excused Asked on n s
 
-excuses : (Asked : ℕ → Type 0) (on : List Lexeme) (levels : ℕ) → (Asked 12 → levels ≤ 31) → Excuses (lifting levels (λ n r. (¬ Asked n) ⊎ (length r < length on))) (Excused Asked on)
+excuses : (Asked : ℕ → Type 0) (on : List Lexeme) (levels : ℕ) → (Asked 12 → levels ≤ mostInside) → Excuses (lifting levels (λ n r. (¬ Asked n) ⊎ Beyond on r)) (Excused Asked on)
 excuses Asked on levels shallow =
-    lifted-excuses levels (λ n r. (¬ Asked n) ⊎ (length r < length on)) (Excused Asked on)
+    lifted-excuses levels (λ n r. (¬ Asked n) ⊎ Beyond on r) (Excused Asked on)
     (λ n x r l h. elim h [ inl f ↦ lifted l f | inr k ↦ further k ]) (λ l x r. lifted (omega arith) (λ a. let m = shallow a in omega arith))
 
 -- ---- the law

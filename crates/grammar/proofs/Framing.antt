@@ -113,10 +113,10 @@ pub framed-names : (root : Root) → Framed (λ L. APath L root)
 framed-names root = framed-chain (record { at = one }) (λ p d. record { at = another })
   where
     one : {L M : Limits} {r s i m n : List Lexeme} {p : Path} → Eases L M r s → FirstName L root i m p → Swap r s m n → Moved (FirstName M root) r s i n p
-    one e (first k l) w = (_, step w, first k (e .name w root 0 _ l))
+    one e (first k l) w = (_, step w, first k (e .asks w _ l))
 
     another : {L M : Limits} {r s i m n : List Lexeme} {p q : Path} → Eases L M r s → NextName L root p i m q → Swap r s m n → Moved (NextName M root p) r s i n q
-    another e (next k l) w = (_, step w, next k (e .name w root _ _ l))
+    another e (next k l) w = (_, step w, next k (e .asks w _ l))
 
 pub framed-attribute : Framed Attribute
 framed-attribute = record { at = go }
@@ -135,7 +135,7 @@ pub framed-element : (sort : Lexeme → Bool) (ls : List Literal) → Framed (λ
 framed-element sort ls = record { at = go }
   where
     go : {L M : Limits} {r s i m n : List Lexeme} {ks : List Literal} → Eases L M r s → Element L sort ls i m ks → Swap r s m n → Moved (Element M sort ls) r s i n ks
-    go e (element t c) w = (_, step w, element t (e .count w _ c))
+    go e (element t c) w = (_, step w, element t (e .asks w _ c))
 
 pub framed-list : (sort : Lexeme → Bool) → Framed (λ L. Literals L sort)
 framed-list sort = framed-before (framed-chain (framed-element sort []) (λ ls x. framed-element sort ls)) kinds.rightSquare
@@ -149,7 +149,7 @@ framed-simple = record { at = go }
     go : {L M : Limits} {r s i m n : List Lexeme} {t : Tree} → Eases L M r s → Simple L i m t → Swap r s m n → Moved (Simple M) r s i n t
     go e (grammar.Simple.bare t) w = (_, step w, grammar.Simple.bare t)
     go e (comparison h t k) w = let q = framed-operand .at e k w in let p = framed-operand .at e h (step (q .1)) in (_, p .1, comparison (p .2) t (q .2))
-    go e (likeness h t t′ f) w = let p = framed-operand .at e h (step (step w)) in (_, p .1, likeness (p .2) t t′ (e .pattern w _ f))
+    go e (likeness h t t′ f) w = let p = framed-operand .at e h (step (step w)) in (_, p .1, likeness (p .2) t t′ (e .asks w _ f))
     go e (listed h t k) w = let q = framed-listing isLiteral .at e k w in let p = framed-operand .at e h (step (q .1)) in (_, p .1, listed (p .2) t (q .2))
     go e (held h t k) w = let q = framed-attribute .at e k w in let p = framed-operand .at e h (step (q .1)) in (_, p .1, held (p .2) t (q .2))
     go e (call h t t′ t″ k) w =

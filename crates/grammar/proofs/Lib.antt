@@ -10,7 +10,9 @@ pub mod Theorems
 pub mod Excess
 pub mod Telling
 pub mod Spots
+pub mod Walked
 pub mod Numbered
+pub mod Admitting
 pub mod Rows
 pub mod Opened
 pub mod Examples

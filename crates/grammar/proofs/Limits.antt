@@ -14,9 +14,9 @@ use Rattle.reading.proofs.Local.{same}
 use Rattle.reading.proofs.Readers.{Goes, goes-refuseBy, number-below}
 use Rattle.grammar.specs.Policies.{Root, Root.Principal, Root.Resource, Root.Env, Root.Action}
 use Rattle.grammar.specs.Rules.{isEffect, isReserved, isLiteral, endsBare, deepens}
-use Rattle.grammar.specs.Grammar.{pathNumber}
+use Rattle.grammar.specs.Grammar.{Limit, a-name, a-pattern, a-literal, a-policy, pathNumber, limitNumber}
 use Rattle.grammar.specs.Parser.{noName, noOperator, noType, noLevel, noPattern, tooMany, noPolicy}
-use Rattle.grammar.proofs.Begun.{made, Beyond, Kept, few}
+use Rattle.grammar.proofs.Begun.{made, Exempt, Kept, few}
 
 -- ---- the number of each limit
 
@@ -46,11 +46,18 @@ pub name-number : (root : Root) (x : Lexeme) → x .kind ≡ kinds.name → numb
 unfolding numbered noName
 name-number root x e = rw e
 
-pub path-limit : (root : Root) → 11 ≤ pathNumber root
+path-limit : (root : Root) → 11 ≤ pathNumber root
 path-limit Principal = omega arith
 path-limit Resource = omega arith
 path-limit Env = omega arith
 path-limit Action = omega arith
+
+-- limits have the numbers from 11 on
+pub limit-low : (l : Limit) → 11 ≤ limitNumber l
+limit-low (a-name root used x) = path-limit root
+limit-low (a-pattern x) = omega arith
+limit-low (a-literal k) = omega arith
+limit-low (a-policy k) = omega arith
 
 pub string-number : (x : Lexeme) → x .kind ≡ kinds.string → numbered noPattern x ≡ 13
 unfolding numbered noPattern
@@ -112,7 +119,7 @@ pub record Chosen (k : ℕ) (test : Lexeme → Bool) (m n : ℕ) (i : List Lexem
   pub kept : (w : List Lexeme) → Kept k n i (token ∷ w)
 
 -- That limit is not asked of it.
-pub chosen-beyond : {k m n : ℕ} {test : Lexeme → Bool} {i : List Lexeme} (c : Chosen k test m n i) (w : List Lexeme) → Beyond n (c .token ∷ w) m w
+pub chosen-beyond : {k m n : ℕ} {test : Lexeme → Bool} {i : List Lexeme} (c : Chosen k test m n i) (w : List Lexeme) → Exempt n (c .token ∷ w) m w
 chosen-beyond c w = record { behind = omega arith; first = λ d l. absurd (c .only d l) }
 
 pub goes-limit : {k : ℕ} {A : Type 0} {P : A → List Lexeme → Type 0} {Q : ℕ → List Lexeme → Type 0} (number : Lexeme → ℕ) (test : Lexeme → Bool) (m : ℕ) (y : Lexeme) → test y ≡ true

@@ -435,7 +435,7 @@ past-length : {d r c i : List Lexeme} → Past d r c i → length r ≤ length i
 past-length here = omega arith
 past-length (step w) = let x = past-length w in omega arith
 
-past-is : (b : List Lexeme) {d r c i : List Lexeme} → Past d r c i → i ≡ b ++ r → d ≡ reverseAux b c
+pub past-is : (b : List Lexeme) {d r c i : List Lexeme} → Past d r c i → i ≡ b ++ r → d ≡ reverseAux b c
 past-is [] here e = refl
 past-is (x ∷ b) {r = r} here e = absurd (let y = ap (λ (l : List Lexeme). length l) e in let z = length-append b r in omega arith)
 past-is [] {r = r} (step w) e = absurd (let y = ap (λ (l : List Lexeme). length l) e in let z = past-length w in omega arith)

@@ -1,69 +1,27 @@
 -- The number of a refusal is the lowest of the rows that apply to the token. Assumes nothing.
-use mathlib.Core.Path.{_≡_, refl, sym, _∙_}
-use mathlib.Core.Logic.{_⊎_, inl, inr}
+use mathlib.Core.Path.{_≡_, refl, _∙_}
+use mathlib.Core.Logic.{inl, inr, ⊎-elim}
 use mathlib.Core.Bool.{Bool, true, false, cond, _&&_}
-use mathlib.Core.List.{List, [], _∷_, _++_, reverse}
+use mathlib.Core.List.{List, [], _∷_, _++_, reverse, append-cancel-right}
 use Prim.Native.Nat.{ℕ, _+_, _≤_, _<_}
 use native.Mathlib.Omega.{arith}
-use lib.Dec.{eqb, ltb}
-use lib.ListN.{length}
-use borrow.Author.Tests.{eqb-true, eqb-false, eq-eqb, ltb-true, ltb-false, lt-ltb}
+use lib.Dec.{ltb}
+use borrow.Author.Tests.{eqb-true, eq-eqb, ltb-true, ltb-false, lt-ltb}
 use Rattle.tokens.specs.Kinds as kinds
 use Rattle.reading.specs.Lexemes.{Lexeme, is}
 use Rattle.reading.specs.Reader.{Answer, took, refuse}
-use Rattle.reading.proofs.Readers.{goes-took, goes-refused}
-use Rattle.reading.proofs.Local.{Alike, same}
+use Rattle.reading.proofs.Readers.{goes-took}
 use Rattle.grammar.specs.Policies.{Policy}
 use Rattle.grammar.specs.Rules.{isEffect, isReserved, endsBare, deepens, mostLiterals}
-use Rattle.grammar.specs.Grammar.{lifting, RuleText}
 use Rattle.grammar.specs.Parser.{read-text}
 use Rattle.grammar.specs.Numbers.{atName, afterLeft, atType, atCondition, atPattern, afterPolicy, afterAction, oneMore, numberOf, numberAt, NumberedRightly}
-use Rattle.grammar.specs.Promise.{RefusedRightly, OnePlace}
-use Rattle.grammar.specs.Lowest.{Under, Admitted, Applies, no-token, reserved, bare, no-type, not-admitted, limit, AppliesAt, token, end, NumberedLowest, OneNumber, RefusedBy, RefusedExactly}
-use Rattle.grammar.proofs.Begun.{Beyond}
-use Rattle.grammar.proofs.Viable.{Opened, viable-text}
-use Rattle.grammar.proofs.Theorems.{cut, swap-is, less-asked, refused-rightly, no-text-refused, one-place}
+use Rattle.grammar.specs.Promise.{Sofar, RefusedRightly, OnePlace}
+use Rattle.grammar.specs.Lowest.{Admitted, Applies, no-token, reserved, bare, no-type, not-admitted, limit, AppliesAt, token, end, NumberedLowest, OneNumber, RefusedBy, RefusedExactly}
+use Rattle.grammar.proofs.Viable.{viable-text}
+use Rattle.grammar.proofs.Theorems.{refused-rightly, no-text-refused, one-place}
 use Rattle.grammar.proofs.Excess.{goes-on-nowhere}
 use Rattle.grammar.proofs.Numbered.{numbered-rightly}
-
--- ---- where a limit refuses
-
--- less asked of the same tokens
-less-under : {Asked Kept : ℕ → Type 0} {b : List Lexeme} → ((n : ℕ) → Kept n → Asked n) → Under Asked b → Under Kept b
-less-under {Asked = Asked} {Kept = Kept} f u = record {
-  on = u .on;
-  levels = u .levels;
-  policies = u .policies;
-  shallow = λ a. u .shallow (f 12 a);
-  belongs = less-asked (u .levels) (λ n r. (¬ Asked n) ⊎ (length r < length (u .on))) (λ n r. (¬ Kept n) ⊎ (length r < length (u .on)))
-      (λ n r h. elim h [ inl g ↦ inl (λ a. g (f n a)) | inr l ↦ inr l ]) (u .belongs);
-}
-
--- the text that goes on with the refused token x keeps every limit but n up to x
-opened-under : (k n : ℕ) (b : List Lexeme) (x : Lexeme) (s : List Lexeme) → 11 ≤ n → (n ≡ 12 → 1 ≤ k) → ((12 ≡ n → ⊥) → 31 + k ≤ 31) → Opened k (b ++ x ∷ s) n (x ∷ s)
-    → Under (λ m. m ≡ n → ⊥) (b ++ x ∷ [])
-opened-under k n b x s l d shallow o = go (o .on) (o .kept l d) (rw (swap-is b (o .swapped) refl) at (o .belongs))
-  where
-    but : (on r : List Lexeme) (m : ℕ) → Beyond n (x ∷ on) m r → (b : Bool) → eqb m n ≡ b → (¬ (m ≡ n → ⊥)) ⊎ (length r < length on)
-    but on r m h true e = inl (λ f. f (eqb-true m n e))
-    but on r m h false e = inr (let y = h .first (eqb-false m n e) l in omega arith)
-
-    go : (on : List Lexeme) → Alike (x ∷ s) on → RuleText (lifting (31 + k) (Beyond n on)) (b ++ on) (o .policies) → Under (λ m. m ≡ n → ⊥) (b ++ x ∷ [])
-    go (y ∷ on) same h = record {
-      on = on;
-      levels = 31 + k;
-      policies = o .policies;
-      shallow = shallow;
-      belongs = less-asked (31 + k) (Beyond n (x ∷ on)) (λ m r. (¬ (m ≡ n → ⊥)) ⊎ (length r < length on)) (λ m r c. but on r m c (eqb m n) refl) (rw (← cut b x on) h);
-    }
-
--- Refused by the limit n at x: some rule text goes on with x where every other limit is asked.
-goes-on-else : (b : List Lexeme) (x : Lexeme) (s : List Lexeme) (n : ℕ) → read-text (b ++ x ∷ s) ≡ refuse n (x ∷ s) → 11 ≤ n → Under (λ m. m ≡ n → ⊥) (b ++ x ∷ [])
-goes-on-else b x s n e l = go (eqb n 12) refl
-  where
-    go : (o : Bool) → eqb n 12 ≡ o → Under (λ m. m ≡ n → ⊥) (b ++ x ∷ [])
-    go true q = opened-under 1 n b x s l (λ d. omega arith) (λ f. absurd (f (sym (eqb-true n 12 q)))) (goes-refused (rw e at (viable-text 1 (b ++ x ∷ s))))
-    go false q = opened-under 0 n b x s l (λ d. absurd (eqb-false n 12 q d)) (λ f. omega arith) (goes-refused (rw e at (viable-text 0 (b ++ x ∷ s))))
+use Rattle.grammar.proofs.Admitting.{less-under, goes-on-else, name-stands, stands-name, type-stands, stands-type, left-stands, stands-left}
 
 -- ---- the rows of numberOf
 
@@ -142,6 +100,14 @@ module _ (c : List Lexeme) (x : Lexeme) where
 -- ---- the theorem
 
 module _ (b : List Lexeme) (x : Lexeme) (s : List Lexeme) (n : ℕ) (e : read-text (b ++ x ∷ s) ≡ refuse n (x ∷ s)) (q : n ≡ numberOf (reverse b) x) where
+  -- what stands before x breaks no rule
+  alive : Sofar b
+  unfolding RefusedRightly
+  alive =
+      let w = refused-rightly (b ++ x ∷ s) (x ∷ s) n e in
+      let same : b ≡ w .before = append-cancel-right b (w .before) (x ∷ s) (w .split) in
+      rw (← same) at (w .alive)
+
   none-admitted : n < 11 → ¬ Admitted b x
   none-admitted l a = goes-on-nowhere (λ m. ⊥) b x s n e (inl l) (a .under)
 
@@ -150,17 +116,18 @@ module _ (b : List Lexeme) (x : Lexeme) (s : List Lexeme) (n : ℕ) (e : read-te
 
   applies : {m : ℕ} → n ≡ m → Row (reverse b) x m → Applies b x m
   applies p (own l) = no-token l
-  applies p (seven c t) = reserved (none-admitted (omega arith)) c t
-  applies p (eight c t) = bare (none-admitted (omega arith)) c t
-  applies p (nine c t) = no-type (none-admitted (omega arith)) c (eqb-true _ _ t)
+  applies p (seven c t) = reserved (none-admitted (omega arith)) (name-stands b alive c) t
+  applies p (eight c t) = bare (none-admitted (omega arith)) (left-stands b alive c) t
+  applies p (nine c t) = no-type (none-admitted (omega arith)) (type-stands b alive c) (eqb-true _ _ t)
   applies p ten = not-admitted (none-admitted (omega arith))
   applies {m = m} p (limited l h) = limit l h (is-admitted (omega arith)) (λ k. goes-on-nowhere (λ j. j ≡ m) b x s n e (inr p) (k .under))
 
   least : (m : ℕ) → Applies b x m → n ≤ m
   least m (no-token l) = let y = own-bound (reverse b) x l in omega arith
-  least m (reserved f c t) = let y = seven-bound (reverse b) x c t in omega arith
-  least m (bare f c t) = let y = eight-bound (reverse b) x c t in omega arith
-  least m (no-type f c t) = let y = nine-bound (reverse b) x c t in omega arith
+  least m (reserved f c t) = let y = seven-bound (reverse b) x (stands-name b c) t in omega arith
+  least m (bare f c t) = let y = eight-bound (reverse b) x (stands-left b c) t in omega arith
+  least m (no-type f c t) =
+      ⊎-elim (λ k. absurd (f (name-stands b alive k .any-name x t))) (λ k. let y = nine-bound (reverse b) x k t in omega arith) (stands-type b c)
   least m (not-admitted f) = go (ltb 10 n) refl
     where
       go : (o : Bool) → ltb 10 n ≡ o → n ≤ 10

@@ -186,20 +186,22 @@ pub at-left : (l : Bool) (y : Lexeme) (c : List Lexeme) → y .kind ≡ kinds.na
 unfolding behind atCondition
 at-left l y c e f = record { name = rw e; left = f; type = rw e; begins = rw e; pattern = rw e; policy = rw e; list = no-list y c (rw e) }
 
+-- where a condition begins no target's or call's bracket can stand
+pub no-other : (c : List Lexeme) → atCondition c ≡ true → other c ≡ false
+unfolding behind atCondition
+no-other [] f = refl
+no-other (z ∷ c) f =
+    rw (
+      ne-eqb (z .kind) 201 (λ (q : z .kind ≡ 201). never (rw q at f)),
+      ne-eqb (z .kind) 202 (λ (q : z .kind ≡ 202). never (rw q at f)),
+      ne-eqb (z .kind) 217 (λ (q : z .kind ≡ 217). never (rw q at f)),
+      ne-eqb (z .kind) 218 (λ (q : z .kind ≡ 218). never (rw q at f)),
+    )
+
 -- a bracket where a condition begins
 pub begins-round : (y : Lexeme) {c : List Lexeme} → y .kind ≡ kinds.leftRound → AtCondition c → AtCondition (y ∷ c)
 unfolding behind atCondition
 begins-round y {c = c} e h = record { name = rw e; left = no-left y c (rw e); type = rw e; begins = rw (e, no-other c (h .begins)); pattern = rw e; policy = rw e; list = no-list y c (rw e) }
-  where
-    no-other : (c : List Lexeme) → atCondition c ≡ true → other c ≡ false
-    no-other [] f = refl
-    no-other (z ∷ c) f =
-        rw (
-          ne-eqb (z .kind) 201 (λ (q : z .kind ≡ 201). never (rw q at f)),
-          ne-eqb (z .kind) 202 (λ (q : z .kind ≡ 202). never (rw q at f)),
-          ne-eqb (z .kind) 217 (λ (q : z .kind ≡ 217). never (rw q at f)),
-          ne-eqb (z .kind) 218 (λ (q : z .kind ≡ 218). never (rw q at f)),
-        )
 
 -- ---- paths
 

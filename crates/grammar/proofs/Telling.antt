@@ -15,7 +15,7 @@ pub data Past (d r : List Lexeme) : List Lexeme → List Lexeme → Type 0 where
   here : Past d r d r
   step : {x : Lexeme} {c i : List Lexeme} → Past d r (x ∷ c) i → Past d r c (x ∷ i)
 
-past-then : {d r e m c i : List Lexeme} → Past d r e m → Past e m c i → Past d r c i
+pub past-then : {d r e m c i : List Lexeme} → Past d r e m → Past e m c i → Past d r c i
 past-then v here = v
 past-then v (step w) = step (past-then v w)
 

@@ -2,17 +2,17 @@
 use mathlib.Core.Path.{_≡_, refl, ap, sym, _∙_}
 use mathlib.Core.List.{List, [], _∷_, _++_, append-assoc, append-nil}
 use mathlib.Core.Logic.{inl, inr}
-use Prim.Native.Nat.{ℕ, _≤_, _<_}
+use Prim.Native.Nat.{ℕ, _≤_}
 use native.Mathlib.Omega.{arith}
 use lib.ListN.{length, length-append}
 use Rattle.reading.specs.Lexemes.{Lexeme}
 use Rattle.reading.proofs.Readers.{goes-refused}
 use Rattle.reading.proofs.Local.{same, ends}
 use Rattle.grammar.specs.Policies.{Policy}
-use Rattle.grammar.specs.Grammar.{Limits, sizes, lifting, Policies, policy, RuleText}
+use Rattle.grammar.specs.Grammar.{Limits, sizes, lifting, Beyond, Policies, policy, RuleText}
 use Rattle.grammar.specs.Grammar as grammar
 use Rattle.grammar.specs.Promise.{Sofar, Refused, RefusedRightly, OnePlace}
-use Rattle.grammar.proofs.Begun.{Swap, here, step, Eases, Beyond}
+use Rattle.grammar.proofs.Begun.{Swap, here, step, Eases, Exempt}
 use Rattle.grammar.proofs.Framing.{framed-policy}
 use Rattle.grammar.proofs.Viable.{viable-text}
 use Rattle.grammar.proofs.Exactly.{strictly, before-on}
@@ -38,7 +38,7 @@ swap-same (step {x = x} w) = ap (λ (l : List Lexeme). x ∷ l) (swap-same w)
 
 weaker : {L M : Limits} → ((r : List Lexeme) → Eases L M r r) → {i : List Lexeme} {ps qs : List Policy} → Policies L ps i qs → Policies M ps i qs
 weaker e grammar.Policies.end = grammar.Policies.end
-weaker e (policy {i = i} {m = m} t c h k) = let q = framed-policy _ .at (e m) h here in policy t (e i .effect here _ c) (rw (← swap-same (q .1)) at (q .2)) (weaker e k)
+weaker e (policy {i = i} {m = m} t c h k) = let q = framed-policy _ .at (e m) h here in policy t (e i .asks here _ c) (rw (← swap-same (q .1)) at (q .2)) (weaker e k)
 
 module _ (levels : ℕ) (Lifted Freed : ℕ → List Lexeme → Type 0) (f : (n : ℕ) (r : List Lexeme) → Lifted n r → Freed n r) where
   freed : (n : ℕ) {r m l : List Lexeme} → Swap r r m l → Lifted n m → Freed n l
@@ -46,10 +46,7 @@ module _ (levels : ℕ) (Lifted Freed : ℕ → List Lexeme → Type 0) (f : (n 
 
   pub less-asked : {i : List Lexeme} {ps qs : List Policy} → Policies (lifting levels Lifted) ps i qs → Policies (lifting levels Freed) ps i qs
   less-asked = weaker (λ r. record {
-    name = λ w root used x h. elim h [ inl t ↦ inl t | inr g ↦ inr (freed _ w g) ];
-    pattern = λ w x h. elim h [ inl t ↦ inl t | inr g ↦ inr (freed _ w g) ];
-    count = λ w k h. elim h [ inl t ↦ inl t | inr g ↦ inr (freed _ w g) ];
-    effect = λ w k h. elim h [ inl t ↦ inl t | inr g ↦ inr (freed _ w g) ];
+    asks = λ w l h. elim h [ inl t ↦ inl t | inr g ↦ inr (freed _ w g) ];
     levels = refl;
   })
 
@@ -66,7 +63,7 @@ refused-rightly i r n e =
     record {
       before = near .before;
       split = split;
-      alive = record { on = o .on; policies = o .policies; belongs = less-asked 31 (Beyond n (o .on)) (λ m s. length s < length (o .on)) (λ m s h. h .behind) (rw (swap-is (near .before) (o .swapped) split) at (o .belongs)) };
+      alive = record { on = o .on; policies = o .policies; belongs = less-asked 31 (Exempt n (o .on)) (λ m s. Beyond (o .on) s) (λ m s h. h .behind) (rw (swap-is (near .before) (o .swapped) split) at (o .belongs)) };
       dead = λ x s q f.
           let l = refused-again (before-on (f .on)) i r n e (x ∷ f .on) (f .policies) (rw q same) (rw cut (f .belongs)) in omega arith;
       no-text = λ ps q c. refused-again strictly i r n e [] ps (rw q ends) (rw append-nil c);
@@ -91,19 +88,20 @@ same-place P closed (x ∷ b) (y ∷ c) r s e h k =
     (record { alive = rw f (k .alive); dead = λ z u q p. k .dead z u q (rw (← f) p) })
 
 -- What breaks no rule breaks none in its beginning.
-beginning : (b c : List Lexeme) → Sofar (b ++ c) → Sofar b
-beginning b c h = record { on = c ++ h .on; policies = h .policies; belongs = less-asked 31 (λ n r. length r < length (h .on)) (λ n r. length r < length (c ++ h .on)) (λ n r l. let k = longer (h .on) in omega arith) (rw append-assoc at (h .belongs)) }
+pub beginning : (b c : List Lexeme) → Sofar (b ++ c) → Sofar b
+beginning b c h = record { on = c ++ h .on; policies = h .policies; belongs = less-asked 31 (λ n r. Beyond (h .on) r) (λ n r. Beyond (c ++ h .on) r) (λ n r l. let k = longer (h .on) in omega arith) (rw append-assoc at (h .belongs)) }
   where
     longer : (on : List Lexeme) → length on ≤ length (c ++ on)
     longer on = let l = length-append c on in omega arith
 
--- A rule text breaks no rule, so what is refused is none.
+-- A rule text breaks no rule.
+pub text-alive : (i : List Lexeme) (ps : List Policy) → RuleText sizes i ps → Sofar i
+text-alive i ps h = record { on = []; policies = ps; belongs = rw append-nil (weaker (λ r. record { asks = λ v l t. inl t; levels = refl }) h) }
+
+-- So what is refused is none.
 pub no-text-refused : (i r : List Lexeme) (ps : List Policy) → Refused i r → ¬ RuleText sizes i ps
 no-text-refused i [] ps w h = w .no-text ps refl (rw (w .split, append-nil) at h)
-no-text-refused i (x ∷ s) ps w h = w .dead x s refl (beginning (w .before ++ x ∷ []) s (rw (w .split, cut) at sofar))
-  where
-    sofar : Sofar i
-    sofar = record { on = []; policies = ps; belongs = rw append-nil (weaker (λ r. record { name = λ v root used y t. inl t; pattern = λ v y t. inl t; count = λ v k t. inl t; effect = λ v k t. inl t; levels = refl }) h) }
+no-text-refused i (x ∷ s) ps w h = w .dead x s refl (beginning (w .before ++ x ∷ []) s (rw (w .split, cut) at (text-alive i ps h)))
 
 pub one-place : OnePlace
 unfolding OnePlace

@@ -8,7 +8,7 @@ use Prim.Native.Nat.{ℕ, zero, suc, _+_, _<_}
 use native.Mathlib.Omega.{arith}
 use lib.Dec.{ltb}
 use lib.ListN.{length}
-use borrow.Author.Tests.{eqb-true, ltb-true}
+use borrow.Author.Tests.{eqb-true}
 use Rattle.slices.specs.Ascii.{bytes}
 use Rattle.slices.specs.Same.{same}
 use Rattle.tokens.specs.Kinds as kinds
@@ -19,11 +19,11 @@ use Rattle.reading.specs.Reader.{Answer, Reader, refuseBy, mapped, chain}
 use Rattle.reading.proofs.Readers.{Goes, good, goes-weaker, goes-below, goes-ten, goes-bind, goes-on, goes-need, goes-need-bind, goes-onwards}
 use Rattle.grammar.specs.Policies.{Span, Root, Literal, Operand, attribute, literal, Tree, compare, among, within, contains, has, choice, both, either, Part, Actions, oneOf, Policy}
 use Rattle.grammar.specs.Rules.{inside, isEffect, isRoot, rootOf, isLiteral, literalOf, isComparator, comparatorOf, isContains, whichOf, deepens, principalTypes, resourceTypes, typeAmong, isType, admitted, mostLiterals, mostPolicies, isPattern}
-use Rattle.grammar.specs.Grammar.{Limits, pathNumber, Path, firstPath, spanned, first, NextName, next, APath, Attribute, rooted, AnOperand, given, Element, element, Literals, Listing, Simple, comparison, likeness, listed, held, call, having, Conjunction, Disjunction, ConditionOver, simple, negation, bracketed, conditional, Condition, Typed, ResourceRest, ActionRest, When, PolicyRest, Policies, policy, RuleText}
+use Rattle.grammar.specs.Grammar.{a-policy, Limits, pathNumber, Path, firstPath, spanned, first, NextName, next, APath, Attribute, rooted, AnOperand, given, Element, element, Literals, Listing, Simple, comparison, likeness, listed, held, call, having, Conjunction, Disjunction, ConditionOver, simple, negation, bracketed, conditional, Condition, Typed, ResourceRest, ActionRest, When, PolicyRest, Policies, policy, RuleText}
 use Rattle.grammar.specs.Grammar as grammar
 use Rattle.grammar.specs.Parser.{Way, calling, noName, noOperator, noType, noLevel, noPattern, tooMany, noPolicy, fits, read-first-name, goesOn, read-next-name, read-way, noExit, spannedBy, read-path, read-attribute, read-operand, isElement, read-element, read-list, read-bare, read-in, isLike, read-pattern, read-operator, read-call, read-rest, read-rooted, read-simple, read-joined, read-conjunction, read-disjunction, read-negated, read-bracketed, read-conditional, read-deeper, read-condition, read-conditions, read-type, read-principal, read-action, read-resource, read-when, read-policy, mayBegin, read-next-policy, atEnd, read-text}
 use Rattle.grammar.specs.Parser as parser
-use Rattle.grammar.proofs.Begun.{Family, made, Swap, here, Moved, Eases, taken, Beyond, beyond, Kept, eased, few, beyond-few, Framed, framed-onto, framed-before, framed-chain, Then, followed, Possible, possible-onto, possible-before, possible-after, possible-then, possible-chain, Begun, begun-weaker, begun-first, begun-start, begun-more, begun-next, begun-inside, begun-left, begun-right, Viable, viable-mapped, viable-before, viable-after, viable-onwards, viable-chain}
+use Rattle.grammar.proofs.Begun.{Family, made, Swap, here, Moved, Eases, taken, Exempt, beyond, Kept, eased, few, beyond-few, Framed, framed-onto, framed-before, framed-chain, Then, followed, Possible, possible-onto, possible-before, possible-after, possible-then, possible-chain, Begun, begun-weaker, begun-first, begun-start, begun-more, begun-next, begun-inside, begun-left, begun-right, Viable, viable-mapped, viable-before, viable-after, viable-onwards, viable-chain}
 use Rattle.grammar.proofs.Limits.{name-number, string-number, literal-number, effect-number, level-number, bare-below, type-below, name-below, pattern-below, literal-below, effect-below, level-below, Chosen, chosen-beyond, goes-limit}
 use Rattle.grammar.proofs.Framing.{same-depth, framed-names, framed-attribute, framed-operand, framed-element, framed-list, framed-conjunction, framed-disjunction, framed-condition, framed-typed, framed-resource, framed-action, framed-when, framed-principals, framed-actions, framed-resources, framed-policy}
 
@@ -43,7 +43,7 @@ data Start : List Lexeme → List Lexeme → List Policy → Type 0 where
 
 -- one policy more after ps, behind its effect x
 pub data NextPolicy (ps : List Policy) (x : Lexeme) (L : Limits) : List Lexeme → List Lexeme → List Policy → Type 0 where
-  one : {i r : List Lexeme} {p : Policy} → L .Effect (length ps) i → PolicyRest L (is kinds.permitWord x) i r p → NextPolicy ps x L i r (ps ++ p ∷ [])
+  one : {i r : List Lexeme} {p : Policy} → L .Asks (a-policy (length ps)) i → PolicyRest L (is kinds.permitWord x) i r p → NextPolicy ps x L i r (ps ++ p ∷ [])
 
 -- some of a text's policies, and what follows them
 abbrev Upto : Family (List Policy)
@@ -63,7 +63,7 @@ framed-next : (ps : List Policy) (x : Lexeme) → Framed (NextPolicy ps x)
 framed-next ps x = record { at = go }
   where
     go : {L M : Limits} {r s i m n : List Lexeme} {qs : List Policy} → Eases L M r s → NextPolicy ps x L i m qs → Swap r s m n → Moved (NextPolicy ps x M) r s i n qs
-    go e (one l h) w = let q = framed-policy _ .at e h w in (_, q .1, one (e .effect (q .1) _ l) (q .2))
+    go e (one l h) w = let q = framed-policy _ .at e h w in (_, q .1, one (e .asks (q .1) _ l) (q .2))
 
 -- Where i is refused by n at r: some text begins as i does before r and goes on with the refused token where a limit refused it, and that limit is asked only of what stands before.
 pub record Opened (k : ℕ) (i : List Lexeme) (n : ℕ) (r : List Lexeme) : Type 0 where
@@ -80,7 +80,7 @@ module _ (extra : ℕ) where
 
   module _ (root : Root) where
     -- a name of which its limit is not asked
-    one-name : (n : ℕ) (s w : List Lexeme) → Beyond n s (pathNumber root) w → APath (beyond extra n s) root (made kinds.name ∷ w) w (firstPath (made kinds.name))
+    one-name : (n : ℕ) (s w : List Lexeme) → Exempt n s (pathNumber root) w → APath (beyond extra n s) root (made kinds.name ∷ w) w (firstPath (made kinds.name))
     one-name n s w l = alone (first {r = w} refl (inr l))
 
     -- a name that the limit of paths refuses, or any other
@@ -156,7 +156,7 @@ module _ (extra : ℕ) where
     unfolding read-element isElement
     viable-element ls = record {
       at = λ i.
-          goes-on _ _ _ _ _ i (λ x r e t. rw e (good (element (and-left _ _ t) (ltb-true _ _ (and-right (sort x) (ltb (length ls) mostLiterals) t)))))
+          goes-on _ _ _ _ _ i (λ x r e t. rw e (good (element (and-left _ _ t) (and-right (sort x) (ltb (length ls) mostLiterals) t))))
           (goes-limit (tooMany sort) sort 14 y fit (λ x t. literal-number sort x (sorts x t) t) (literal-below sort) i (λ n c. begun-first [] (λ w. (c .token ∷ w, _, c .kept w, element (c .passes) (inr (chosen-beyond c w))))));
     }
 
@@ -167,7 +167,7 @@ module _ (extra : ℕ) where
         (framed-chain (framed-element sort []) (λ ls x. framed-element sort ls)) kinds.rightSquare
 
     some-element : Possible extra (λ L. Element L sort [])
-    some-element = record { text = λ w. y ∷ w; tree = _; reads = λ n s w. element fit (inl (omega arith)) }
+    some-element = record { text = λ w. y ∷ w; tree = _; reads = λ n s w. element fit (inl refl) }
 
     some-list : Possible extra (λ L. Literals L sort)
     some-list = possible-before (possible-chain some-element) kinds.rightSquare
@@ -390,22 +390,22 @@ module _ (extra : ℕ) where
   viable-type types y fit x k i =
       goes-on _ _ _ _ _ i (λ n r e t. rw e (good (grammar.Typed.one k t))) (goes-below noType type-below i (λ num l. begun-first (x ∷ []) (λ w. (y ∷ w, _, few l, grammar.Typed.one k fit))))
 
-  a-name : List ℕ → Lexeme
-  a-name name = record { kind = kinds.name; start = 0; end = 0; bytes = name }
+  type-name : List ℕ → Lexeme
+  type-name name = record { kind = kinds.name; start = 0; end = 0; bytes = name }
 
   viable-principal : Viable extra read-principal (λ L. Typed principalTypes)
-  unfolding read-principal a-name principalTypes typeAmong same
+  unfolding read-principal type-name principalTypes typeAmong same
   viable-principal = record {
     at = λ i.
-        goes-on _ _ _ _ _ i (λ x r e t. rw e (viable-type principalTypes (a-name (bytes "tool")) refl x (eqb-true _ _ t) r)) (good grammar.Typed.bare);
+        goes-on _ _ _ _ _ i (λ x r e t. rw e (viable-type principalTypes (type-name (bytes "tool")) refl x (eqb-true _ _ t) r)) (good grammar.Typed.bare);
   }
 
   viable-resource : Viable extra read-resource (λ L. ResourceRest)
-  unfolding read-resource a-name resourceTypes typeAmong same
+  unfolding read-resource type-name resourceTypes typeAmong same
   viable-resource = record {
     at = λ i.
         goes-on _ _ _ _ _ i
-        (λ x r e t. rw e (goes-weaker (viable-type resourceTypes (a-name (bytes "shaft")) refl x (eqb-true _ _ t) r) (λ p m h. grammar.ResourceRest.sort h)
+        (λ x r e t. rw e (goes-weaker (viable-type resourceTypes (type-name (bytes "shaft")) refl x (eqb-true _ _ t) r) (λ p m h. grammar.ResourceRest.sort h)
         (λ num m b. begun-weaker b (λ s j w p h. grammar.ResourceRest.sort h))))
         (goes-on _ _ _ _ _ i
         (λ x r e t. rw e (goes-on _ _ _ _ _ r (λ s m e′ t′. rw e′ (good (grammar.ResourceRest.string (eqb-true _ _ t) (eqb-true _ _ t′))))
@@ -522,7 +522,7 @@ module _ (extra : ℕ) where
   viable-next-policy : (ps : List Policy) (x : Lexeme) → mayBegin ps x ≡ true → (isEffect x ≡ true) × Viable extra (read-next-policy ps x) (NextPolicy ps x)
   unfolding mayBegin read-next-policy mapped
   viable-next-policy ps x t =
-      let l : length ps < mostPolicies = ltb-true _ _ (and-right (isEffect x) (ltb (length ps) mostPolicies) t) in (
+      let l : ltb (length ps) mostPolicies ≡ true = and-right (isEffect x) (ltb (length ps) mostPolicies) t in (
         and-left _ _ t,
         record {
           at = λ i.

@@ -5,37 +5,25 @@ use mathlib.Core.Bool.{Bool, true}
 use mathlib.Core.List.{List, [], _∷_, _++_}
 use mathlib.Core.Option.{Option, none, some}
 use Prim.Native.Nat.{ℕ, zero, suc, _+_, _<_}
+use lib.Dec.{ltb}
 use lib.ListN.{length}
 use Rattle.tokens.specs.Kinds as kinds
-use Rattle.reading.specs.Lexemes.{Lexeme, is, size}
+use Rattle.reading.specs.Listed.{Lexeme, is, size, TokensOf}
 use Rattle.reading.specs.Reads.{Reading, Chain, Onto, Before, After}
-use Rattle.grammar.specs.Policies.{Span, span, Root, Root.Principal, Root.Resource, Root.Env, Root.Action, Literal, Operand, attribute, literal, Tree, constant, compare, like, among, within, contains, has, not, brackets, both, either, choice, Part, any, typed, pinned, Actions, every, oneOf, Policy}
-use Rattle.grammar.specs.Rules.{inside, spanOf, isEffect, isRoot, rootOf, isTruth, isLiteral, literalOf, isComparator, comparatorOf, isContains, whichOf, principalTypes, resourceTypes, typeOf, isType, admitted, mostLiterals, mostPolicies, isPattern}
+use Rattle.grammar.specs.Policies.{Span, span, Root, Root.Principal, Root.Resource, Root.Env, Root.Action, Literal, Operand, attribute, literal, Tree}
+use Rattle.grammar.specs.Policies.{constant, compare, like, among, within, contains, has, not, brackets, both, either, choice, Part, any, typed, pinned}
+use Rattle.grammar.specs.Policies.{Actions, every, oneOf, Policy}
+use Rattle.grammar.specs.Rules.{inside, spanOf, isEffect, isRoot, rootOf, isTruth, isLiteral, literalOf, isComparator, comparatorOf, isContains, whichOf}
+use Rattle.grammar.specs.Rules.{principalTypes, resourceTypes, typeOf, isType, admitted, mostLiterals, mostPolicies, mostInside, isPattern}
 
 -- ---- limits
 
--- What the limits ask of a name on a path of which so many bytes are used, of a pattern, of a literal with so many before it in its list, and of a policy's effect
--- with so many policies before it, each with the tokens behind it; and how many levels conditions may have inside them.
-pub record Limits : Type 1 where
-  pub Name : Root → ℕ → Lexeme → List Lexeme → Type 0
-  pub Pattern : Lexeme → List Lexeme → Type 0
-  pub Count : ℕ → List Lexeme → Type 0
-  pub Effect : ℕ → List Lexeme → Type 0
-  pub levels : ℕ
-
--- document 01's, but for the levels
-abbrev pub sizesTo : ℕ → Limits
-sizesTo levels = record {
-  Name = λ root used x r. admitted root used x ≡ true;
-  Pattern = λ x r. isPattern (inside x) ≡ true;
-  Count = λ k r. k < mostLiterals;
-  Effect = λ k r. k < mostPolicies;
-  levels = levels;
-}
-
--- document 01's: the braces after `when` are the first of 32 levels
-abbrev pub sizes : Limits
-sizes = sizesTo 31
+-- What has a limit: a name on a path after the root, of which so many bytes are used; a pattern; a literal with so many before it in its list;
+-- a policy with so many before it in its text.
+pub data Limit : Type 0 where
+  a-name : Root → ℕ → Lexeme → Limit
+  a-pattern : Lexeme → Limit
+  a-literal a-policy : ℕ → Limit
 
 -- the number of the limit of a path after the root
 abbrev pub pathNumber : Root → ℕ
@@ -44,19 +32,48 @@ pathNumber Resource = 16
 pathNumber Env = 16
 pathNumber Action = 11
 
--- document 01's limits, where Lifted n r says that the one with the number n is not asked of a token before r
+-- its number in document 01's table (levels, which are counted apart, have 12)
+abbrev pub limitNumber : Limit → ℕ
+limitNumber (a-name root used x) = pathNumber root
+limitNumber (a-pattern x) = 13
+limitNumber (a-literal k) = 14
+limitNumber (a-policy k) = 15
+
+-- whether it is kept
+abbrev pub kept : Limit → Bool
+kept (a-name root used x) = admitted root used x
+kept (a-pattern x) = isPattern (inside x)
+kept (a-literal k) = ltb k mostLiterals
+kept (a-policy k) = ltb k mostPolicies
+
+-- Which limits are asked, each with the tokens behind it; and how many levels conditions may have inside them.
+pub record Limits : Type 1 where
+  pub Asks : Limit → List Lexeme → Type 0
+  pub levels : ℕ
+
+-- document 01's, but for the levels
+abbrev pub sizesTo : ℕ → Limits
+sizesTo levels = record { Asks = λ l r. kept l ≡ true; levels = levels }
+
+-- document 01's
+abbrev pub sizes : Limits
+sizes = sizesTo mostInside
+
+-- document 01's, where Lifted n r says that the one with the number n is not asked of a token before r
 abbrev pub lifting : ℕ → (ℕ → List Lexeme → Type 0) → Limits
-lifting levels Lifted = record {
-  Name = λ root used x r. (admitted root used x ≡ true) ⊎ Lifted (pathNumber root) r;
-  Pattern = λ x r. (isPattern (inside x) ≡ true) ⊎ Lifted 13 r;
-  Count = λ k r. (k < mostLiterals) ⊎ Lifted 14 r;
-  Effect = λ k r. (k < mostPolicies) ⊎ Lifted 15 r;
-  levels = levels;
-}
+lifting levels Lifted = record { Asks = λ l r. (kept l ≡ true) ⊎ Lifted (limitNumber l) r; levels = levels }
+
+-- a token with r behind it is one of the last tokens `on`
+abbrev pub Beyond : List Lexeme → List Lexeme → Type 0
+Beyond on r = length r < length on
 
 -- document 01's, asked only of what stands before the last tokens `on`
 abbrev pub sizesBefore : List Lexeme → Limits
-sizesBefore on = lifting 31 (λ n r. length r < length on)
+sizesBefore on = lifting mostInside (λ n r. Beyond on r)
+
+-- none
+abbrev pub unlimited : Limits
+unlimited = record { Asks = λ l r. Unit {0}; levels = 0 }
 
 -- ---- paths: names joined by dots
 
@@ -80,11 +97,11 @@ spanned p = span (p .start) (p .end)
 
 -- the first name of a path after the root
 pub data FirstName (L : Limits) (root : Root) : List Lexeme → List Lexeme → Path → Type 0 where
-  first : {x : Lexeme} {r : List Lexeme} → x .kind ≡ kinds.name → L .Name root 0 x r → FirstName L root (x ∷ r) r (firstPath x)
+  first : {x : Lexeme} {r : List Lexeme} → x .kind ≡ kinds.name → L .Asks (a-name root 0 x) r → FirstName L root (x ∷ r) r (firstPath x)
 
 -- one name more on the path p
 pub data NextName (L : Limits) (root : Root) (p : Path) : List Lexeme → List Lexeme → Path → Type 0 where
-  next : {x : Lexeme} {r : List Lexeme} → x .kind ≡ kinds.name → L .Name root (p .used + 1) x r → NextName L root p (x ∷ r) r (longerPath p x)
+  next : {x : Lexeme} {r : List Lexeme} → x .kind ≡ kinds.name → L .Asks (a-name root (p .used + 1) x) r → NextName L root p (x ∷ r) r (longerPath p x)
 
 -- a path after the root
 abbrev pub APath : Limits → Root → Reading Path
@@ -106,7 +123,7 @@ pub data AnOperand (L : Limits) : List Lexeme → List Lexeme → Operand → Ty
 
 -- one literal more after ls, of the sort that the test says
 pub data Element (L : Limits) (sort : Lexeme → Bool) (ls : List Literal) : List Lexeme → List Lexeme → List Literal → Type 0 where
-  element : {x : Lexeme} {r : List Lexeme} → sort x ≡ true → L .Count (length ls) r → Element L sort ls (x ∷ r) r (ls ++ literalOf x ∷ [])
+  element : {x : Lexeme} {r : List Lexeme} → sort x ≡ true → L .Asks (a-literal (length ls)) r → Element L sort ls (x ∷ r) r (ls ++ literalOf x ∷ [])
 
 -- a list's literals of a sort, and its `]`
 abbrev pub Literals : Limits → (Lexeme → Bool) → Reading (List Literal)
@@ -124,7 +141,7 @@ pub data Simple (L : Limits) : List Lexeme → List Lexeme → Tree → Type 0 w
   comparison : {x : Lexeme} {i m r : List Lexeme} {a b : Operand}
     → AnOperand L i (x ∷ m) a → isComparator x ≡ true → AnOperand L m r b → Simple L i r (compare (comparatorOf x) a b)
   likeness : {x s : Lexeme} {i r : List Lexeme} {a : Operand}
-    → AnOperand L i (x ∷ s ∷ r) a → x .kind ≡ kinds.likeWord → s .kind ≡ kinds.string → L .Pattern s r → Simple L i r (like a (spanOf s))
+    → AnOperand L i (x ∷ s ∷ r) a → x .kind ≡ kinds.likeWord → s .kind ≡ kinds.string → L .Asks (a-pattern s) r → Simple L i r (like a (spanOf s))
   listed : {x : Lexeme} {i m r : List Lexeme} {a : Operand} {ls : List Literal}
     → AnOperand L i (x ∷ m) a → x .kind ≡ kinds.inWord → Listing L isLiteral m r ls → Simple L i r (among a ls)
   held : {x : Lexeme} {i m r : List Lexeme} {a : Operand} {root : Root} {p : Span}
@@ -156,7 +173,8 @@ pub data ConditionOver (L : Limits) (Inner : Reading Tree) : List Lexeme → Lis
   bracketed : {x : Lexeme} {i r : List Lexeme} {t : Tree} → x .kind ≡ kinds.leftRound → Before kinds.rightRound (Disjunction Inner) i r t
     → ConditionOver L Inner (x ∷ i) r (brackets t)
   conditional : {x : Lexeme} {i m n r : List Lexeme} {c a b : Tree}
-    → x .kind ≡ kinds.ifWord → Before kinds.thenWord Inner i m c → Before kinds.elseWord Inner m n a → Inner n r b → ConditionOver L Inner (x ∷ i) r (choice c a b)
+    → x .kind ≡ kinds.ifWord → Before kinds.thenWord Inner i m c → Before kinds.elseWord Inner m n a → Inner n r b
+    → ConditionOver L Inner (x ∷ i) r (choice c a b)
 
 -- where no level is left, there is no condition
 pub data Nothing : List Lexeme → List Lexeme → Tree → Type 0 where
@@ -206,8 +224,15 @@ pub data PolicyRest (L : Limits) (permits : Bool) : List Lexeme → List Lexeme 
 pub data Policies (L : Limits) : List Policy → List Lexeme → List Policy → Type 0 where
   end : {ps : List Policy} → Policies L ps [] ps
   policy : {x : Lexeme} {i m : List Lexeme} {p : Policy} {ps qs : List Policy}
-    → isEffect x ≡ true → L .Effect (length ps) i → PolicyRest L (is kinds.permitWord x) i m p → Policies L (ps ++ p ∷ []) m qs → Policies L ps (x ∷ i) qs
+    → isEffect x ≡ true → L .Asks (a-policy (length ps)) i → PolicyRest L (is kinds.permitWord x) i m p → Policies L (ps ++ p ∷ []) m qs
+    → Policies L ps (x ∷ i) qs
 
 -- the tokens of a rule text that says these policies
 abbrev pub RuleText : Limits → List Lexeme → List Policy → Type 0
 RuleText L i ps = Policies L [] i ps
+
+-- a text of bytes says these policies: its tokens are a rule text within document 01's limits
+pub record SaysPolicies (text : List ℕ) (ps : List Policy) : Type 0 where
+  pub tokens : List Lexeme
+  pub listed : TokensOf text 0 tokens
+  pub belongs : RuleText sizes tokens ps

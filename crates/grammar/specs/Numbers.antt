@@ -1,12 +1,12 @@
--- Which number a refused token gets, by the token and what stands before it: document 01's table, row by row. What stands before is given as a list with the last token first;
--- it breaks no rule, and the refused token breaks one. When a row applies is said in Lowest.antt; here the lowest of them is computed. Definitions only.
+-- Which number a refused token gets, by the token and what stands before it: document 01's table, row by row, computed. What stands before is given as a list
+-- with the last token first; it breaks no rule, and the refused token breaks one. When a row applies is said, by productions, in Lowest.antt. Definitions only.
 use mathlib.Core.Path.{_≡_}
 use mathlib.Core.Bool.{Bool, false, cond, not, _&&_, _||_}
 use mathlib.Core.List.{List, [], _∷_, _++_, reverse}
 use Prim.Native.Nat.{ℕ, zero, suc}
 use lib.Dec.{ltb}
 use Rattle.tokens.specs.Kinds as kinds
-use Rattle.reading.specs.Lexemes.{Lexeme, is}
+use Rattle.reading.specs.Listed.{Lexeme, is}
 use Rattle.reading.specs.Reader.{refuse}
 use Rattle.grammar.specs.Rules.{isEffect, isReserved, isRoot, isLiteral, isContains, endsBare, deepens, mostLiterals}
 use Rattle.grammar.specs.Parser.{read-text}
@@ -38,8 +38,8 @@ afterPolicy = behind (is kinds.semicolon)
 unfoldable pub atCondition : List Lexeme → Bool
 atCondition [] = false
 atCondition (y ∷ c) =
-    (is kinds.leftRound y && not (behind (λ z. isEffect z || isContains z) c)) || is kinds.leftBrace y || is kinds.bang y || is kinds.ifWord y || is kinds.thenWord y || is kinds.elseWord y
-    || is kinds.and y || is kinds.or y
+    (is kinds.leftRound y && not (behind (λ z. isEffect z || isContains z) c)) || is kinds.leftBrace y || is kinds.bang y
+    || is kinds.ifWord y || is kinds.thenWord y || is kinds.elseWord y || is kinds.and y || is kinds.or y
 
 -- a root that begins a left operand
 unfoldable pub leftRoot : List Lexeme → Bool

@@ -6,10 +6,13 @@ use Prim.Native.Nat.{ℕ, zero, suc, _+_}
 use lib.Dec.{ltb}
 use lib.ListN.{length}
 use Rattle.tokens.specs.Kinds as kinds
-use Rattle.reading.specs.Lexemes.{Lexeme, is}
+use Rattle.reading.specs.Listed.{Lexeme, is}
 use Rattle.reading.specs.Reader.{took, Reader, refuseBy, ten, bind, on, need, before, mapped, onwards, chain}
-use Rattle.grammar.specs.Policies.{Span, Root, Literal, text, number, truth, Operand, attribute, literal, Which, Tree, constant, compare, like, among, within, contains, has, not, brackets, both, either, choice, Part, any, typed, pinned, Actions, every, oneOf, Policy}
-use Rattle.grammar.specs.Rules.{inside, spanOf, isEffect, isReserved, isRoot, rootOf, isLiteral, literalOf, isComparator, comparatorOf, isContains, whichOf, endsBare, deepens, principalTypes, resourceTypes, typeOf, isType, admitted, mostLiterals, mostPolicies, isPattern}
+use Rattle.grammar.specs.Policies.{Span, Root, Literal, text, number, truth, Operand, attribute, literal, Which, Tree, constant, compare, like, among}
+use Rattle.grammar.specs.Policies.{within, contains, has, not, brackets, both, either, choice, Part, any, typed, pinned, Actions, every, oneOf, Policy}
+use Rattle.grammar.specs.Rules.{inside, spanOf, isEffect, isReserved, isRoot, rootOf, isLiteral, literalOf, isComparator, comparatorOf, isContains}
+use Rattle.grammar.specs.Rules.{whichOf, endsBare, deepens, principalTypes, resourceTypes, typeOf, isType, admitted, mostLiterals, mostPolicies}
+use Rattle.grammar.specs.Rules.{mostInside, isPattern}
 use Rattle.grammar.specs.Grammar.{pathNumber, Path, firstPath, longerPath, spanned}
 
 -- ---- which number a token gets that is not admitted
@@ -193,7 +196,7 @@ read-condition (suc d) = read-simple (read-deeper (read-condition d))
 
 -- after the `{` of `when`
 unfoldable pub read-conditions : Reader Tree
-read-conditions = read-disjunction (read-condition 31)
+read-conditions = read-disjunction (read-condition mostInside)
 
 -- ---- policies
 

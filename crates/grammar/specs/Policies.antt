@@ -1,4 +1,5 @@
--- What a rule text says: its policies, with the places of the words, paths, strings and numbers that they have. Definitions only.
+-- What a rule text says: its policies, over what a word (a path, a string or a number) is to them: its place in the text, as they are read, or its bytes.
+-- Definitions only.
 use mathlib.Core.Bool.{Bool}
 use mathlib.Core.List.{List}
 use mathlib.Core.Option.{Option}
@@ -21,59 +22,79 @@ pub data Root : Type 0 where
 pub data Comparator : Type 0 where
   Equal NotEqual More AtLeast Less AtMost : Comparator
 
--- a string or a number, by its place, or true or false
-pub data Literal : Type 0 where
-  text : Span → Literal
-  number : Span → Literal
-  truth : Bool → Literal
+-- a string or a number, by its word, or true or false
+pub data LiteralOf (W : Type 0) : Type 0 where
+  text : W → LiteralOf W
+  number : W → LiteralOf W
+  truth : Bool → LiteralOf W
 
 -- an attribute, by its root and its path, or a literal
-pub data Operand : Type 0 where
-  attribute : Root → Span → Operand
-  literal : Literal → Operand
+pub data OperandOf (W : Type 0) : Type 0 where
+  attribute : Root → W → OperandOf W
+  literal : LiteralOf W → OperandOf W
 
 -- containsAll, containsAny
 pub data Which : Type 0 where
   All Any : Which
 
 -- a condition; brackets are kept
-pub data Tree : Type 0 where
+pub data TreeOf (W : Type 0) : Type 0 where
   -- bare true or false
-  constant : Bool → Tree
+  constant : Bool → TreeOf W
   -- two operands with a comparator
-  compare : Comparator → Operand → Operand → Tree
+  compare : Comparator → OperandOf W → OperandOf W → TreeOf W
   -- an operand `like` a string
-  like : Operand → Span → Tree
+  like : OperandOf W → W → TreeOf W
   -- an operand `in` a list, an operand `in` an attribute
-  among : Operand → List Literal → Tree
-  within : Operand → Root → Span → Tree
+  among : OperandOf W → List (LiteralOf W) → TreeOf W
+  within : OperandOf W → Root → W → TreeOf W
   -- containsAll or containsAny of an attribute, with a list
-  contains : Which → Root → Span → List Literal → Tree
+  contains : Which → Root → W → List (LiteralOf W) → TreeOf W
   -- a root, `has` and a path
-  has : Root → Span → Tree
+  has : Root → W → TreeOf W
   -- `!`, brackets
-  not : Tree → Tree
-  brackets : Tree → Tree
+  not : TreeOf W → TreeOf W
+  brackets : TreeOf W → TreeOf W
   -- `&&`, `||`
-  both either : Tree → Tree → Tree
+  both either : TreeOf W → TreeOf W → TreeOf W
   -- `if`, `then`, `else`
-  choice : Tree → Tree → Tree → Tree
+  choice : TreeOf W → TreeOf W → TreeOf W → TreeOf W
 
 -- what the principal part or the resource part asks: nothing, a type, by its number among that part's types from 1 on, or a string
-pub data Part : Type 0 where
-  any : Part
-  typed : ℕ → Part
-  pinned : Span → Part
+pub data PartOf (W : Type 0) : Type 0 where
+  any : PartOf W
+  typed : ℕ → PartOf W
+  pinned : W → PartOf W
 
 -- what the action part asks: nothing, or one of these strings
-pub data Actions : Type 0 where
-  every : Actions
-  oneOf : List Literal → Actions
+pub data ActionsOf (W : Type 0) : Type 0 where
+  every : ActionsOf W
+  oneOf : List (LiteralOf W) → ActionsOf W
 
 -- a policy: permit or forbid, what its three parts ask, and its condition, if it has one
-pub record Policy : Type 0 where
+pub record PolicyOf (W : Type 0) : Type 0 where
   pub permits : Bool
-  pub principal : Part
-  pub action : Actions
-  pub resource : Part
-  pub condition : Option Tree
+  pub principal : PartOf W
+  pub action : ActionsOf W
+  pub resource : PartOf W
+  pub condition : Option (TreeOf W)
+
+-- ---- as a text is read: a word is its place (by its bytes: placing/specs/Said.antt)
+
+abbrev pub Literal : Type 0
+Literal = LiteralOf Span
+
+abbrev pub Operand : Type 0
+Operand = OperandOf Span
+
+abbrev pub Tree : Type 0
+Tree = TreeOf Span
+
+abbrev pub Part : Type 0
+Part = PartOf Span
+
+abbrev pub Actions : Type 0
+Actions = ActionsOf Span
+
+abbrev pub Policy : Type 0
+Policy = PolicyOf Span

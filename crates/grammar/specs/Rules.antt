@@ -1,4 +1,5 @@
--- Rules of document 01 about single tokens and their bytes: which are roots, literals, comparators, types, names that may go on a path, patterns. Definitions only.
+-- Rules of document 01 about single tokens and their bytes: which are roots, literals, comparators, types, names that may go on a path,
+-- patterns. Definitions only.
 use mathlib.Core.Bool.{Bool, true, false, cond, not, _&&_, _||_}
 use mathlib.Core.List.{List, [], _∷_, map}
 use Prim.Native.Nat.{ℕ, suc, _+_, _-_}
@@ -8,8 +9,10 @@ use lib.ListN.{length, take, drop}
 use Rattle.slices.specs.Ascii.{bytes}
 use Rattle.slices.specs.Same.{same}
 use Rattle.tokens.specs.Kinds as kinds
-use Rattle.reading.specs.Lexemes.{Lexeme, is, size}
-use Rattle.grammar.specs.Policies.{Span, span, Root, Root.Principal, Root.Resource, Root.Env, Root.Action, Comparator, Comparator.Equal, Comparator.NotEqual, Comparator.More, Comparator.AtLeast, Comparator.Less, Comparator.AtMost, Literal, text, number, truth, Which, Which.All, Which.Any}
+use Rattle.reading.specs.Listed.{Lexeme, is, size}
+use Rattle.grammar.specs.Policies.{Span, span, Root, Root.Principal, Root.Resource, Root.Env, Root.Action, Comparator, Comparator.Equal}
+use Rattle.grammar.specs.Policies.{Comparator.NotEqual, Comparator.More, Comparator.AtLeast, Comparator.Less, Comparator.AtMost, Literal, text, number}
+use Rattle.grammar.specs.Policies.{truth, Which, Which.All, Which.Any}
 
 -- a string's bytes without its quotes
 abbrev pub inside : Lexeme → List ℕ
@@ -103,14 +106,18 @@ isType types x = is kinds.name x && not (eqb (typeOf types x) 0)
 
 -- ---- paths
 
--- the name x may go on a path after the root: after action only `name` makes a path; any other path has at most 64 bytes with its dots, `used` of them before the name
+-- the most bytes of a path, with its dots
+abbrev pub mostPathBytes : ℕ
+mostPathBytes = 64
+
+-- the name x may go on a path after the root, behind `used` bytes of it: after action only `name` makes a path; any other path has at most so many bytes
 unfoldable pub admitted : Root → ℕ → Lexeme → Bool
-admitted Principal used x = leb (used + size x) 64
-admitted Resource used x = leb (used + size x) 64
-admitted Env used x = leb (used + size x) 64
+admitted Principal used x = leb (used + size x) mostPathBytes
+admitted Resource used x = leb (used + size x) mostPathBytes
+admitted Env used x = leb (used + size x) mostPathBytes
 admitted Action used x = eqb used 0 && same (x .bytes) (bytes "name")
 
--- ---- lists, policies
+-- ---- lists, policies, levels
 
 -- the most literals of a list, the most policies of a text
 abbrev pub mostLiterals : ℕ
@@ -119,7 +126,18 @@ mostLiterals = 16
 abbrev pub mostPolicies : ℕ
 mostPolicies = 64
 
+-- the most levels that a condition has inside it: the braces after `when` are the first of 32
+abbrev pub mostInside : ℕ
+mostInside = 31
+
 -- ---- patterns
+
+-- the most bytes of a pattern, the most wildcards
+abbrev pub mostPatternBytes : ℕ
+mostPatternBytes = 100
+
+abbrev pub mostWildcards : ℕ
+mostWildcards = 5
 
 -- `*`, `?`
 abbrev pub isWildcard : ℕ → Bool
@@ -135,6 +153,6 @@ unfoldable pub plain : Bool → List ℕ → Bool
 plain star [] = true
 plain star (b ∷ rest) = not (eqb b (code "[")) && not (eqb b (code "{")) && not (star && eqb b (code "*")) && plain (eqb b (code "*")) rest
 
--- at most 100 bytes, at most 5 wildcards, without `[`, `{` or `**`
+-- at most so many bytes and so many wildcards, without `[`, `{` or `**`
 unfoldable pub isPattern : List ℕ → Bool
-isPattern s = leb (length s) 100 && leb (wildcards s) 5 && plain false s
+isPattern s = leb (length s) mostPatternBytes && leb (wildcards s) mostWildcards && plain false s

@@ -1,1 +1,2 @@
-// The grammar of rule texts over their tokens: productions, the reader that finds a text's policies, and what is promised of it. Definitions and theorems, no code.
+// The grammar of rule texts over their tokens: productions, the reader that finds a text's policies, and what is promised of it. Definitions and theorems, no
+// code.

@@ -6,13 +6,13 @@ ghost use mathlib.Core.List.{[]};
 ghost use Prim.Native.Nat.{_+_, _-_, _<_, _^_};
 ghost use lib.ListN.{length};
 ghost use Rattle.tokens.specs.Tokens.{Reads};
-ghost use Rattle.reading.specs.Lexemes.{lexeme, stream};
+ghost use Rattle.reading.specs.Lexemes.{lexeme};
 ghost use Rattle.reading.specs.Reader.{mapped};
 ghost use Rattle.grammar.specs.Policies.{Span, span, Root, Comparator, Operand, compare, attribute, Which};
 ghost use Rattle.grammar.specs.Parser as parser;
 ghost use Rattle.grammar.specs.Parser.{read-operand, read-bare, read-in, read-pattern, read-operator, read-call, read-rest, read-rooted, noOperator, spannedBy};
 ghost use Rattle.table.specs.Entries.{operandEntry, treeEntries, comparatorKind, whichKind};
-ghost use Rattle.parts.specs.Answers.{ReadyToRead, Done, callAfter};
+ghost use Rattle.parts.specs.Answers.{ReadyToRead, DoneAt, callAfter};
 ghost use Rattle.parts.specs.Names.{rootFrom, comparing};
 use crate::likes::is_pattern;
 use parts::answers::Answer;
@@ -84,8 +84,9 @@ fn read_compared(
     same: bool,
 ) -> Answer
     requires { ⌜ ReadyToRead (now classes) (now text) (number + 2) t ⌝ }
-    ensures { λ r. ⌜ ((a : Operand) → operandEntry a ≡ left → (c : Comparator) → comparatorKind c ≡ kind → Done treeEntries (now (text .entry)) (now (seen .entry)) (t .start - 2) number same
-        (now (table .entry)) (now (table .exit)) (mapped (compare c a) read-operand (stream (now (text .entry)) t)) r) ⌝ }
+    ensures { λ r. ⌜ ((a : Operand) → operandEntry a ≡ left → (c : Comparator) → comparatorKind c ≡ kind
+        → DoneAt treeEntries (now (text .entry)) (now (seen .entry)) t 2 number same (now (table .entry)) (now (table .exit))
+        (mapped (compare c a) read-operand) r) ⌝ }
 {
     let ok = append(table, seen, number, same, left);
     let right = read_operand(classes, text, table, seen, t, number + 1, ok);
@@ -113,8 +114,8 @@ fn read_pattern(
     same: bool,
 ) -> Answer
     requires { ⌜ ReadyToRead (now classes) (now text) (number + 2) t ⌝ }
-    ensures { λ r. ⌜ ((a : Operand) → operandEntry a ≡ left → Done treeEntries (now (text .entry)) (now (seen .entry)) (t .start - 2) number same
-        (now (table .entry)) (now (table .exit)) (read-pattern a (stream (now (text .entry)) t)) r) ⌝ }
+    ensures { λ r. ⌜ ((a : Operand) → operandEntry a ≡ left
+        → DoneAt treeEntries (now (text .entry)) (now (seen .entry)) t 2 number same (now (table .entry)) (now (table .exit)) (read-pattern a) r) ⌝ }
 {
     if t.kind != kinds::STRING {
         return Answer::Refused(turned_away(text, t, refusals::NOT_ADMITTED));
@@ -151,8 +152,8 @@ fn read_in(
     same: bool,
 ) -> Answer
     requires { ⌜ ReadyToRead (now classes) (now text) (number + 2) t ⌝ }
-    ensures { λ r. ⌜ ((a : Operand) → operandEntry a ≡ left → Done treeEntries (now (text .entry)) (now (seen .entry)) (t .start - 2) number same
-        (now (table .entry)) (now (table .exit)) (read-in a (stream (now (text .entry)) t)) r) ⌝ }
+    ensures { λ r. ⌜ ((a : Operand) → operandEntry a ≡ left
+        → DoneAt treeEntries (now (text .entry)) (now (seen .entry)) t 2 number same (now (table .entry)) (now (table .exit)) (read-in a) r) ⌝ }
 {
     let ok = append(table, seen, number, same, left);
     if t.kind == b'[' {
@@ -188,8 +189,8 @@ fn read_bare(
     same: bool,
 ) -> Answer
     requires { ⌜ Reads (now text) (number + 1) t × (length (now text) < 2 ^ 60) ⌝ }
-    ensures { λ r. ⌜ ((a : Operand) → operandEntry a ≡ left → Done treeEntries (now (text .entry)) (now (seen .entry)) (t .start - 1) number same
-        (now (table .entry)) (now (table .exit)) (read-bare a (stream (now (text .entry)) t)) r) ⌝ }
+    ensures { λ r. ⌜ ((a : Operand) → operandEntry a ≡ left
+        → DoneAt treeEntries (now (text .entry)) (now (seen .entry)) t 1 number same (now (table .entry)) (now (table .exit)) (read-bare a) r) ⌝ }
 {
     if left.kind <= entries::ACTION {
         return Answer::Refused(turned_away(text, t, no_operator(t)));
@@ -213,8 +214,8 @@ pub fn read_operator(
     same: bool,
 ) -> Answer
     requires { ⌜ ReadyToRead (now classes) (now text) (number + 1) t ⌝ }
-    ensures { λ r. ⌜ ((a : Operand) → operandEntry a ≡ left → Done treeEntries (now (text .entry)) (now (seen .entry)) (t .start - 1) number same
-        (now (table .entry)) (now (table .exit)) (read-operator a (stream (now (text .entry)) t)) r) ⌝ }
+    ensures { λ r. ⌜ ((a : Operand) → operandEntry a ≡ left
+        → DoneAt treeEntries (now (text .entry)) (now (seen .entry)) t 1 number same (now (table .entry)) (now (table .exit)) (read-operator a) r) ⌝ }
 {
     let comparator = comparator_kind(t.kind);
     if comparator != 0 {
@@ -255,8 +256,8 @@ fn read_call(
     same: bool,
 ) -> Answer
     requires { ⌜ ReadyToRead (now classes) (now text) (number + 1) t ⌝ }
-    ensures { λ r. ⌜ ((w : Which) → whichKind w ≡ kind → (root : Root) (p : Span) → operandEntry (attribute root p) ≡ left → Done treeEntries (now (text .entry)) (now (seen .entry)) (t .start - 1) number same
-        (now (table .entry)) (now (table .exit)) (read-call w root p (stream (now (text .entry)) t)) r) ⌝ }
+    ensures { λ r. ⌜ ((w : Which) → whichKind w ≡ kind → (root : Root) (p : Span) → operandEntry (attribute root p) ≡ left
+        → DoneAt treeEntries (now (text .entry)) (now (seen .entry)) t 1 number same (now (table .entry)) (now (table .exit)) (read-call w root p) r) ⌝ }
 {
     if t.kind != b'(' {
         return Answer::Refused(turned_away(text, t, refusals::NOT_ADMITTED));
@@ -284,8 +285,9 @@ fn read_rest(
     same: bool,
 ) -> Answer
     requires { ⌜ ReadyToRead (now classes) (now text) (number + 1) (path .next) ⌝ }
-    ensures { λ r. ⌜ ((way : parser.Way) → spannedBy way ≡ span (path .start) (path .end) → callAfter way ≡ path .call → Done treeEntries (now (text .entry)) (now (seen .entry))
-        (path .next .start - 1) number same (now (table .entry)) (now (table .exit)) (read-rest (rootFrom root) way (stream (now (text .entry)) (path .next))) r) ⌝ }
+    ensures { λ r. ⌜ ((way : parser.Way) → spannedBy way ≡ span (path .start) (path .end) → callAfter way ≡ path .call
+        → DoneAt treeEntries (now (text .entry)) (now (seen .entry)) (path .next) 1 number same (now (table .entry)) (now (table .exit))
+        (read-rest (rootFrom root) way) r) ⌝ }
 {
     let left = Entry {
         kind: root_kind(root),
@@ -320,8 +322,8 @@ pub fn read_rooted(
     same: bool,
 ) -> Answer
     requires { ⌜ ReadyToRead (now classes) (now text) (number + 1) t ⌝ }
-    ensures { λ r. ⌜ Done treeEntries (now (text .entry)) (now (seen .entry)) (t .start - 1) number same (now (table .entry)) (now (table .exit))
-        (read-rooted (rootFrom root) (stream (now (text .entry)) t)) r ⌝ }
+    ensures { λ r. ⌜ DoneAt treeEntries (now (text .entry)) (now (seen .entry)) t 1 number same (now (table .entry)) (now (table .exit))
+        (read-rooted (rootFrom root)) r ⌝ }
 {
     if t.kind == b'.' {
         let name = next_token(classes, text, t.end);

@@ -5,14 +5,21 @@ ghost use Rattle.reading.specs.Lexemes.{lexeme};
 ghost use Rattle.grammar.specs.Rules.{isPattern, inside};
 use tokens::reader::Token;
 
+// How many bytes a pattern may have, and how many with its two quotes.
+const PATTERN_BYTES: usize = 100;
+
+const QUOTED_BYTES: usize = PATTERN_BYTES + 2;
+
+// How many wildcards it may have.
+const WILDCARDS: usize = 5;
+
 // Whether what a string has between its quotes is a pattern: at most 100 bytes and 5 wildcards, without `[`, `{` and `**`.
 pub fn is_pattern(text: &[u8], t: Token) -> bool
     requires { ⌜ Reads (now text) 0 t ⌝ }
     ensures { λ r. ⌜ r ≡ isPattern (inside (lexeme (now (text .entry)) t)) ⌝ }
 {
     let end = t.end;
-    // 100 bytes, and the two quotes
-    if 102 < end - t.start {
+    if QUOTED_BYTES < end - t.start {
         return false;
     }
     let mut wildcards = 0;
@@ -29,5 +36,5 @@ pub fn is_pattern(text: &[u8], t: Token) -> bool
         star = again;
         i += 1;
     }
-    wildcards <= 5
+    wildcards <= WILDCARDS
 }

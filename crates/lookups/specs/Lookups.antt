@@ -7,6 +7,8 @@ use lib.Ieee.{Float}
 use Rattle.slices.specs.Same.{same}
 use Rattle.bags.specs.Reading.{byte, each}
 use Rattle.bags.specs.Sections.{pathAt, kindAt, entryEnd, sectionsOf, isBag}
+-- a path and what stands under it
+pub use Rattle.bags.specs.Data.{Entry}
 use Rattle.bags.specs.declared.sections.Sections.{Sections}
 use Rattle.bags.specs.declared.sections.Divided.{Divided}
 use Rattle.bags.specs.declared.sections.Divided.the-variants.{In, Broken}
@@ -15,11 +17,6 @@ use Rattle.lookups.specs.declared.values.Value.{Value}
 use Rattle.lookups.specs.declared.Answer.{Answer}
 use Rattle.lookups.specs.declared.Stretch.{Stretch}
 use Rattle.lookups.specs.declared.Answer.the-variants.{Refused, Found}
-
--- a path and what stands under it
-pub record Entry (A : Type 0) : Type 0 where
-  pub path : List ℕ
-  pub value : A
 
 -- the value of the entry with this path, or else none
 unfoldable pub lookIn : {A : Type 0} → A → List (Entry A) → List ℕ → A

@@ -16,7 +16,8 @@ fn joined(a: u8, b: u8, c: u8, d: u8) -> u32
 // The four bytes from `i` on as one number.
 fn word(a: &[u8], i: usize) -> u32
     requires { ⌜ i + 4 ≤ length (now a) ⌝ }
-    ensures { λ r. ⌜ r ≡ byte (now (a .entry)) i + 256 * byte (now (a .entry)) (i + 1) + 65536 * byte (now (a .entry)) (i + 2) + 16777216 * byte (now (a .entry)) (i + 3) ⌝ }
+    ensures { λ r. ⌜ r ≡ byte (now (a .entry)) i + 256 * byte (now (a .entry)) (i + 1)
+        + 65536 * byte (now (a .entry)) (i + 2) + 16777216 * byte (now (a .entry)) (i + 3) ⌝ }
 {
     joined(a[i], a[i + 1], a[i + 2], a[i + 3])
 }

@@ -78,7 +78,8 @@ pub fn string_place(bag: &[u8], root: u8, path: &[u8]) -> Stretch
 
 // A string's bytes, as a part of the caller's bag; an empty part for anything else.
 pub fn string_part<'a>(bag: &'a [u8], root: u8, path: &[u8]) -> &'a [u8]
-    ensures { λ r. ⌜ IsPart (bag .entry) r (startOf (lookupOf (now (bag .entry)) root (now (path .entry)))) (lengthOf (now (bag .entry)) (lookupOf (now (bag .entry)) root (now (path .entry)))) ⌝ }
+    ensures { λ r. ⌜ IsPart (bag .entry) r (startOf (lookupOf (now (bag .entry)) root (now (path .entry))))
+        (lengthOf (now (bag .entry)) (lookupOf (now (bag .entry)) root (now (path .entry)))) ⌝ }
 {
     let p = string_place(bag, root, path);
     let start = p.start;

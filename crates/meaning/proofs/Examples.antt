@@ -12,6 +12,7 @@ use Rattle.reading.specs.Lexemes.{tokensOf}
 use Rattle.reading.specs.Reader.{Answer, took, refuse}
 use Rattle.grammar.specs.Policies.{Tree, Policy}
 use Rattle.grammar.specs.Parser.{read-conditions, read-text}
+use Rattle.placing.specs.Said.{treeWords, wordsOf}
 use Rattle.views.specs.Meaning.{text, number, flag, texts, absent, View}
 use Rattle.meaning.specs.Values.{withAction}
 use Rattle.meaning.specs.Conditions.{verdict}
@@ -37,7 +38,7 @@ four root path =
 
 -- that of a condition that was read
 abbrev pub verdictIn : List ℕ → View → Answer Tree → Verdict
-verdictIn t view (took c r) = verdict t view c
+verdictIn t view (took c r) = verdict view (treeWords t c)
 verdictIn t view (refuse n r) = Missing
 
 -- what a condition is found to be where the action is teach
@@ -53,7 +54,7 @@ Fails s = found four s ≡ No
 
 -- what is decided by policies that were read
 abbrev pub decisionIn : List ℕ → View → Request → Answer (List Policy) → Decision
-decisionIn t view q (took ps r) = decisionOf t view q ps
+decisionIn t view q (took ps r) = decisionOf view q (wordsOf t ps)
 decisionIn t view q (refuse n r) = Nothing
 
 -- what a subject who wants to teach a resource gets under a text, where no attribute is known

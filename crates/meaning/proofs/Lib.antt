@@ -1,5 +1,5 @@
 pub mod Deciding
 pub mod Paths
-pub mod Words
+pub mod WordLaws
 pub mod Opened
 pub mod Examples

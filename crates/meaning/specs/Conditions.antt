@@ -4,8 +4,8 @@ use mathlib.Core.List.{List, [], _∷_}
 use Prim.Native.Nat.{ℕ}
 use Rattle.slices.specs.Same.{same}
 use Rattle.patterns.specs.Likes.{likes}
-use Rattle.grammar.specs.Policies.{Comparator, Comparator.Equal, Literal, Which, Which.All, Which.Any, Tree, constant, compare, like, among, within, contains, has, not, brackets, both, either, choice}
-use Rattle.placing.specs.Placed.{quotedAt}
+use Rattle.grammar.specs.Policies.{Comparator, Comparator.Equal, LiteralOf, Which, Which.All, Which.Any, TreeOf, constant, compare, like, among, within, contains, has, not, brackets, both, either, choice}
+use Rattle.placing.specs.Said.{Word}
 use Rattle.views.specs.Meaning.{Datum, text, number, flag, texts, absent, present, View}
 use Rattle.meaning.specs.Values.{literalValue, attributeValue, operandValue, ifText, ifTexts, compares}
 use Rattle.meaning.specs.declared.Verdict.{Verdict}
@@ -92,16 +92,16 @@ abbrev pub likened : Datum → List ℕ → Verdict
 likened d pattern = settled (given d (ifText d (likes pattern)))
 
 -- `in` a list: equal to some literal of the same kind
-abbrev pub inList : List ℕ → Datum → List Literal → Verdict
-inList t d ls = settled (given d (some (λ l. compares Equal d (literalValue t l)) ls))
+abbrev pub inList : Datum → List (LiteralOf Word) → Verdict
+inList d ls = settled (given d (some (λ l. compares Equal d (literalValue l)) ls))
 
 -- `in` an attribute: a string among a list of strings
 abbrev pub inAttribute : Datum → Datum → Verdict
 inAttribute d e = settled (givenBoth d e (ifText d λ x. ifTexts e λ l. amongStrings l x))
 
 -- containsAll: each literal is a string of the list; containsAny: one is
-abbrev pub contained : List ℕ → Which → Datum → List Literal → Verdict
-contained t w d ls = settled (given d (ifTexts d λ l. asked w (λ x. ifText (literalValue t x) (amongStrings l)) ls))
+abbrev pub contained : Which → Datum → List (LiteralOf Word) → Verdict
+contained w d ls = settled (given d (ifTexts d λ l. asked w (λ x. ifText (literalValue x) (amongStrings l)) ls))
 
 -- `has`: there is such an entry
 abbrev pub had : Datum → Verdict
@@ -109,20 +109,20 @@ had d = told (present d)
 
 -- ---- conditions
 
--- what a condition is found to be, where the text is t and the attributes are those of the view
-unfoldable pub verdict : List ℕ → View → Tree → Verdict
-verdict t view (constant b) = told b
-verdict t view (compare c a b) = compared c (operandValue t view a) (operandValue t view b)
-verdict t view (like a s) = likened (operandValue t view a) (quotedAt t s)
-verdict t view (among a ls) = inList t (operandValue t view a) ls
-verdict t view (within a root s) = inAttribute (operandValue t view a) (attributeValue t view root s)
-verdict t view (contains w root s ls) = contained t w (attributeValue t view root s) ls
-verdict t view (has root s) = had (attributeValue t view root s)
-verdict t view (not a) = negated (verdict t view a)
-verdict t view (brackets a) = verdict t view a
-verdict t view (both a b) = bothOf (verdict t view a) (verdict t view b)
-verdict t view (either a b) = eitherOf (verdict t view a) (verdict t view b)
-verdict t view (choice c a b) = choiceOf (verdict t view c) (verdict t view a) (verdict t view b)
+-- what a condition is found to be, where the attributes are those of the view
+unfoldable pub verdict : View → TreeOf Word → Verdict
+verdict view (constant b) = told b
+verdict view (compare c a b) = compared c (operandValue view a) (operandValue view b)
+verdict view (like a s) = likened (operandValue view a) s
+verdict view (among a ls) = inList (operandValue view a) ls
+verdict view (within a root s) = inAttribute (operandValue view a) (attributeValue view root s)
+verdict view (contains w root s ls) = contained w (attributeValue view root s) ls
+verdict view (has root s) = had (attributeValue view root s)
+verdict view (not a) = negated (verdict view a)
+verdict view (brackets a) = verdict view a
+verdict view (both a b) = bothOf (verdict view a) (verdict view b)
+verdict view (either a b) = eitherOf (verdict view a) (verdict view b)
+verdict view (choice c a b) = choiceOf (verdict view c) (verdict view a) (verdict view b)
 
 -- the condition is true
 abbrev pub isYes : Verdict → Bool

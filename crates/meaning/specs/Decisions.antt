@@ -5,8 +5,9 @@ use mathlib.Core.Bool.{Bool, true, false, cond, not, _&&_}
 use mathlib.Core.List.{List, [], _∷_}
 use mathlib.Core.Option.{Option, none, some}
 use Prim.Native.Nat.{ℕ, zero, suc, _≤_}
-use Rattle.grammar.specs.Policies.{Tree, Policy}
+use Rattle.grammar.specs.Policies.{TreeOf, PolicyOf}
 use Rattle.grammar.specs.Rules.{principalTypes, resourceTypes}
+use Rattle.placing.specs.Said.{Word}
 use Rattle.views.specs.Meaning.{View}
 use Rattle.meaning.specs.Values.{withAction}
 use Rattle.meaning.specs.Conditions.{verdict, isYes}
@@ -17,23 +18,23 @@ use Rattle.meaning.specs.declared.Decision.the-variants.{Allowed, Forbid
 -- ---- satisfied policies
 
 -- the three parts of a policy's target match the request
-unfoldable pub targetMatches : List ℕ → Request → Policy → Bool
-targetMatches t q p =
-    partMatches principalTypes t (q .subject) (p .principal) && actionMatches t (q .action) (p .action) && partMatches resourceTypes t (q .resource) (p .resource)
+unfoldable pub targetMatches : Request → PolicyOf Word → Bool
+targetMatches q p =
+    partMatches principalTypes (q .subject) (p .principal) && actionMatches (q .action) (p .action) && partMatches resourceTypes (q .resource) (p .resource)
 
 -- its condition, if any, is true
-unfoldable pub conditionHolds : List ℕ → View → Option Tree → Bool
-conditionHolds t view none = true
-conditionHolds t view (some c) = isYes (verdict t view c)
+unfoldable pub conditionHolds : View → Option (TreeOf Word) → Bool
+conditionHolds view none = true
+conditionHolds view (some c) = isYes (verdict view c)
 
 -- a policy is satisfied if its target parts match and its condition, if any, is true
-unfoldable pub satisfied : List ℕ → View → Request → Policy → Bool
-satisfied t view q p = targetMatches t q p && conditionHolds t (withAction (q .action) view) (p .condition)
+unfoldable pub satisfied : View → Request → PolicyOf Word → Bool
+satisfied view q p = targetMatches q p && conditionHolds (withAction (q .action) view) (p .condition)
 
 -- ---- the decision
 
--- the number of the first policy that passes the test, where they count from n on; 0 where none does
-unfoldable pub firstOf : (Policy → Bool) → ℕ → List Policy → ℕ
+-- the number of the first of a list that passes the test, where they count from n on; 0 where none does
+unfoldable pub firstOf : {A : Type 0} → (A → Bool) → ℕ → List A → ℕ
 firstOf test n [] = 0
 firstOf test n (p ∷ ps) = cond (test p) n (firstOf test (suc n) ps)
 
@@ -44,19 +45,19 @@ byNumbers zero (suc permit) = Allowed (suc permit)
 byNumbers (suc forbid) permit = Forbidden (suc forbid)
 
 -- a satisfied forbid, and a satisfied permit
-abbrev pub forbids : List ℕ → View → Request → Policy → Bool
-forbids t view q p = not (p .permits) && satisfied t view q p
+abbrev pub forbids : View → Request → PolicyOf Word → Bool
+forbids view q p = not (p .permits) && satisfied view q p
 
-abbrev pub permits : List ℕ → View → Request → Policy → Bool
-permits t view q p = p .permits && satisfied t view q p
+abbrev pub permits : View → Request → PolicyOf Word → Bool
+permits view q p = p .permits && satisfied view q p
 
 -- what the policies decide
-unfoldable pub policiesDecide : List ℕ → View → Request → List Policy → Decision
-policiesDecide t view q ps = byNumbers (firstOf (forbids t view q) 1 ps) (firstOf (permits t view q) 1 ps)
+unfoldable pub policiesDecide : View → Request → List (PolicyOf Word) → Decision
+policiesDecide view q ps = byNumbers (firstOf (forbids view q) 1 ps) (firstOf (permits view q) 1 ps)
 
 -- the system may do all
-unfoldable pub decisionOf : List ℕ → View → Request → List Policy → Decision
-decisionOf t view q ps = cond (isSystem (q .subject)) System (policiesDecide t view q ps)
+unfoldable pub decisionOf : View → Request → List (PolicyOf Word) → Decision
+decisionOf view q ps = cond (isSystem (q .subject)) System (policiesDecide view q ps)
 
 -- document 01's number of each outcome
 unfoldable pub outcomeOf : Decision → ℕ
@@ -81,44 +82,44 @@ isAllowed System = true
 
 -- ---- demand 2, without computing
 
--- policy number n of a list, from 1 on
-pub data Numbered : ℕ → Policy → List Policy → Type 0 where
-  first : {p : Policy} {ps : List Policy} → Numbered 1 p (p ∷ ps)
-  later : {n : ℕ} {p q : Policy} {ps : List Policy} → Numbered n p ps → Numbered (suc n) p (q ∷ ps)
+-- number n of a list, from 1 on
+pub data Numbered {A : Type 0} : ℕ → A → List A → Type 0 where
+  first : {p : A} {ps : List A} → Numbered 1 p (p ∷ ps)
+  later : {n : ℕ} {p q : A} {ps : List A} → Numbered n p ps → Numbered (suc n) p (q ∷ ps)
 
 -- policy number n has this effect and is satisfied
-pub record SatisfiedAs (t : List ℕ) (view : View) (q : Request) (ps : List Policy) (permits : Bool) (n : ℕ) : Type 0 where
-  pub policy : Policy
+pub record SatisfiedAs (view : View) (q : Request) (ps : List (PolicyOf Word)) (permits : Bool) (n : ℕ) : Type 0 where
+  pub policy : PolicyOf Word
   pub numbered : Numbered n policy ps
   pub effect : policy .permits ≡ permits
-  pub satisfied-there : satisfied t view q policy ≡ true
+  pub satisfied-there : satisfied view q policy ≡ true
 
 -- some policy of this effect is satisfied
-pub record SomeSatisfied (t : List ℕ) (view : View) (q : Request) (ps : List Policy) (permits : Bool) : Type 0 where
+pub record SomeSatisfied (view : View) (q : Request) (ps : List (PolicyOf Word)) (permits : Bool) : Type 0 where
   pub number : ℕ
-  pub satisfied-as : SatisfiedAs t view q ps permits number
+  pub satisfied-as : SatisfiedAs view q ps permits number
 
 -- n is the lowest number of a satisfied policy of this effect
-pub record LowestSatisfied (t : List ℕ) (view : View) (q : Request) (ps : List Policy) (permits : Bool) (n : ℕ) : Type 0 where
-  pub satisfied-as : SatisfiedAs t view q ps permits n
-  pub lowest : (m : ℕ) → SatisfiedAs t view q ps permits m → n ≤ m
+pub record LowestSatisfied (view : View) (q : Request) (ps : List (PolicyOf Word)) (permits : Bool) (n : ℕ) : Type 0 where
+  pub satisfied-as : SatisfiedAs view q ps permits n
+  pub lowest : (m : ℕ) → SatisfiedAs view q ps permits m → n ≤ m
 
 -- A request gets yes exactly if the subject is the system, or some permit is satisfied and no forbid is.
 unfoldable pub YesExactly : Type 0
-YesExactly = (t : List ℕ) (view : View) (q : Request) (ps : List Policy)
-    → (isAllowed (decisionOf t view q ps) ≡ true) ↔ ((isSystem (q .subject) ≡ true) ⊎ (SomeSatisfied t view q ps true × (SomeSatisfied t view q ps false → ⊥)))
+YesExactly = (view : View) (q : Request) (ps : List (PolicyOf Word))
+    → (isAllowed (decisionOf view q ps) ≡ true) ↔ ((isSystem (q .subject) ≡ true) ⊎ (SomeSatisfied view q ps true × (SomeSatisfied view q ps false → ⊥)))
 
 -- For any subject but the system the answer names the lowest-numbered satisfied forbid, else the lowest-numbered satisfied permit, else none; for the system it names none.
-pub data NamesPolicy (t : List ℕ) (view : View) (q : Request) (ps : List Policy) : ℕ → Type 0 where
-  the-system : isSystem (q .subject) ≡ true → NamesPolicy t view q ps 0
-  a-forbid : {n : ℕ} → isSystem (q .subject) ≡ false → LowestSatisfied t view q ps false n → NamesPolicy t view q ps n
-  a-permit : {n : ℕ} → isSystem (q .subject) ≡ false → (SomeSatisfied t view q ps false → ⊥) → LowestSatisfied t view q ps true n → NamesPolicy t view q ps n
-  none-named : isSystem (q .subject) ≡ false → (SomeSatisfied t view q ps false → ⊥) → (SomeSatisfied t view q ps true → ⊥) → NamesPolicy t view q ps 0
+pub data NamesPolicy (view : View) (q : Request) (ps : List (PolicyOf Word)) : ℕ → Type 0 where
+  the-system : isSystem (q .subject) ≡ true → NamesPolicy view q ps 0
+  a-forbid : {n : ℕ} → isSystem (q .subject) ≡ false → LowestSatisfied view q ps false n → NamesPolicy view q ps n
+  a-permit : {n : ℕ} → isSystem (q .subject) ≡ false → (SomeSatisfied view q ps false → ⊥) → LowestSatisfied view q ps true n → NamesPolicy view q ps n
+  none-named : isSystem (q .subject) ≡ false → (SomeSatisfied view q ps false → ⊥) → (SomeSatisfied view q ps true → ⊥) → NamesPolicy view q ps 0
 
 -- What is decided names so.
 unfoldable pub NamedRightly : Type 0
-NamedRightly = (t : List ℕ) (view : View) (q : Request) (ps : List Policy) → NamesPolicy t view q ps (policyOf (decisionOf t view q ps))
+NamedRightly = (view : View) (q : Request) (ps : List (PolicyOf Word)) → NamesPolicy view q ps (policyOf (decisionOf view q ps))
 
 -- And there is one such number.
 unfoldable pub OneName : Type 0
-OneName = (t : List ℕ) (view : View) (q : Request) (ps : List Policy) (m n : ℕ) → NamesPolicy t view q ps m → NamesPolicy t view q ps n → m ≡ n
+OneName = (view : View) (q : Request) (ps : List (PolicyOf Word)) (m n : ℕ) → NamesPolicy view q ps m → NamesPolicy view q ps n → m ≡ n

@@ -3,4 +3,3 @@ pub mod Conditions
 pub mod Targets
 pub mod Decisions
 pub mod Paths
-pub mod Words

@@ -7,9 +7,9 @@ use lib.Dec.{eqb, leb, ltb}
 use lib.ListN.{length}
 use Rattle.slices.specs.Ascii.{bytes}
 use Rattle.slices.specs.Same.{same}
-use Rattle.grammar.specs.Policies.{Literal, text, number, truth, Part, any, typed, pinned, Actions, every, oneOf}
+use Rattle.grammar.specs.Policies.{LiteralOf, text, number, truth, PartOf, any, typed, pinned, ActionsOf, every, oneOf}
 use Rattle.grammar.specs.Rules.{principalTypes, resourceTypes, typeAmong}
-use Rattle.placing.specs.Placed.{quotedAt}
+use Rattle.placing.specs.Said.{Word}
 use Rattle.meaning.specs.Conditions.{some}
 
 -- who wants to do what with which resource, each as its bytes
@@ -61,18 +61,18 @@ isResource s = isTyped resourceTypes s
 -- ---- targets
 
 -- the principal part or the resource part matches s: a bare one always, `is` by the text before the first colon, `==` by the whole string
-unfoldable pub partMatches : List (List ℕ) → List ℕ → List ℕ → Part → Bool
-partMatches types t s any = true
-partMatches types t s (typed k) = eqb (typeIn types s) k
-partMatches types t s (pinned p) = same s (quotedAt t p)
+unfoldable pub partMatches : List (List ℕ) → List ℕ → PartOf Word → Bool
+partMatches types s any = true
+partMatches types s (typed k) = eqb (typeIn types s) k
+partMatches types s (pinned w) = same s w
 
 -- a literal is the string s
-unfoldable pub isString : List ℕ → List ℕ → Literal → Bool
-isString t s (text p) = same s (quotedAt t p)
-isString t s (number p) = false
-isString t s (truth b) = false
+unfoldable pub isString : List ℕ → LiteralOf Word → Bool
+isString s (text w) = same s w
+isString s (number w) = false
+isString s (truth b) = false
 
 -- the action part matches the action s: a bare one always, `in` a list if s is one of its strings
-unfoldable pub actionMatches : List ℕ → List ℕ → Actions → Bool
-actionMatches t s every = true
-actionMatches t s (oneOf ls) = some (isString t s) ls
+unfoldable pub actionMatches : List ℕ → ActionsOf Word → Bool
+actionMatches s every = true
+actionMatches s (oneOf ls) = some (isString s) ls

@@ -1,4 +1,4 @@
--- What operands are: attributes of a view, and literals of the text (document 01, 'Deciding'). Definitions only.
+-- What operands are: attributes of a view, and literals (document 01, 'Deciding'). Definitions only.
 use mathlib.Core.Bool.{Bool, true, false, cond, not}
 use mathlib.Core.List.{List}
 use Prim.Native.Nat.{ℕ}
@@ -9,8 +9,8 @@ use Rattle.slices.specs.Same.{same}
 use Rattle.numbers.specs.Literals.{numberIn}
 use Rattle.numbers.specs.Comparing.{holds}
 use Rattle.numbers.specs.declared.comparing.Comparator.the-variants as numbers
-use Rattle.grammar.specs.Policies.{Span, Root, Root.Principal, Root.Resource, Root.Env, Root.Action, Comparator, Comparator.Equal, Comparator.NotEqual, Comparator.More, Comparator.AtLeast, Comparator.Less, Comparator.AtMost, Literal, text as textLiteral, number as numberLiteral, truth, Operand, attribute, literal}
-use Rattle.placing.specs.Placed.{bytesAt, quotedAt, pathAt}
+use Rattle.grammar.specs.Policies.{Root, Root.Principal, Root.Resource, Root.Env, Root.Action, Comparator, Comparator.Equal, Comparator.NotEqual, Comparator.More, Comparator.AtLeast, Comparator.Less, Comparator.AtMost, LiteralOf, text as textLiteral, number as numberLiteral, truth, OperandOf, attribute, literal}
+use Rattle.placing.specs.Said.{Word}
 use Rattle.views.specs.Meaning.{Datum, text, number, flag, texts, absent, View}
 
 -- the root bytes of document 01, and 4 for action, which is no root of a bag
@@ -25,19 +25,19 @@ unfoldable pub withAction : List ℕ → View → View
 withAction action view root path = cond (eqb root (rootByte Action)) (cond (same path (bytes "name")) (text action) absent) (view root path)
 
 -- a literal: the bytes between a string's quotes, the number that its digits spell, or a flag
-unfoldable pub literalValue : List ℕ → Literal → Datum
-literalValue t (textLiteral s) = text (quotedAt t s)
-literalValue t (numberLiteral s) = number (numberIn (bytesAt t s))
-literalValue t (truth b) = flag b
+unfoldable pub literalValue : LiteralOf Word → Datum
+literalValue (textLiteral w) = text w
+literalValue (numberLiteral w) = number (numberIn w)
+literalValue (truth b) = flag b
 
--- an attribute: what the view has for its root and its path without blanks
-unfoldable pub attributeValue : List ℕ → View → Root → Span → Datum
-attributeValue t view root s = view (rootByte root) (pathAt t s)
+-- an attribute: what the view has for its root and its path
+unfoldable pub attributeValue : View → Root → Word → Datum
+attributeValue view root w = view (rootByte root) w
 
 -- an operand: an attribute or a literal
-unfoldable pub operandValue : List ℕ → View → Operand → Datum
-operandValue t view (attribute root s) = attributeValue t view root s
-operandValue t view (literal l) = literalValue t l
+unfoldable pub operandValue : View → OperandOf Word → Datum
+operandValue view (attribute root w) = attributeValue view root w
+operandValue view (literal l) = literalValue l
 
 -- ---- what holds of a value of one kind, and is false of every other
 

@@ -9,11 +9,11 @@ use lib.Dec.{eqb, leb}
 use Rattle.patterns.specs.Likes.{likes}
 use Rattle.views.specs.Meaning.{View, present}
 use Rattle.grammar.specs.Policies.{Span, Root, Comparator, Comparator.Equal, Literal, Operand, Which, Tree, constant, compare, like, among, within, contains, has}
-use Rattle.placing.specs.Placed.{quotedAt, StringPlaced, PathPlaced, Each, LiteralPlaced, OperandPlaced, TreePlaced, a-comparison, a-likeness, in-list, in-attribute, a-call, a-presence}
+use Rattle.placing.specs.Placed.{quotedAt, StringPlaced, PathPlaced, Each, LiteralPlaced, OperandPlaced, TreePlaced, a-comparison, a-likeness, in-list, in-attribute, a-call, a-presence, pathAt}
+use Rattle.placing.specs.Said.{literalWords, operandWords, treeWords}
 use Rattle.table.specs.declared.Entry.{Entry}
-use Rattle.table.specs.Layout.{entryAt}
-use Rattle.stored.specs.ReadBack.{spanOf, rootOf, comparatorOf, operandOf, literalsAt, listAt, ownerAt, treeOf, treeAt}
-use Rattle.stored.specs.Ready.{Room, Node}
+use Rattle.stored.specs.ReadBack.{spanOf, rootOf, comparatorOf, operandOf, literalsBy, listBy, ownerBy, treeFrom, treeBy}
+use Rattle.stored.specs.Ready.{Room, NodeBy}
 use Rattle.stored.proofs.Nodes.{as-has, as-compare, as-like, as-among, as-within, as-contains-all, as-contains-any}
 use Rattle.meaning.specs.Values.{literalValue, attributeValue, operandValue, ifText, ifTexts, compares}
 use Rattle.meaning.specs.Conditions.{told, some, asked, amongStrings, verdict}
@@ -23,19 +23,19 @@ use Rattle.operators.proofs.VerdictLaws.{constant-told, compare-told, l
 
 -- ---- which condition it is
 
-module _ (table : List ℕ) (end : ℕ) (x : Entry) where
-  as-constant : 8 < x .kind → x .kind ≤ 12 → treeOf (treeAt table) table end x ≡ constant (eqb (x .kind) 11)
-  unfolding treeOf
+module _ (at : ℕ → Entry) (end : ℕ) (x : Entry) where
+  as-constant : 8 < x .kind → x .kind ≤ 12 → treeFrom (treeBy at) at end x ≡ constant (eqb (x .kind) 11)
+  unfolding treeFrom
   as-constant l h = rw (lt-leb (x .kind) 8 l, le-leb (x .kind) 12 h)
 
   as-contains : 22 ≤ x .kind → x .kind ≤ 23
-      → treeOf (treeAt table) table end x ≡ contains (whichOf (eqb (x .kind) 23)) (rootOf (ownerAt table end x .kind)) (spanOf (ownerAt table end x)) (listAt table end x)
+      → treeFrom (treeBy at) at end x ≡ contains (whichOf (eqb (x .kind) 23)) (rootOf (ownerBy at end x .kind)) (spanOf (ownerBy at end x)) (listBy at end x)
   as-contains l h = go (eqb (x .kind) 23) refl
     where
       go : (any : Bool) → eqb (x .kind) 23 ≡ any
-          → treeOf (treeAt table) table end x ≡ contains (whichOf any) (rootOf (ownerAt table end x .kind)) (spanOf (ownerAt table end x)) (listAt table end x)
-      go true e = as-contains-any (treeAt table) table end x (eqb-true (x .kind) 23 e)
-      go false e = let n = eqb-false (x .kind) 23 e in as-contains-all (treeAt table) table end x (omega arith)
+          → treeFrom (treeBy at) at end x ≡ contains (whichOf any) (rootOf (ownerBy at end x .kind)) (spanOf (ownerBy at end x)) (listBy at end x)
+      go true e = as-contains-any (treeBy at) at end x (eqb-true (x .kind) 23 e)
+      go false e = let n = eqb-false (x .kind) 23 e in as-contains-all (treeBy at) at end x (omega arith)
 
 -- ---- where its left operand stands
 
@@ -89,80 +89,80 @@ module _ {t : List ℕ} where
   asked-for : {root : Root} {s : Span} → TreePlaced t (has root s) → PathPlaced t root s
   asked-for (a-presence p) = p
 
-module _ {t table : List ℕ} {end : ℕ} {x : Entry} (node : Node t table end x) where
+module _ {t : List ℕ} {at : ℕ → Entry} {many end : ℕ} {x : Entry} (node : NodeBy t at many end x) where
   pub has-placed : x .kind ≤ 8 → PathPlaced t (rootOf (x .kind - 4)) (spanOf x)
-  has-placed h = asked-for (subst (TreePlaced t) (as-has (treeAt table) table end x h) (node .placed))
+  has-placed h = asked-for (subst (TreePlaced t) (as-has (treeBy at) at end x h) (node .placed))
 
-  pub compare-placed : (a b : Entry) → 12 < x .kind → x .kind ≤ 18 → a ≡ entryAt table (end - 3) → b ≡ entryAt table (end - 2)
+  pub compare-placed : (a b : Entry) → 12 < x .kind → x .kind ≤ 18 → a ≡ at (end - 3) → b ≡ at (end - 2)
       → OperandPlaced t (operandOf a) × OperandPlaced t (operandOf b)
-  compare-placed a b l h p q = rw (p, q) (compared (subst (TreePlaced t) (as-compare (treeAt table) table end x (omega arith) h) (node .placed)))
+  compare-placed a b l h p q = rw (p, q) (compared (subst (TreePlaced t) (as-compare (treeBy at) at end x (omega arith) h) (node .placed)))
 
-  pub like-placed : (a : Entry) → x .kind ≡ 19 → a ≡ entryAt table (end - 2) → OperandPlaced t (operandOf a) × StringPlaced t (spanOf x)
-  like-placed a k p = rw p (likened (subst (TreePlaced t) (as-like (treeAt table) table end x k) (node .placed)))
+  pub like-placed : (a : Entry) → x .kind ≡ 19 → a ≡ at (end - 2) → OperandPlaced t (operandOf a) × StringPlaced t (spanOf x)
+  like-placed a k p = rw p (likened (subst (TreePlaced t) (as-like (treeBy at) at end x k) (node .placed)))
 
-  pub among-placed : (a : Entry) → x .kind ≡ 20 → a ≡ ownerAt table end x
-      → OperandPlaced t (operandOf a) × Each (LiteralPlaced t) (literalsAt (x .first) table (end - x .first - 1))
-  among-placed a k p = rw p (sought (subst (TreePlaced t) (as-among (treeAt table) table end x k) (node .placed)))
+  pub among-placed : (a : Entry) → x .kind ≡ 20 → a ≡ ownerBy at end x
+      → OperandPlaced t (operandOf a) × Each (LiteralPlaced t) (literalsBy (x .first) at (end - x .first - 1))
+  among-placed a k p = rw p (sought (subst (TreePlaced t) (as-among (treeBy at) at end x k) (node .placed)))
 
-  pub within-placed : (a b : Entry) → x .kind ≡ 21 → a ≡ entryAt table (end - 3) → b ≡ entryAt table (end - 2)
+  pub within-placed : (a b : Entry) → x .kind ≡ 21 → a ≡ at (end - 3) → b ≡ at (end - 2)
       → OperandPlaced t (operandOf a) × PathPlaced t (rootOf (b .kind)) (spanOf b)
-  within-placed a b k p q = rw (p, q) (sought-within (subst (TreePlaced t) (as-within (treeAt table) table end x k) (node .placed)))
+  within-placed a b k p q = rw (p, q) (sought-within (subst (TreePlaced t) (as-within (treeBy at) at end x k) (node .placed)))
 
-  pub contains-placed : (b : Entry) → 22 ≤ x .kind → x .kind ≤ 23 → b ≡ ownerAt table end x
-      → PathPlaced t (rootOf (b .kind)) (spanOf b) × Each (LiteralPlaced t) (literalsAt (x .first) table (end - x .first - 1))
-  contains-placed b l h p = rw p (called (subst (TreePlaced t) (as-contains table end x l h) (node .placed)))
+  pub contains-placed : (b : Entry) → 22 ≤ x .kind → x .kind ≤ 23 → b ≡ ownerBy at end x
+      → PathPlaced t (rootOf (b .kind)) (spanOf b) × Each (LiteralPlaced t) (literalsBy (x .first) at (end - x .first - 1))
+  contains-placed b l h p = rw p (called (subst (TreePlaced t) (as-contains at end x l h) (node .placed)))
 
   -- the left operand
-  pub left-placed : (a : Entry) → 12 < x .kind → x .kind ≤ 21 → a ≡ entryAt table (leftAt end x) → OperandPlaced t (operandOf a)
+  pub left-placed : (a : Entry) → 12 < x .kind → x .kind ≤ 21 → a ≡ at (leftAt end x) → OperandPlaced t (operandOf a)
   left-placed a l h p = go (leb (x .kind) 18) (eqb (x .kind) 19) (eqb (x .kind) 20) refl refl refl
     where
       go : (i j k : Bool) → leb (x .kind) 18 ≡ i → eqb (x .kind) 19 ≡ j → eqb (x .kind) 20 ≡ k → OperandPlaced t (operandOf a)
-      go true j k e f g = let q = leb-true (x .kind) 18 e in compare-placed a (entryAt table (end - 2)) l q (p ∙ ap (entryAt table) (left-compared end x q)) refl .0
-      go false true k e f g = let q = eqb-true (x .kind) 19 f in like-placed a q (p ∙ ap (entryAt table) (left-liked end x q)) .0
-      go false false true e f g = let q = eqb-true (x .kind) 20 g in among-placed a q (p ∙ ap (entryAt table) (left-listed end x q)) .0
+      go true j k e f g = let q = leb-true (x .kind) 18 e in compare-placed a (at (end - 2)) l q (p ∙ ap at (left-compared end x q)) refl .0
+      go false true k e f g = let q = eqb-true (x .kind) 19 f in like-placed a q (p ∙ ap at (left-liked end x q)) .0
+      go false false true e f g = let q = eqb-true (x .kind) 20 g in among-placed a q (p ∙ ap at (left-listed end x q)) .0
       go false false false e f g =
           let u = leb-false (x .kind) 18 e in let v = eqb-false (x .kind) 19 f in let w = eqb-false (x .kind) 20 g in let q : x .kind ≡ 21 = omega arith in
-          within-placed a (entryAt table (end - 2)) q (p ∙ ap (entryAt table) (left-within end x q)) refl .0
+          within-placed a (at (end - 2)) q (p ∙ ap at (left-within end x q)) refl .0
 
 -- ---- its verdict
 
 module _ (t : List ℕ) (view : View) (r : Verdict) (h : Bool) (e : r ≡ told h) where
-  verdict-is : (tree c : Tree) (b : Bool) → tree ≡ c → verdict t view c ≡ told b → h ≡ b → r ≡ verdict t view tree
-  verdict-is tree c b is v q = e ∙ ap told q ∙ sym v ∙ ap (verdict t view) (sym is)
+  verdict-is : (tree c : Tree) (b : Bool) → tree ≡ c → verdict view (treeWords t c) ≡ told b → h ≡ b → r ≡ verdict view (treeWords t tree)
+  verdict-is tree c b is v q = e ∙ ap told q ∙ sym v ∙ ap (λ (c : Tree). verdict view (treeWords t c)) (sym is)
 
-  module _ (table : List ℕ) (end : ℕ) (x : Entry) where
-    pub flat-has : x .kind ≤ 8 → h ≡ present (attributeValue t view (rootOf (x .kind - 4)) (spanOf x)) → r ≡ verdict t view (treeOf (treeAt table) table end x)
-    flat-has k q = verdict-is _ _ _ (as-has (treeAt table) table end x k) (has-told t view _ _) q
+  module _ (at : ℕ → Entry) (end : ℕ) (x : Entry) where
+    pub flat-has : x .kind ≤ 8 → h ≡ present (attributeValue view (rootOf (x .kind - 4)) (pathAt t (spanOf x))) → r ≡ verdict view (treeWords t (treeFrom (treeBy at) at end x))
+    flat-has k q = verdict-is _ _ _ (as-has (treeBy at) at end x k) (has-told t view _ _) q
 
-    pub flat-constant : 8 < x .kind → x .kind ≤ 12 → h ≡ eqb (x .kind) 11 → r ≡ verdict t view (treeOf (treeAt table) table end x)
-    flat-constant l k q = verdict-is _ _ _ (as-constant table end x l k) (constant-told t view _) q
+    pub flat-constant : 8 < x .kind → x .kind ≤ 12 → h ≡ eqb (x .kind) 11 → r ≡ verdict view (treeWords t (treeFrom (treeBy at) at end x))
+    flat-constant l k q = verdict-is _ _ _ (as-constant at end x l k) (constant-told t view _) q
 
-    pub flat-compare : (a b : Entry) → 12 < x .kind → x .kind ≤ 18 → a ≡ entryAt table (end - 3) → b ≡ entryAt table (end - 2)
-        → h ≡ compares (comparatorOf (x .kind)) (operandValue t view (operandOf a)) (operandValue t view (operandOf b))
-        → r ≡ verdict t view (treeOf (treeAt table) table end x)
+    pub flat-compare : (a b : Entry) → 12 < x .kind → x .kind ≤ 18 → a ≡ at (end - 3) → b ≡ at (end - 2)
+        → h ≡ compares (comparatorOf (x .kind)) (operandValue view (operandWords t (operandOf a))) (operandValue view (operandWords t (operandOf b)))
+        → r ≡ verdict view (treeWords t (treeFrom (treeBy at) at end x))
     flat-compare a b l k i j q =
-        verdict-is _ _ _ (as-compare (treeAt table) table end x (omega arith) k) (compare-told t view (comparatorOf (x .kind)) (operandOf (entryAt table (end - 3))) (operandOf (entryAt table (end - 2))))
+        verdict-is _ _ _ (as-compare (treeBy at) at end x (omega arith) k) (compare-told t view (comparatorOf (x .kind)) (operandOf (at (end - 3))) (operandOf (at (end - 2))))
         (q ∙ rw (i, j))
 
-    pub flat-like : (a : Entry) → x .kind ≡ 19 → a ≡ entryAt table (end - 2) → h ≡ ifText (operandValue t view (operandOf a)) (likes (quotedAt t (spanOf x)))
-        → r ≡ verdict t view (treeOf (treeAt table) table end x)
-    flat-like a k i q = verdict-is _ _ _ (as-like (treeAt table) table end x k) (like-told t view (operandOf (entryAt table (end - 2))) (spanOf x)) (q ∙ rw i)
+    pub flat-like : (a : Entry) → x .kind ≡ 19 → a ≡ at (end - 2) → h ≡ ifText (operandValue view (operandWords t (operandOf a))) (likes (quotedAt t (spanOf x)))
+        → r ≡ verdict view (treeWords t (treeFrom (treeBy at) at end x))
+    flat-like a k i q = verdict-is _ _ _ (as-like (treeBy at) at end x k) (like-told t view (operandOf (at (end - 2))) (spanOf x)) (q ∙ rw i)
 
-    pub flat-among : (a : Entry) → x .kind ≡ 20 → a ≡ ownerAt table end x
-        → h ≡ some (λ l. compares Equal (operandValue t view (operandOf a)) (literalValue t l)) (literalsAt (x .first) table (end - x .first - 1))
-        → r ≡ verdict t view (treeOf (treeAt table) table end x)
-    flat-among a k i q = verdict-is _ _ _ (as-among (treeAt table) table end x k) (among-told t view (operandOf (ownerAt table end x)) (listAt table end x)) (q ∙ rw i)
+    pub flat-among : (a : Entry) → x .kind ≡ 20 → a ≡ ownerBy at end x
+        → h ≡ some (λ l. compares Equal (operandValue view (operandWords t (operandOf a))) (literalValue (literalWords t l))) (literalsBy (x .first) at (end - x .first - 1))
+        → r ≡ verdict view (treeWords t (treeFrom (treeBy at) at end x))
+    flat-among a k i q = verdict-is _ _ _ (as-among (treeBy at) at end x k) (among-told t view (operandOf (ownerBy at end x)) (listBy at end x)) (q ∙ rw i)
 
-    pub flat-within : (a b : Entry) → x .kind ≡ 21 → a ≡ entryAt table (end - 3) → b ≡ entryAt table (end - 2)
-        → h ≡ ifText (operandValue t view (operandOf a)) (λ x. ifTexts (attributeValue t view (rootOf (b .kind)) (spanOf b)) (λ l. amongStrings l x))
-        → r ≡ verdict t view (treeOf (treeAt table) table end x)
+    pub flat-within : (a b : Entry) → x .kind ≡ 21 → a ≡ at (end - 3) → b ≡ at (end - 2)
+        → h ≡ ifText (operandValue view (operandWords t (operandOf a))) (λ x. ifTexts (attributeValue view (rootOf (b .kind)) (pathAt t (spanOf b))) (λ l. amongStrings l x))
+        → r ≡ verdict view (treeWords t (treeFrom (treeBy at) at end x))
     flat-within a b k i j q =
-        verdict-is _ _ _ (as-within (treeAt table) table end x k)
-        (within-told t view (operandOf (entryAt table (end - 3))) (rootOf (entryAt table (end - 2) .kind)) (spanOf (entryAt table (end - 2)))) (q ∙ rw (i, j))
+        verdict-is _ _ _ (as-within (treeBy at) at end x k)
+        (within-told t view (operandOf (at (end - 3))) (rootOf (at (end - 2) .kind)) (spanOf (at (end - 2)))) (q ∙ rw (i, j))
 
-    pub flat-contains : (b : Entry) → 22 ≤ x .kind → x .kind ≤ 23 → b ≡ ownerAt table end x
-        → h ≡ ifTexts (attributeValue t view (rootOf (b .kind)) (spanOf b)) (λ l. asked (whichOf (eqb (x .kind) 23)) (λ o. ifText (literalValue t o) (amongStrings l)) (literalsAt (x .first) table (end - x .first - 1)))
-        → r ≡ verdict t view (treeOf (treeAt table) table end x)
+    pub flat-contains : (b : Entry) → 22 ≤ x .kind → x .kind ≤ 23 → b ≡ ownerBy at end x
+        → h ≡ ifTexts (attributeValue view (rootOf (b .kind)) (pathAt t (spanOf b))) (λ l. asked (whichOf (eqb (x .kind) 23)) (λ o. ifText (literalValue (literalWords t o)) (amongStrings l)) (literalsBy (x .first) at (end - x .first - 1)))
+        → r ≡ verdict view (treeWords t (treeFrom (treeBy at) at end x))
     flat-contains b l k i q =
-        verdict-is _ _ _ (as-contains table end x l k)
-        (contains-told t view (whichOf (eqb (x .kind) 23)) (rootOf (ownerAt table end x .kind)) (spanOf (ownerAt table end x)) (listAt table end x)) (q ∙ rw i)
+        verdict-is _ _ _ (as-contains at end x l k)
+        (contains-told t view (whichOf (eqb (x .kind) 23)) (rootOf (ownerBy at end x .kind)) (spanOf (ownerBy at end x)) (listBy at end x)) (q ∙ rw i)

@@ -18,9 +18,9 @@ use Rattle.lookups.specs.declared.values.Value.{Value}
 use Rattle.views.specs.Values.{stringAt, listAt, datumOf}
 use Rattle.grammar.specs.Policies.{Comparator.Equal, Literal, number as numberLiteral, truth}
 use Rattle.placing.specs.Placed.{quotedAt, Each, and-each, LiteralPlaced}
+use Rattle.placing.specs.Said.{literalWords}
 use Rattle.table.specs.declared.Entry.{Entry}
-use Rattle.table.specs.Layout.{entryAt}
-use Rattle.stored.specs.ReadBack.{spanOf, literalOf, literalsAt}
+use Rattle.stored.specs.ReadBack.{spanOf, literalOf, literalsBy}
 use Rattle.meaning.specs.Values.{literalValue, ifText, sameFlag, compares}
 use Rattle.meaning.specs.Conditions.{some, all, asked, amongStrings}
 use Rattle.operators.specs.Operands.{whichOf}
@@ -30,20 +30,20 @@ use Rattle.operators.proofs.OperandLaws.{string-cut}
 
 -- whether a literal is the same as a value, and whether it is a string of a list
 abbrev pub isSame : List ℕ → Value → List ℕ → List (List ℕ) → Literal → Bool
-isSame t v x l o = compares Equal (datumOf v x l) (literalValue t o)
+isSame t v x l o = compares Equal (datumOf v x l) (literalValue (literalWords t o))
 
 abbrev pub isListed : List ℕ → List ℕ → ℕ → Literal → Bool
-isListed t s place o = ifText (literalValue t o) (amongStrings (listAt s place))
+isListed t s place o = ifText (literalValue (literalWords t o)) (amongStrings (listAt s place))
 
 -- the first of some literals, and those after it
-pub record FirstPlaced (t : List ℕ) (n : ℕ) (table : List ℕ) (e : ℕ) : Type 0 where
-  pub here : LiteralPlaced t (literalOf (entryAt table e))
-  pub later : Each (LiteralPlaced t) (literalsAt (n - 1) table (e + 1))
+pub record FirstPlaced (t : List ℕ) (n : ℕ) (at : ℕ → Entry) (e : ℕ) : Type 0 where
+  pub here : LiteralPlaced t (literalOf (at e))
+  pub later : Each (LiteralPlaced t) (literalsBy (n - 1) at (e + 1))
 
-pub first-placed : (t : List ℕ) (n : ℕ) (table : List ℕ) (e : ℕ) → 0 < n → Each (LiteralPlaced t) (literalsAt n table e) → FirstPlaced t n table e
-unfolding literalsAt
-first-placed t zero table e h p = absurd (omega arith)
-first-placed t (suc n) table e h (and-each p ps) = let m : suc n - 1 ≡ n = omega arith in record { here = p; later = rw m ps }
+pub first-placed : (t : List ℕ) (n : ℕ) (at : ℕ → Entry) (e : ℕ) → 0 < n → Each (LiteralPlaced t) (literalsBy n at e) → FirstPlaced t n at e
+unfolding literalsBy
+first-placed t zero at e h p = absurd (omega arith)
+first-placed t (suc n) at e h (and-each p ps) = let m : suc n - 1 ≡ n = omega arith in record { here = p; later = rw m ps }
 
 same-yes : (a : Bool) → sameFlag a true ≡ true → a ≡ true
 same-yes true e = refl
@@ -61,68 +61,68 @@ other-no : (a : Bool) → sameFlag a false ≡ false → a ≡ true
 other-no true e = refl
 other-no false e = sym e
 
-module _ (test : Literal → Bool) (table : List ℕ) where
-  pub some-done : (n e : ℕ) → n ≤ 0 → false ≡ some test (literalsAt n table e)
-  unfolding some literalsAt
+module _ (test : Literal → Bool) (at : ℕ → Entry) where
+  pub some-done : (n e : ℕ) → n ≤ 0 → false ≡ some test (literalsBy n at e)
+  unfolding some literalsBy
   some-done zero e h = refl
   some-done (suc n) e h = absurd (omega arith)
 
-  pub some-here : (n e : ℕ) → 0 < n → test (literalOf (entryAt table e)) ≡ true → true ≡ some test (literalsAt n table e)
-  unfolding some literalsAt
+  pub some-here : (n e : ℕ) → 0 < n → test (literalOf (at e)) ≡ true → true ≡ some test (literalsBy n at e)
+  unfolding some literalsBy
   some-here zero e h b = absurd (omega arith)
   some-here (suc n) e h b = simp b
 
-  pub some-more : (n e : ℕ) → 0 < n → test (literalOf (entryAt table e)) ≡ false → some test (literalsAt n table e) ≡ some test (literalsAt (n - 1) table (e + 1))
-  unfolding some literalsAt
+  pub some-more : (n e : ℕ) → 0 < n → test (literalOf (at e)) ≡ false → some test (literalsBy n at e) ≡ some test (literalsBy (n - 1) at (e + 1))
+  unfolding some literalsBy
   some-more zero e h b = absurd (omega arith)
   some-more (suc n) e h b = let m : suc n - 1 ≡ n = omega arith in simp (b, m)
 
-  all-done : (n e : ℕ) → n ≤ 0 → true ≡ all test (literalsAt n table e)
-  unfolding all literalsAt
+  all-done : (n e : ℕ) → n ≤ 0 → true ≡ all test (literalsBy n at e)
+  unfolding all literalsBy
   all-done zero e h = refl
   all-done (suc n) e h = absurd (omega arith)
 
-  all-here : (n e : ℕ) → 0 < n → test (literalOf (entryAt table e)) ≡ false → false ≡ all test (literalsAt n table e)
-  unfolding all literalsAt
+  all-here : (n e : ℕ) → 0 < n → test (literalOf (at e)) ≡ false → false ≡ all test (literalsBy n at e)
+  unfolding all literalsBy
   all-here zero e h b = absurd (omega arith)
   all-here (suc n) e h b = simp b
 
-  all-more : (n e : ℕ) → 0 < n → test (literalOf (entryAt table e)) ≡ true → all test (literalsAt n table e) ≡ all test (literalsAt (n - 1) table (e + 1))
-  unfolding all literalsAt
+  all-more : (n e : ℕ) → 0 < n → test (literalOf (at e)) ≡ true → all test (literalsBy n at e) ≡ all test (literalsBy (n - 1) at (e + 1))
+  unfolding all literalsBy
   all-more zero e h b = absurd (omega arith)
   all-more (suc n) e h b = let m : suc n - 1 ≡ n = omega arith in simp (b, m)
 
   -- any or all: a literal of the asked sort ends it
-  pub asked-done : (any : Bool) (n e : ℕ) → n ≤ 0 → not any ≡ asked (whichOf any) test (literalsAt n table e)
+  pub asked-done : (any : Bool) (n e : ℕ) → n ≤ 0 → not any ≡ asked (whichOf any) test (literalsBy n at e)
   asked-done true n e h = some-done n e h
   asked-done false n e h = all-done n e h
 
-  pub asked-here : (any : Bool) (n e : ℕ) → 0 < n → sameFlag (test (literalOf (entryAt table e))) any ≡ true → any ≡ asked (whichOf any) test (literalsAt n table e)
-  asked-here true n e h b = some-here n e h (same-yes (test (literalOf (entryAt table e))) b)
-  asked-here false n e h b = all-here n e h (same-no (test (literalOf (entryAt table e))) b)
+  pub asked-here : (any : Bool) (n e : ℕ) → 0 < n → sameFlag (test (literalOf (at e))) any ≡ true → any ≡ asked (whichOf any) test (literalsBy n at e)
+  asked-here true n e h b = some-here n e h (same-yes (test (literalOf (at e))) b)
+  asked-here false n e h b = all-here n e h (same-no (test (literalOf (at e))) b)
 
-  pub asked-more : (any : Bool) (n e : ℕ) → 0 < n → sameFlag (test (literalOf (entryAt table e))) any ≡ false
-      → asked (whichOf any) test (literalsAt n table e) ≡ asked (whichOf any) test (literalsAt (n - 1) table (e + 1))
-  asked-more true n e h b = some-more n e h (other-yes (test (literalOf (entryAt table e))) b)
-  asked-more false n e h b = all-more n e h (other-no (test (literalOf (entryAt table e))) b)
+  pub asked-more : (any : Bool) (n e : ℕ) → 0 < n → sameFlag (test (literalOf (at e))) any ≡ false
+      → asked (whichOf any) test (literalsBy n at e) ≡ asked (whichOf any) test (literalsBy (n - 1) at (e + 1))
+  asked-more true n e h b = some-more n e h (other-yes (test (literalOf (at e))) b)
+  asked-more false n e h b = all-more n e h (other-no (test (literalOf (at e))) b)
 
--- what is found of an entry is found of what the table has there
-pub at-entry : (table : List ℕ) (e : ℕ) (test : Literal → Bool) (o : Entry) (r b : Bool) → r ≡ test (literalOf o) → o ≡ entryAt table e → r ≡ b → test (literalOf (entryAt table e)) ≡ b
-at-entry table e test o r b h is q = ap (λ (o : Entry). test (literalOf o)) (sym is) ∙ sym h ∙ q
+-- what is found of an entry is found of the one that it is
+pub at-entry : (x : Entry) (test : Literal → Bool) (o : Entry) (r b : Bool) → r ≡ test (literalOf o) → o ≡ x → r ≡ b → test (literalOf x) ≡ b
+at-entry x test o r b h is q = ap (λ (o : Entry). test (literalOf o)) (sym is) ∙ sym h ∙ q
 
 -- ---- a literal and a list
 
 module _ (t : List ℕ) (o : Entry) (l : List (List ℕ)) where
-  pub no-string : (o .kind ≡ 9 → ⊥) → false ≡ ifText (literalValue t (literalOf o)) (amongStrings l)
-  unfolding literalOf literalValue
+  pub no-string : (o .kind ≡ 9 → ⊥) → false ≡ ifText (literalValue (literalWords t (literalOf o))) (amongStrings l)
+  unfolding literalOf literalValue literalWords
   no-string n = simp (ne-eqb _ _ n) (go (eqb (o .kind) 10) (eqb (o .kind) 11))
     where
-      go : (a b : Bool) → false ≡ ifText (literalValue t (cond a (numberLiteral (spanOf o)) (truth b))) (amongStrings l)
+      go : (a b : Bool) → false ≡ ifText (literalValue (literalWords t (cond a (numberLiteral (spanOf o)) (truth b)))) (amongStrings l)
       go true b = refl
       go false b = refl
 
-  pub a-string : (r : Bool) (x : List ℕ) → o .kind ≡ 9 → x ≡ quotedAt t (spanOf o) → r ≡ amongStrings l x → r ≡ ifText (literalValue t (literalOf o)) (amongStrings l)
-  unfolding literalOf literalValue
+  pub a-string : (r : Bool) (x : List ℕ) → o .kind ≡ 9 → x ≡ quotedAt t (spanOf o) → r ≡ amongStrings l x → r ≡ ifText (literalValue (literalWords t (literalOf o))) (amongStrings l)
+  unfolding literalOf literalValue literalWords
   a-string r x k q e = simp k (rw (← q) e)
 
 -- ---- strings

@@ -26,6 +26,7 @@ use Rattle.views.specs.Rows.{rowValue, rowView, RowStands}
 use Rattle.views.proofs.RowLaws.{row-reads}
 use Rattle.grammar.specs.Policies.{Root.Principal, Root.Resource, Root.Env, Root.Action, Literal, text as textLiteral, number as numberLiteral, truth, Operand, attribute, literal}
 use Rattle.placing.specs.Placed.{bytesAt, quotedAt, pathAt, StringPlaced, NumberPlaced, PathPlaced, LiteralPlaced, a-string, a-number, a-truth, OperandPlaced, an-attribute, a-literal}
+use Rattle.placing.specs.Said.{literalWords, operandWords}
 use Rattle.table.specs.declared.Entry.{Entry}
 use Rattle.stored.specs.ReadBack.{spanOf, rootOf, literalOf, operandOf}
 use Rattle.meaning.specs.Values.{rootByte, withAction, literalValue, attributeValue, operandValue}
@@ -217,7 +218,7 @@ string-alike v b x y l h = simp h (go (eqb (v .kind) 1) _)
 
 module _ (t s : List ℕ) (p : Sections) (n : ℕ) (heads values : List ℕ) (action : List ℕ) (o : Entry) where
   seen-in-bag : ofBag (o .kind) ≡ true
-      → rowView s p n heads values (o .kind) (pathAt t (spanOf o)) ≡ attributeValue t (withAction action (rowView s p n heads values)) (rootOf (o .kind)) (spanOf o)
+      → rowView s p n heads values (o .kind) (pathAt t (spanOf o)) ≡ attributeValue (withAction action (rowView s p n heads values)) (rootOf (o .kind)) (pathAt t (spanOf o))
   unfolding attributeValue withAction
   seen-in-bag b =
       let w = and-eq-true-iff (leb 1 (o .kind)) (leb (o .kind) 3) .0 b in
@@ -226,20 +227,20 @@ module _ (t s : List ℕ) (p : Sections) (n : ℕ) (heads values : List ℕ) (ac
       rw (bag-root (o .kind) b, ne-eqb (o .kind) 4 q)
 
   seen-action : ofBag (o .kind) ≡ false → PathPlaced t (rootOf (o .kind)) (spanOf o)
-      → text action ≡ attributeValue t (withAction action (rowView s p n heads values)) (rootOf (o .kind)) (spanOf o)
+      → text action ≡ attributeValue (withAction action (rowView s p n heads values)) (rootOf (o .kind)) (pathAt t (spanOf o))
   unfolding attributeValue withAction
   seen-action b placed = let e = other-root (o .kind) b in rw (placed .action e, e) (simp (same-itself (bytes "name")))
 
 module _ (t s : List ℕ) (p : Sections) (n : ℕ) (heads values : List ℕ) (stands : RowStands s p n heads values) where
   pub attribute-is : (action : List ℕ) (o : Entry) (v : Value) → PathPlaced t (rootOf (o .kind)) (spanOf o) → v ≡ attributeRead t s p n heads values o
-      → datumOf v (stringUnder s action o v) (listAt s (v .place)) ≡ attributeValue t (withAction action (rowView s p n heads values)) (rootOf (o .kind)) (spanOf o)
+      → datumOf v (stringUnder s action o v) (listAt s (v .place)) ≡ attributeValue (withAction action (rowView s p n heads values)) (rootOf (o .kind)) (pathAt t (spanOf o))
   attribute-is action o v placed e = go (ofBag (o .kind)) refl
     where
       action-is : (b : Bool) → b ≡ false → datumOf aString (cond b (stringAt s 0) action) (listAt s 0) ≡ text action
       action-is b h = rw h (datum-text aString action (listAt s 0) refl)
 
       go : (b : Bool) → ofBag (o .kind) ≡ b
-          → datumOf v (stringUnder s action o v) (listAt s (v .place)) ≡ attributeValue t (withAction action (rowView s p n heads values)) (rootOf (o .kind)) (spanOf o)
+          → datumOf v (stringUnder s action o v) (listAt s (v .place)) ≡ attributeValue (withAction action (rowView s p n heads values)) (rootOf (o .kind)) (pathAt t (spanOf o))
       go true b =
           let r = row-reads s p n heads values stands (o .kind) (pathAt t (spanOf o)) in
           let is = e ∙ sym (read-bag t s p n heads values o b) in
@@ -282,13 +283,13 @@ unfolding eq ofBits
 flag-nought = refl
 
 pub literal-is : (t : List ℕ) (o : Entry) (v : Value) (x : List ℕ) (l : List (List ℕ)) → v ≡ literalRead t o → (o .kind ≡ 9 → x ≡ quotedAt t (spanOf o))
-    → datumOf v x l ≡ literalValue t (literalOf o)
-unfolding literalOf literalRead literalValue datumOf
+    → datumOf v x l ≡ literalValue (literalWords t (literalOf o))
+unfolding literalOf literalRead literalValue literalWords datumOf
 literal-is t o v x l e s = rw e (go (eqb (o .kind) 9) (eqb (o .kind) 10) (eqb (o .kind) 11) refl)
   where
     go : (a b c : Bool) → eqb (o .kind) 9 ≡ a
         → datumOf (cond a aString (cond b (record { kind = 2; number = numberIn (bytesAt t (spanOf o)); place = 0 }) (record { kind = 3; number = cond c unit nought; place = 0 }))) x l
-        ≡ literalValue t (cond a (textLiteral (spanOf o)) (cond b (numberLiteral (spanOf o)) (truth c)))
+        ≡ literalValue (literalWords t (cond a (textLiteral (spanOf o)) (cond b (numberLiteral (spanOf o)) (truth c))))
     go true b c q = ap text (s (eqb-true (o .kind) 9 q))
     go false true c q = refl
     go false false true q = ap flag flag-unit
@@ -296,12 +297,12 @@ literal-is t o v x l e s = rw e (go (eqb (o .kind) 9) (eqb (o .kind) 10) (eqb (o
 
 -- ---- operands
 
-attribute-meant : (t : List ℕ) (view : View) (o : Entry) → o .kind ≤ 4 → operandValue t view (operandOf o) ≡ attributeValue t view (rootOf (o .kind)) (spanOf o)
-unfolding operandValue
+attribute-meant : (t : List ℕ) (view : View) (o : Entry) → o .kind ≤ 4 → operandValue view (operandWords t (operandOf o)) ≡ attributeValue view (rootOf (o .kind)) (pathAt t (spanOf o))
+unfolding operandValue operandWords
 attribute-meant t view o h = rw (as-attribute o h)
 
-pub literal-meant : (t : List ℕ) (view : View) (o : Entry) → 4 < o .kind → operandValue t view (operandOf o) ≡ literalValue t (literalOf o)
-unfolding operandValue
+pub literal-meant : (t : List ℕ) (view : View) (o : Entry) → 4 < o .kind → operandValue view (operandWords t (operandOf o)) ≡ literalValue (literalWords t (literalOf o))
+unfolding operandValue operandWords
 literal-meant t view o h = rw (as-literal o h)
 
 -- no attribute's string has quotes, and no literal's lies in the bag

@@ -9,7 +9,8 @@ use Rattle.views.specs.Meaning.{Datum, present}
 use Rattle.views.specs.Values.{listAt, datumOf}
 use Rattle.views.specs.Rows.{rowView, RowStands}
 use Rattle.grammar.specs.Policies.{Comparator.Equal, Literal}
-use Rattle.placing.specs.Placed.{quotedAt, PathPlaced, OperandPlaced}
+use Rattle.placing.specs.Placed.{quotedAt, PathPlaced, OperandPlaced, pathAt}
+use Rattle.placing.specs.Said.{literalWords}
 use Rattle.table.specs.declared.Entry.{Entry}
 use Rattle.stored.specs.ReadBack.{spanOf, rootOf, literalOf, operandOf, comparatorOf}
 use Rattle.meaning.specs.Values.{withAction, literalValue, attributeValue, ifText, ifTexts, compares}
@@ -21,7 +22,7 @@ use Rattle.operators.proofs.OperandLaws.{stringUnder, attribute-is, lit
 -- a literal's value beside another
 pub literal-compares : (t : List ℕ) (k : ℕ) (o : Entry) (v w : Value) (x y : List ℕ) (r : Bool) → w ≡ literalRead t o → (o .kind ≡ 9 → y ≡ quotedAt t (spanOf o))
     → ((l m : List (List ℕ)) → r ≡ compares (comparatorOf k) (datumOf v x l) (datumOf w y m)) → (l : List (List ℕ))
-    → r ≡ compares (comparatorOf k) (datumOf v x l) (literalValue t (literalOf o))
+    → r ≡ compares (comparatorOf k) (datumOf v x l) (literalValue (literalWords t (literalOf o)))
 literal-compares t k o v w x y r e q f l = f l l ∙ rw (literal-is t o w y l e q)
 
 -- 13 is the kind of `==`
@@ -41,19 +42,19 @@ module _ (t s : List ℕ) (p : Sections) (n : ℕ) (heads values : List ℕ) (st
   -- the right operand a literal
   pub compare-literal : (k : ℕ) (a b : Entry) (v : Value) (x : List ℕ) (r : Bool) → OperandPlaced t (operandOf a) → 4 < b .kind
       → v ≡ operandRead t s p n heads values a → x ≡ stringOf t s action a v
-      → ((l : List (List ℕ)) → r ≡ compares (comparatorOf k) (datumOf v x l) (literalValue t (literalOf b)))
+      → ((l : List (List ℕ)) → r ≡ compares (comparatorOf k) (datumOf v x l) (literalValue (literalWords t (literalOf b))))
       → r ≡ compares (comparatorOf k) (meant t s p n heads values action a) (meant t s p n heads values action b)
   compare-literal k a b v x r i h e g held =
       held (listAt s (v .place))
-      ∙ ap (λ (d : Datum). compares (comparatorOf k) d (literalValue t (literalOf b))) (operand-is t s p n heads values stands action a v x i e g)
+      ∙ ap (λ (d : Datum). compares (comparatorOf k) d (literalValue (literalWords t (literalOf b)))) (operand-is t s p n heads values stands action a v x i e g)
       ∙ ap (compares (comparatorOf k) (meant t s p n heads values action a)) (sym (literal-meant t (withAction action (rowView s p n heads values)) b h))
 
   module _ (a : Entry) (v : Value) (placed : OperandPlaced t (operandOf a)) (e : v ≡ operandRead t s p n heads values a) where
     pub among-is : (x : List ℕ) (ls : List Literal) (r : Bool) → x ≡ stringOf t s action a v
-        → ((l : List (List ℕ)) → r ≡ some (λ o. compares Equal (datumOf v x l) (literalValue t o)) ls)
-        → r ≡ some (λ o. compares Equal (meant t s p n heads values action a) (literalValue t o)) ls
+        → ((l : List (List ℕ)) → r ≡ some (λ o. compares Equal (datumOf v x l) (literalValue (literalWords t o))) ls)
+        → r ≡ some (λ o. compares Equal (meant t s p n heads values action a) (literalValue (literalWords t o))) ls
     among-is x ls r g held =
-        held (listAt s (v .place)) ∙ ap (λ (d : Datum). some (λ o. compares Equal d (literalValue t o)) ls) (operand-is t s p n heads values stands action a v x placed e g)
+        held (listAt s (v .place)) ∙ ap (λ (d : Datum). some (λ o. compares Equal d (literalValue (literalWords t o))) ls) (operand-is t s p n heads values stands action a v x placed e g)
 
     -- a string, and any other value
     pub of-string : (f : List ℕ → Bool) (x : List ℕ) (r : Bool) → v .kind ≡ 1 → x ≡ stringOf t s action a v → r ≡ f x → r ≡ ifText (meant t s p n heads values action a) f
@@ -68,17 +69,17 @@ module _ (t s : List ℕ) (p : Sections) (n : ℕ) (heads values : List ℕ) (st
   module _ (b : Entry) (w : Value) (placed : PathPlaced t (rootOf (b .kind)) (spanOf b)) (e : w ≡ attributeRead t s p n heads values b) where
     -- a list, and any other value
     pub of-list : (f : List (List ℕ) → Bool) (r : Bool) → w .kind ≡ 4 → r ≡ f (listAt s (w .place))
-        → r ≡ ifTexts (attributeValue t (withAction action (rowView s p n heads values)) (rootOf (b .kind)) (spanOf b)) f
+        → r ≡ ifTexts (attributeValue (withAction action (rowView s p n heads values)) (rootOf (b .kind)) (pathAt t (spanOf b))) f
     of-list f r k held =
         held
         ∙ ap (λ (d : Datum). ifTexts d f) (sym (datum-texts w (stringUnder s action b w) (listAt s (w .place)) k) ∙ attribute-is t s p n heads values stands action b w placed e)
 
     pub of-no-list : (f : List (List ℕ) → Bool) → (w .kind ≡ 4 → ⊥)
-        → false ≡ ifTexts (attributeValue t (withAction action (rowView s p n heads values)) (rootOf (b .kind)) (spanOf b)) f
+        → false ≡ ifTexts (attributeValue (withAction action (rowView s p n heads values)) (rootOf (b .kind)) (pathAt t (spanOf b))) f
     of-no-list f k =
         sym (not-texts w (stringUnder s action b w) (listAt s (w .place)) f k)
         ∙ ap (λ (d : Datum). ifTexts d f) (attribute-is t s p n heads values stands action b w placed e)
 
     pub has-is : (r : Bool) → ((x : List ℕ) (l : List (List ℕ)) → r ≡ present (datumOf w x l))
-        → r ≡ present (attributeValue t (withAction action (rowView s p n heads values)) (rootOf (b .kind)) (spanOf b))
+        → r ≡ present (attributeValue (withAction action (rowView s p n heads values)) (rootOf (b .kind)) (pathAt t (spanOf b)))
     has-is r held = held (stringUnder s action b w) (listAt s (w .place)) ∙ ap present (attribute-is t s p n heads values stands action b w placed e)

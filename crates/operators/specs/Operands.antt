@@ -1,4 +1,5 @@
--- What is read for an operand's entry: a value, and the bytes of its string, which lie in the rule text, in the bag or question, or are the action. Definitions only.
+-- What is read for an operand's entry: a value, and the bytes of its string, which lie in the rule text, in the bag or question, or are the action;
+-- and what is meant. Definitions only.
 use Prim.Native.Nat.{ℕ, _-_}
 use mathlib.Core.List.{List}
 use mathlib.Core.Bool.{Bool, _&&_, cond}
@@ -7,14 +8,18 @@ use Rattle.numbers.specs.Literals.{numberIn}
 use Rattle.bags.specs.declared.sections.Sections.{Sections}
 use Rattle.lookups.specs.Values.{nought, unit}
 use Rattle.lookups.specs.declared.values.Value.{Value}
-use Rattle.views.specs.Meaning.{Datum}
+use Rattle.views.specs.Meaning.{View, Datum}
 use Rattle.views.specs.Values.{stringAt}
 use Rattle.views.specs.Rows.{rowValue, rowView}
-use Rattle.grammar.specs.Policies.{Which, Which.All, Which.Any}
+use Rattle.grammar.specs.Policies.{Comparator.Equal, Literal, Which, Which.All, Which.Any, Tree}
 use Rattle.placing.specs.Placed.{bytesAt, quotedAt, pathAt}
+use Rattle.placing.specs.Said.{literalWords, operandWords, treeWords}
 use Rattle.table.specs.declared.Entry.{Entry}
-use Rattle.stored.specs.ReadBack.{spanOf, operandOf}
-use Rattle.meaning.specs.Values.{withAction, operandValue}
+use Rattle.table.specs.Kinds.{actionKind, stringKind, numberKind, trueKind, likeKind, inListKind}
+use Rattle.stored.specs.ReadBack.{spanOf, rootOf, operandOf}
+use Rattle.meaning.specs.Values.{withAction, literalValue, attributeValue, operandValue, ifText, compares}
+use Rattle.meaning.specs.Conditions.{some, asked, amongStrings, verdict}
+use Rattle.meaning.specs.declared.Verdict.{Verdict}
 
 -- ---- values
 
@@ -30,33 +35,53 @@ ofBag root = leb 1 root && leb root 3
 unfoldable pub attributeRead : List ℕ → List ℕ → Sections → ℕ → List ℕ → List ℕ → Entry → Value
 attributeRead t s p n heads values o = cond (ofBag (o .kind)) (rowValue s p n heads values (o .kind) (pathAt t (spanOf o))) aString
 
--- a literal: a string (kind 9), a number (10), or `true` (11) or `false`
+-- a literal: a string, a number, or `true` or `false`
 unfoldable pub literalRead : List ℕ → Entry → Value
 literalRead t o =
-    cond (eqb (o .kind) 9) aString
-    (cond (eqb (o .kind) 10) (record { kind = 2; number = numberIn (bytesAt t (spanOf o)); place = 0 })
-    (record { kind = 3; number = cond (eqb (o .kind) 11) unit nought; place = 0 }))
+    cond (eqb (o .kind) stringKind) aString
+    (cond (eqb (o .kind) numberKind) (record { kind = 2; number = numberIn (bytesAt t (spanOf o)); place = 0 })
+    (record { kind = 3; number = cond (eqb (o .kind) trueKind) unit nought; place = 0 }))
 
 -- an operand: an attribute or a literal, by its entry's kind
 unfoldable pub operandRead : List ℕ → List ℕ → Sections → ℕ → List ℕ → List ℕ → Entry → Value
-operandRead t s p n heads values o = cond (leb (o .kind) 4) (attributeRead t s p n heads values o) (literalRead t o)
+operandRead t s p n heads values o = cond (leb (o .kind) actionKind) (attributeRead t s p n heads values o) (literalRead t o)
 
 -- ---- the bytes of a value's string
 
 -- those of the bag or question, those between a literal's quotes, else the action; nothing asks for them where the value is no string
 unfoldable pub stringOf : List ℕ → List ℕ → List ℕ → Entry → Value → List ℕ
-stringOf t s action o v = cond (eqb (v .kind) 1 && ofBag (o .kind)) (stringAt s (v .place)) (cond (eqb (o .kind) 9) (quotedAt t (spanOf o)) action)
+stringOf t s action o v = cond (eqb (v .kind) 1 && ofBag (o .kind)) (stringAt s (v .place)) (cond (eqb (o .kind) stringKind) (quotedAt t (spanOf o)) action)
 
 -- ---- what is meant
-
--- an operand's value in a row, under an action
-abbrev pub meant : List ℕ → List ℕ → Sections → ℕ → List ℕ → List ℕ → List ℕ → Entry → Datum
-meant t s p n heads values action o = operandValue t (withAction action (rowView s p n heads values)) (operandOf o)
 
 -- containsAny or containsAll
 abbrev pub whichOf : Bool → Which
 whichOf any = cond any Any All
 
--- where the left operand stands of the condition whose last entry is x, number end - 1: before x (`like`, kind 19), before a list (kind 20), or before another operand
+-- a row's attributes, under an action
+abbrev pub seen : List ℕ → Sections → ℕ → List ℕ → List ℕ → List ℕ → View
+seen s p n heads values action = withAction action (rowView s p n heads values)
+
+-- an operand's value there
+abbrev pub meant : List ℕ → List ℕ → Sections → ℕ → List ℕ → List ℕ → List ℕ → Entry → Datum
+meant t s p n heads values action o = operandValue (seen s p n heads values action) (operandWords t (operandOf o))
+
+-- the value there of an attribute, by the entry of its path
+abbrev pub meantPath : List ℕ → List ℕ → Sections → ℕ → List ℕ → List ℕ → List ℕ → Entry → Datum
+meantPath t s p n heads values action o = attributeValue (seen s p n heads values action) (rootOf (o .kind)) (pathAt t (spanOf o))
+
+-- a condition's verdict there
+abbrev pub judged : List ℕ → List ℕ → Sections → ℕ → List ℕ → List ℕ → List ℕ → Tree → Verdict
+judged t s p n heads values action c = verdict (seen s p n heads values action) (treeWords t c)
+
+-- whether a value is the same as one of these literals
+abbrev pub amongLiterals : List ℕ → Datum → List Literal → Bool
+amongLiterals t d ls = some (λ l. compares Equal d (literalValue (literalWords t l))) ls
+
+-- whether any, or all, of these literals are among the strings of a list
+abbrev pub literalsListed : List ℕ → Bool → List (List ℕ) → List Literal → Bool
+literalsListed t any l ls = asked (whichOf any) (λ o. ifText (literalValue (literalWords t o)) (amongStrings l)) ls
+
+-- where the left operand stands of the condition whose last entry is x, number end - 1: before x (`like`), before a list, or before another operand
 abbrev pub leftAt : ℕ → Entry → ℕ
-leftAt end x = cond (eqb (x .kind) 19) (end - 2) (cond (eqb (x .kind) 20) (end - x .first - 2) (end - 3))
+leftAt end x = cond (eqb (x .kind) likeKind) (end - 2) (cond (eqb (x .kind) inListKind) (end - x .first - 2) (end - 3))

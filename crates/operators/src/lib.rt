@@ -1,19 +1,18 @@
 // Conditions without parts, found true or false entry by entry, over a row's view of attributes. An absent attribute makes such a condition false.
 ghost use mathlib.Core.Path.{_≡_};
 ghost use mathlib.Core.List.{List};
-ghost use Prim.Native.Nat.{ℕ, _+_, _*_, _<_, _≤_};
-ghost use lib.ListN.{length};
+ghost use Prim.Native.Nat.{ℕ, _+_, _<_, _≤_};
 ghost use Rattle.views.specs.Meaning.{present};
-ghost use Rattle.views.specs.Rows.{rowView, RowStands};
+ghost use Rattle.views.specs.Rows.{RowStands};
 ghost use Rattle.patterns.specs.Likes.{likes};
-ghost use Rattle.grammar.specs.Policies.{Comparator.Equal};
 ghost use Rattle.placing.specs.Placed.{quotedAt, Each, StringPlaced, PathPlaced, LiteralPlaced, OperandPlaced};
-ghost use Rattle.table.specs.Layout.{entryAt};
-ghost use Rattle.stored.specs.ReadBack.{spanOf, rootOf, comparatorOf, operandOf, literalsAt, treeOf, treeAt};
+ghost use Rattle.table.specs.Kinds.{falseKind, inAttributeKind, containsAnyKind};
+ghost use Rattle.table.specs.Layout.{entriesIn, entryAt};
+ghost use Rattle.stored.specs.ReadBack.{spanOf, rootOf, comparatorOf, operandOf, literalsAt, treeOf};
 ghost use Rattle.stored.specs.Ready.{Room, Node};
-ghost use Rattle.meaning.specs.Values.{withAction, literalValue, attributeValue, ifText, ifTexts, compares};
-ghost use Rattle.meaning.specs.Conditions.{told, some, asked, amongStrings, verdict};
-ghost use Rattle.operators.specs.Operands.{operandRead, meant, leftAt, whichOf};
+ghost use Rattle.meaning.specs.Values.{ifText, ifTexts, compares};
+ghost use Rattle.meaning.specs.Conditions.{told, amongStrings};
+ghost use Rattle.operators.specs.Operands.{operandRead, meant, meantPath, judged, amongLiterals, literalsListed, leftAt};
 use crate::lists::among_literals;
 use crate::lists::in_list;
 use crate::lists::literal_holds;
@@ -31,8 +30,7 @@ use table::Entry;
 use table::entries;
 use table::entry_in;
 
-// Kinds of entries (docs/TABLE.md): 1 to 4 attributes of principal, resource, env and action; 5 to 8 `has` after these; 9 to 12 a string, a number, true, false; 13 to 18 `==`, `!=`,
-// `>`, `>=`, `<`, `<=`; 19 `like`; 20 `in` a list; 21 `in` an attribute; 22 containsAll; 23 containsAny. Kinds of values are a bag's: 1 string, 2 number, 3 flag, 4 list, 0 absent.
+// Kinds of entries have names (table::entries, docs/TABLE.md), and so have kinds of values, which are a bag's (bags::values).
 
 pub mod lists;
 pub mod operands;
@@ -60,7 +58,8 @@ fn has_attribute(
 ) -> bool
     requires { ⌜ PathPlaced (now text) (rootOf (o .kind)) (spanOf o) ⌝ }
     requires { ⌜ RowStands (now s) p n (now heads) (now values) ⌝ }
-    ensures { λ r. ⌜ ((action : List ℕ) → r ≡ present (attributeValue (now (text .entry)) (withAction action (rowView (now (s .entry)) p n (now (heads .entry)) (now (values .entry)))) (rootOf (o .kind)) (spanOf o))) ⌝ }
+    ensures { λ r. ⌜ ((action : List ℕ) → r ≡ present
+        (meantPath (now (text .entry)) (now (s .entry)) p n (now (heads .entry)) (now (values .entry)) action o)) ⌝ }
 {
     let v = attribute_value(text, s, p, n, heads, values, o);
     is_present(v)
@@ -84,11 +83,13 @@ fn compare_operands<'a>(
     requires { ⌜ OperandPlaced (now text) (operandOf b) ⌝ }
     requires { ⌜ RowStands (now s) p n (now heads) (now values) ⌝ }
     requires { ⌜ v ≡ operandRead (now text) (now s) p n (now heads) (now values) a ⌝ }
-    ensures { λ r. ⌜ r ≡ compares (comparatorOf kind) (meant (now (text .entry)) (now (s .entry)) p n (now (heads .entry)) (now (values .entry)) (now (action .entry)) a) (meant (now (text .entry)) (now (s .entry)) p n (now (heads .entry)) (now (values .entry)) (now (action .entry)) b) ⌝ }
+    ensures { λ r. ⌜ r ≡ compares (comparatorOf kind)
+        (meant (now (text .entry)) (now (s .entry)) p n (now (heads .entry)) (now (values .entry)) (now (action .entry)) a)
+        (meant (now (text .entry)) (now (s .entry)) p n (now (heads .entry)) (now (values .entry)) (now (action .entry)) b) ⌝ }
 {
     let x = operand_string(text, s, action, a, v);
     let sort = b.kind;
-    if 4 < sort {
+    if entries::ACTION < sort {
         return literal_holds(text, kind, b, v, x);
     }
     let w = attribute_value(text, s, p, n, heads, values, b);
@@ -113,7 +114,8 @@ fn like_operand<'a>(
     requires { ⌜ StringPlaced (now text) (spanOf o) ⌝ }
     requires { ⌜ RowStands (now s) p n (now heads) (now values) ⌝ }
     requires { ⌜ v ≡ operandRead (now text) (now s) p n (now heads) (now values) a ⌝ }
-    ensures { λ r. ⌜ r ≡ ifText (meant (now (text .entry)) (now (s .entry)) p n (now (heads .entry)) (now (values .entry)) (now (action .entry)) a) (likes (quotedAt (now (text .entry)) (spanOf o))) ⌝ }
+    ensures { λ r. ⌜ r ≡ ifText (meant (now (text .entry)) (now (s .entry)) p n (now (heads .entry)) (now (values .entry)) (now (action .entry)) a)
+        (likes (quotedAt (now (text .entry)) (spanOf o))) ⌝ }
 {
     let kind = v.kind;
     if kind != bags::values::STRING {
@@ -140,10 +142,12 @@ fn operand_in_list<'a>(
 ) -> bool
     requires { ⌜ OperandPlaced (now text) (operandOf a) ⌝ }
     requires { ⌜ Each (LiteralPlaced (now text)) (literalsAt count (now table) at) ⌝ }
-    requires { ⌜ 5 * (at + count) ≤ length (now table) ⌝ }
+    requires { ⌜ at + count ≤ entriesIn (now table) ⌝ }
     requires { ⌜ RowStands (now s) p n (now heads) (now values) ⌝ }
     requires { ⌜ v ≡ operandRead (now text) (now s) p n (now heads) (now values) a ⌝ }
-    ensures { λ r. ⌜ r ≡ some (λ l. compares Equal (meant (now (text .entry)) (now (s .entry)) p n (now (heads .entry)) (now (values .entry)) (now (action .entry)) a) (literalValue (now (text .entry)) l)) (literalsAt count (now (table .entry)) at) ⌝ }
+    ensures { λ r. ⌜ r ≡ amongLiterals (now (text .entry))
+        (meant (now (text .entry)) (now (s .entry)) p n (now (heads .entry)) (now (values .entry)) (now (action .entry)) a)
+        (literalsAt count (now (table .entry)) at) ⌝ }
 {
     let x = operand_string(text, s, action, a, v);
     among_literals(text, table, count, at, v, x)
@@ -166,7 +170,9 @@ fn operand_in_attribute<'a>(
     requires { ⌜ PathPlaced (now text) (rootOf (b .kind)) (spanOf b) ⌝ }
     requires { ⌜ RowStands (now s) p n (now heads) (now values) ⌝ }
     requires { ⌜ v ≡ operandRead (now text) (now s) p n (now heads) (now values) a ⌝ }
-    ensures { λ r. ⌜ r ≡ ifText (meant (now (text .entry)) (now (s .entry)) p n (now (heads .entry)) (now (values .entry)) (now (action .entry)) a) (λ x. ifTexts (attributeValue (now (text .entry)) (withAction (now (action .entry)) (rowView (now (s .entry)) p n (now (heads .entry)) (now (values .entry)))) (rootOf (b .kind)) (spanOf b)) (λ l. amongStrings l x)) ⌝ }
+    ensures { λ r. ⌜ r ≡ ifText (meant (now (text .entry)) (now (s .entry)) p n (now (heads .entry)) (now (values .entry)) (now (action .entry)) a)
+        (λ x. ifTexts (meantPath (now (text .entry)) (now (s .entry)) p n (now (heads .entry)) (now (values .entry)) (now (action .entry)) b)
+        (λ l. amongStrings l x)) ⌝ }
 {
     let kind = v.kind;
     if kind != bags::values::STRING {
@@ -174,7 +180,7 @@ fn operand_in_attribute<'a>(
     }
     let w = attribute_value(text, s, p, n, heads, values, b);
     let list_kind = w.kind;
-    if list_kind != 4 {
+    if list_kind != bags::values::LIST {
         return false;
     }
     let x = operand_string(text, s, action, a, v);
@@ -197,9 +203,10 @@ fn contains_literals(
 ) -> bool
     requires { ⌜ PathPlaced (now text) (rootOf (b .kind)) (spanOf b) ⌝ }
     requires { ⌜ Each (LiteralPlaced (now text)) (literalsAt count (now table) at) ⌝ }
-    requires { ⌜ 5 * (at + count) ≤ length (now table) ⌝ }
+    requires { ⌜ at + count ≤ entriesIn (now table) ⌝ }
     requires { ⌜ RowStands (now s) p n (now heads) (now values) ⌝ }
-    ensures { λ r. ⌜ ((action : List ℕ) → r ≡ ifTexts (attributeValue (now (text .entry)) (withAction action (rowView (now (s .entry)) p n (now (heads .entry)) (now (values .entry)))) (rootOf (b .kind)) (spanOf b)) (λ l. asked (whichOf any) (λ x. ifText (literalValue (now (text .entry)) x) (amongStrings l)) (literalsAt count (now (table .entry)) at))) ⌝ }
+    ensures { λ r. ⌜ ((action : List ℕ) → r ≡ ifTexts (meantPath (now (text .entry)) (now (s .entry)) p n (now (heads .entry)) (now (values .entry)) action b)
+        (λ l. literalsListed (now (text .entry)) any l (literalsAt count (now (table .entry)) at))) ⌝ }
 {
     let w = attribute_value(text, s, p, n, heads, values, b);
     let kind = w.kind;
@@ -212,7 +219,7 @@ fn contains_literals(
 // Where the left operand stands of the condition whose last entry is x, number end - 1.
 fn left_at(end: usize, x: Entry) -> usize
     requires { ⌜ Room end x ⌝ }
-    requires { ⌜ (12 < x .kind) × (x .kind ≤ 21) ⌝ }
+    requires { ⌜ (falseKind < x .kind) × (x .kind ≤ inAttributeKind) ⌝ }
     ensures { λ r. ⌜ r ≡ leftAt end x ⌝ }
 {
     let kind = x.kind;
@@ -242,11 +249,12 @@ fn left_holds<'a>(
     action: &'a [u8],
 ) -> bool
     requires { ⌜ Node (now text) (now table) end x ⌝ }
-    requires { ⌜ (12 < x .kind) × (x .kind ≤ 21) ⌝ }
+    requires { ⌜ (falseKind < x .kind) × (x .kind ≤ inAttributeKind) ⌝ }
     requires { ⌜ a ≡ entryAt (now table) (leftAt end x) ⌝ }
     requires { ⌜ RowStands (now s) p n (now heads) (now values) ⌝ }
     requires { ⌜ v ≡ operandRead (now text) (now s) p n (now heads) (now values) a ⌝ }
-    ensures { λ r. ⌜ told r ≡ verdict (now (text .entry)) (withAction (now (action .entry)) (rowView (now (s .entry)) p n (now (heads .entry)) (now (values .entry)))) (treeOf (treeAt (now (table .entry))) (now (table .entry)) end x) ⌝ }
+    ensures { λ r. ⌜ told r ≡ judged (now (text .entry)) (now (s .entry)) p n (now (heads .entry)) (now (values .entry)) (now (action .entry))
+        (treeOf (now (table .entry)) end x) ⌝ }
 {
     let kind = x.kind;
     if kind <= entries::AT_MOST {
@@ -279,9 +287,10 @@ pub fn flat<'a>(
     action: &'a [u8],
 ) -> Verdict
     requires { ⌜ Node (now text) (now table) end x ⌝ }
-    requires { ⌜ x .kind ≤ 23 ⌝ }
+    requires { ⌜ x .kind ≤ containsAnyKind ⌝ }
     requires { ⌜ RowStands (now s) p n (now heads) (now values) ⌝ }
-    ensures { λ r. ⌜ r ≡ verdict (now (text .entry)) (withAction (now (action .entry)) (rowView (now (s .entry)) p n (now (heads .entry)) (now (values .entry)))) (treeOf (treeAt (now (table .entry))) (now (table .entry)) end x) ⌝ }
+    ensures { λ r. ⌜ r ≡ judged (now (text .entry)) (now (s .entry)) p n (now (heads .entry)) (now (values .entry)) (now (action .entry))
+        (treeOf (now (table .entry)) end x) ⌝ }
 {
     let kind = x.kind;
     if kind <= entries::HAS_ACTION {
@@ -296,7 +305,7 @@ pub fn flat<'a>(
     if kind <= entries::FALSE {
         return told_of(kind == entries::TRUE);
     }
-    if 22 <= kind {
+    if entries::CONTAINS_ALL <= kind {
         let count = x.first;
         let at = end - count - 1;
         let a = entry_in(table, end - count - 2);

@@ -1,19 +1,19 @@
 // Lists: the literals of a list in the table, and the strings of a list in the bag or question.
 ghost use mathlib.Core.Path.{_≡_};
 ghost use mathlib.Core.List.{List};
-ghost use Prim.Native.Nat.{ℕ, _+_, _*_, _≤_};
-ghost use lib.ListN.{length};
+ghost use Prim.Native.Nat.{ℕ, _+_, _≤_};
 ghost use Rattle.slices.specs.Same.{same};
 ghost use Rattle.bags.specs.Reading.{many, each};
 ghost use Rattle.bags.specs.Values.{stringEnd, listEnd};
 ghost use Rattle.bags.specs.declared.After.the-variants.{At};
 ghost use Rattle.views.specs.Values.{stringAt, listAt, datumOf};
-ghost use Rattle.grammar.specs.Policies.{Comparator.Equal};
 ghost use Rattle.placing.specs.Placed.{Each, LiteralPlaced};
+ghost use Rattle.placing.specs.Said.{literalWords};
+ghost use Rattle.table.specs.Layout.{entriesIn};
 ghost use Rattle.stored.specs.ReadBack.{literalOf, literalsAt, comparatorOf};
 ghost use Rattle.meaning.specs.Values.{ifText, literalValue, compares};
-ghost use Rattle.meaning.specs.Conditions.{some, asked, amongStrings};
-ghost use Rattle.operators.specs.Operands.{whichOf};
+ghost use Rattle.meaning.specs.Conditions.{some, amongStrings};
+ghost use Rattle.operators.specs.Operands.{amongLiterals, literalsListed};
 use crate::operands::literal_value;
 use crate::operands::quoted;
 use crate::values::same_flag;
@@ -27,7 +27,8 @@ use table::entry_in;
 // Whether the comparator of an entry's kind holds of the value, with its string, and a literal.
 pub fn literal_holds(text: &[u8], kind: u8, o: Entry, v: Value, x: &[u8]) -> bool
     requires { ⌜ LiteralPlaced (now text) (literalOf o) ⌝ }
-    ensures { λ r. ⌜ ((l : List (List ℕ)) → r ≡ compares (comparatorOf kind) (datumOf v (now (x .entry)) l) (literalValue (now (text .entry)) (literalOf o))) ⌝ }
+    ensures { λ r. ⌜ ((l : List (List ℕ)) → r ≡ compares (comparatorOf kind) (datumOf v (now (x .entry)) l)
+        (literalValue (literalWords (now (text .entry)) (literalOf o)))) ⌝ }
 {
     let w = literal_value(text, o);
     let sort = o.kind;
@@ -40,14 +41,14 @@ pub fn literal_holds(text: &[u8], kind: u8, o: Entry, v: Value, x: &[u8]) -> boo
 // Whether one of the `n` literals from entry `at` on is the same as the value, with its string.
 pub fn among_literals(text: &[u8], table: &[u8], n: usize, at: usize, v: Value, x: &[u8]) -> bool
     requires { ⌜ Each (LiteralPlaced (now text)) (literalsAt n (now table) at) ⌝ }
-    requires { ⌜ 5 * (at + n) ≤ length (now table) ⌝ }
-    ensures { λ r. ⌜ ((l : List (List ℕ)) → r ≡ some (λ o. compares Equal (datumOf v (now (x .entry)) l) (literalValue (now (text .entry)) o)) (literalsAt n (now (table .entry)) at)) ⌝ }
+    requires { ⌜ at + n ≤ entriesIn (now table) ⌝ }
+    ensures { λ r. ⌜ ((l : List (List ℕ)) → r ≡ amongLiterals (now (text .entry)) (datumOf v (now (x .entry)) l) (literalsAt n (now (table .entry)) at)) ⌝ }
 {
     let mut left = n;
     let mut next = at;
     while 0 < left {
         let literal = entry_in(table, next);
-        if literal_holds(text, 13, literal, v, x) {
+        if literal_holds(text, entries::EQUAL, literal, v, x) {
             return true;
         }
         next += 1;
@@ -88,7 +89,7 @@ pub fn in_list(s: &[u8], place: usize, x: &[u8]) -> bool
 fn literal_listed(text: &[u8], o: Entry, s: &[u8], place: usize) -> bool
     requires { ⌜ LiteralPlaced (now text) (literalOf o) ⌝ }
     requires { ⌜ ((e : ℕ) × (listEnd (now s) place ≡ At e)) ⌝ }
-    ensures { λ r. ⌜ r ≡ ifText (literalValue (now (text .entry)) (literalOf o)) (amongStrings (listAt (now (s .entry)) place)) ⌝ }
+    ensures { λ r. ⌜ r ≡ ifText (literalValue (literalWords (now (text .entry)) (literalOf o))) (amongStrings (listAt (now (s .entry)) place)) ⌝ }
 {
     let kind = o.kind;
     if kind != entries::STRING {
@@ -108,9 +109,9 @@ pub fn literals_listed(
     place: usize,
 ) -> bool
     requires { ⌜ Each (LiteralPlaced (now text)) (literalsAt n (now table) at) ⌝ }
-    requires { ⌜ 5 * (at + n) ≤ length (now table) ⌝ }
+    requires { ⌜ at + n ≤ entriesIn (now table) ⌝ }
     requires { ⌜ ((e : ℕ) × (listEnd (now s) place ≡ At e)) ⌝ }
-    ensures { λ r. ⌜ r ≡ asked (whichOf any) (λ o. ifText (literalValue (now (text .entry)) o) (amongStrings (listAt (now (s .entry)) place))) (literalsAt n (now (table .entry)) at) ⌝ }
+    ensures { λ r. ⌜ r ≡ literalsListed (now (text .entry)) any (listAt (now (s .entry)) place) (literalsAt n (now (table .entry)) at) ⌝ }
 {
     let mut left = n;
     let mut next = at;

@@ -3,5 +3,7 @@ pub mod Digits
 pub mod Stepping
 pub mod Progress
 pub mod Listed
+pub mod LineLaws
 pub mod SixColumns
+pub mod AskedForms
 pub mod Opened

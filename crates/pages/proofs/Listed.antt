@@ -20,7 +20,7 @@ use Rattle.pages.proofs.Combinations.{row-below, choices-of-row}
 use Rattle.pages.proofs.Progress.{listed-none, bytes-length, bytes-append}
 
 module _ (d : ℕ → Decision) (rows : ℕ) where
-  listed-at : (n row : ℕ) → row + n ≡ rows → listed d rows row ≡ yesOf d row n
+  pub listed-at : (n row : ℕ) → row + n ≡ rows → listed d rows row ≡ yesOf d row n
   unfolding listed
   listed-at n row e = let k : rows - row ≡ n = omega arith in rw k
 

@@ -19,7 +19,7 @@ use Rattle.questions.specs.Questions.{headOf, countOf, product, rowsOf}
 use Rattle.questions.proofs.ColumnLaws.{Columned}
 use Rattle.questions.proofs.PlaceLaws.{firstOf, first-is, column-of}
 use Rattle.views.specs.Rows.{Chooses}
-use Rattle.pages.specs.Rows.{countsOf, choicesAt, countsBy, Few, Counted}
+use Rattle.pages.specs.Rows.{countsOf, Combination, choicesAt, countsBy, Few, Counted}
 use Rattle.pages.proofs.Combinations.{positive, choices-combine, choice-below, as-many}
 use Rattle.pages.proofs.Digits.{counts-length, count-is}
 
@@ -43,14 +43,14 @@ choices-padded (n ∷ ns) k row h =
 
 -- ---- the counts of a question's columns
 
-module _ {A : Type 0} (next : ℕ → After) (what : ℕ → A) where
-  each-length : (n at e : ℕ) → many n next at ≡ At e → length (each n next (λ c e. what c) at) ≡ n
-  each-length zero at e h = rw (each-done next (λ c e. what c) 0 at (omega arith))
-  each-length (suc n) at e h =
-      let f = first next (suc n) at e (omega arith) h in
-      let m : suc n - 1 ≡ n = omega arith in
-      rw (each-more next (λ c e. what c) (suc n) at (f .stop) (omega arith) (f .ends), m) (ap suc (each-length n (f .stop) e (rw m at (f .later))))
+pub each-length : {A : Type 0} (next : ℕ → After) (what : ℕ → ℕ → A) (n at e : ℕ) → many n next at ≡ At e → length (each n next what at) ≡ n
+each-length next what zero at e h = rw (each-done next what 0 at (omega arith))
+each-length next what (suc n) at e h =
+    let f = first next (suc n) at e (omega arith) h in
+    let m : suc n - 1 ≡ n = omega arith in
+    rw (each-more next what (suc n) at (f .stop) (omega arith) (f .ends), m) (ap suc (each-length next what n (f .stop) e (rw m at (f .later))))
 
+module _ {A : Type 0} (next : ℕ → After) (what : ℕ → A) where
   each-at : (n i at e : ℕ) (z : A) → i < n → many n next at ≡ At e → getD (each n next (λ c e. what c) at) i z ≡ what (place (many i next at))
   each-at zero i at e z l h = absurd (not-suc-le-zero l)
   each-at (suc n) zero at e z l h =
@@ -69,7 +69,7 @@ module _ (s : List ℕ) (n at last : ℕ) (most : n ≤ 6) (columns : many n (co
 
   counts-many : length (countsOf n s at) ≡ n
   unfolding countsOf
-  counts-many = each-length (columnEnd s) (countOf s) n at last columns
+  counts-many = each-length (columnEnd s) (λ c e. countOf s c) n at last columns
 
   count-at : (i : ℕ) → i < n → getD (countsOf n s at) i 0 ≡ countOf s (headOf s at i)
   unfolding countsOf
@@ -80,9 +80,13 @@ module _ (s : List ℕ) (n at last : ℕ) (most : n ≤ 6) (columns : many n (co
   unfolding rowsOf countsOf
   rows-are = refl
 
-  -- a row's choices are candidates of their columns
+  -- a combination's choices are candidates of their columns
+  pub combination-chooses : {choices : List ℕ} → Combination (countsOf n s at) choices → Chooses n s at choices
+  combination-chooses ok i l = rw (count-at i l) at (choice-below ok i (rw counts-many l))
+
+  -- so are a row's
   pub row-chooses : (row : ℕ) → row < product (countsOf n s at) → Chooses n s at (choicesAt (countsOf n s at) row)
-  row-chooses row h i l = rw (count-at i l) at (choice-below (choices-combine (countsOf n s at) row h) i (rw counts-many l))
+  row-chooses row h = combination-chooses (choices-combine (countsOf n s at) row h)
 
   module _ (heads lasts : List ℕ) (six : length lasts ≡ 6)
       (heads-are : (i : ℕ) → i < 6 → getD heads i 0 ≡ firstOf n (headOf s at) i)

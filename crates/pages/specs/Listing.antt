@@ -1,5 +1,5 @@
--- The sheet: which rows are listed, a page of them, and their bytes (document 01, 'The sheet'). All is said over `d`, any function that gives each row its decision.
--- Definitions only.
+-- The sheet: which rows are listed, a page of them, and their bytes (document 01, 'The sheet'). All is said over `d`, any function that gives each row its
+-- decision. Definitions only.
 use mathlib.Core.Path.{_≡_}
 use Prim.Native.Nat.{ℕ, zero, suc, _-_, _/_, _%_}
 use mathlib.Core.Bool.{Bool, true, false}
@@ -35,9 +35,12 @@ nextRow d rows start room = getD (listed d rows start) room rows
 abbrev pub rowSize : ℕ
 rowSize = 6
 
+abbrev pub sixBytes : ℕ → ℕ → ℕ → List ℕ
+sixBytes row outcome policy = row % 256 ∷ row / 256 % 256 ∷ row / 65536 % 256 ∷ row / 16777216 % 256 ∷ outcome ∷ policy ∷ []
+
 -- the bytes of a row with its decision
 abbrev pub rowBytes : ℕ → Decision → List ℕ
-rowBytes row d = row % 256 ∷ row / 256 % 256 ∷ row / 65536 % 256 ∷ row / 16777216 % 256 ∷ outcomeOf d ∷ policyOf d ∷ []
+rowBytes row d = sixBytes row (outcomeOf d) (policyOf d)
 
 -- and of rows, one after the other
 unfoldable pub bytesOf : (ℕ → Decision) → List ℕ → List ℕ

@@ -29,7 +29,8 @@ use Rattle.parts.specs.declared.paths.Way.the-variants.{Found, Lost}
 abbrev pub refusal : ℕ → ℕ → ℕ → Refusal
 refusal number start size = record { number = number; start = start; size = size }
 
--- what every reader may count on: the class table is lent, the token that stands next lies in the text at or after the place `from`, and the text is no longer than any can be
+-- what every reader may count on: the class table is lent, the token that stands next lies in the text at or after the place `from`, and the text is no
+-- longer than any can be
 pub record ReadyToRead (classes text : List ℕ) (from : ℕ) (t : Token) : Type 0 where
   pub table : classes ≡ classTable
   pub lies : Reads text from t
@@ -57,9 +58,10 @@ pub record Counted (seen : List ℕ) (es : List Entry) (first : ℕ) (same : Boo
   pub free-is : free ≡ first + length es
   pub ok-is : ok ≡ same && held seen first es
 
--- what was read: the value, the token after it, which starts after the place `from`, and the entries, counted and compared. No more entries than bytes from there on
-pub record Taken {A : Type 0} (es : ℕ → A → List Entry) (text seen : List ℕ) (from first : ℕ) (same : Bool) (p : reader.Answer A) (next : Token) (free : ℕ) (ok : Bool)
-    : Type 0 where
+-- what was read: the value, the token after it, which starts after the place `from`, and the entries, counted and compared. No more entries than bytes
+-- from there on
+pub record Taken {A : Type 0} (es : ℕ → A → List Entry) (text seen : List ℕ) (from first : ℕ) (same : Bool) (p : reader.Answer A)
+    (next : Token) (free : ℕ) (ok : Bool) : Type 0 where
   pub value : A
   pub is : p ≡ took value (stream text next)
   pub lies : Reads text (from + 1) next
@@ -81,6 +83,11 @@ pub record Done {A : Type 0} (es : ℕ → A → List Entry) (text seen : List �
     : Type 0 where
   pub says : Says es text seen from first same p r
   pub wrote : Put es first old new p
+
+-- the same of a reader that goes on at the token t, before which k tokens at least are read of what it reads
+abbrev pub DoneAt : {A : Type 0} → (ℕ → A → List Entry) → List ℕ → List ℕ → Token → ℕ → ℕ → Bool → List ℕ → List ℕ → (List Lexeme → reader.Answer A) → Answer
+    → Type 0
+DoneAt es text seen t k first same old new reads r = Done es text seen (t .start - k) first same old new (reads (stream text t)) r
 
 -- ---- paths
 

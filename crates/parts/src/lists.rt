@@ -70,6 +70,9 @@ fn is_sort(strings: bool, t: Token) -> bool
     }
 }
 
+// How many literals a list may have.
+const LITERALS: usize = 16;
+
 // A list after its `[`: 1 to 16 literals with commas between them, and `]`.
 pub fn read_list(
     classes: &[u8; 256],
@@ -92,7 +95,7 @@ pub fn read_list(
         if !is_sort(strings, at) {
             return Answer::Refused(turned_away(text, at, refusals::NOT_ADMITTED));
         }
-        if 16 <= free - number {
+        if LITERALS <= free - number {
             return Answer::Refused(turned_away(text, at, refusals::TOO_MANY_LITERALS));
         }
         ok = append(table, seen, free, ok, literal_entry(at));

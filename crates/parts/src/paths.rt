@@ -97,6 +97,9 @@ fn no_name(root: u8, t: Token) -> u8
     }
 }
 
+// How many bytes a path may have, its blanks left out.
+const PATH_BYTES: usize = 64;
+
 // Whether a name may go on a path of which `used` bytes are read: after action only `name` alone, else up to 64 bytes.
 fn is_admitted(text: &[u8], root: u8, used: usize, t: Token) -> bool
     requires { ⌜ (used ≤ 2 ^ 60) × Reads (now text) 0 t ⌝ }
@@ -108,7 +111,7 @@ fn is_admitted(text: &[u8], root: u8, used: usize, t: Token) -> bool
         let name = same(&text[start..end], b"name");
         return (used == 0) & name;
     }
-    used + (t.end - t.start) <= 64
+    used + (t.end - t.start) <= PATH_BYTES
 }
 
 // A path. Where it is a left operand, containsAll or containsAny may end it after a dot.

@@ -2,5 +2,8 @@ pub mod EachLaws
 pub mod Standing
 pub mod Paths
 pub mod Walk
+pub mod Words
+pub mod Moved
+pub mod Kept
 pub mod Theorems
 pub mod Examples

@@ -7,14 +7,14 @@ use mathlib.Core.Option.{Option, some}
 use Prim.Native.Nat.{ℕ, zero, suc, _+_, _≤_, _<_}
 use native.Mathlib.Omega.{arith}
 use lib.ListN.{length, length-append}
-use borrow.Author.Tests.{eqb-true, eqb-false, not-true}
+use borrow.Author.Tests.{eqb-true, eqb-false, ltb-true, not-true}
 use Rattle.slices.specs.Same.{same}
 use Rattle.tokens.specs.Kinds as kinds
 use Rattle.tokens.proofs.TokenLaws.{and-right}
 use Rattle.reading.specs.Lexemes.{Lexeme, is}
 use Rattle.reading.specs.Reads.{Reading, Chain, Chain.alone, Chain.more, Onto, Onto.onto, Before, Before.ended, After, After.begun}
 use Rattle.grammar.specs.Policies.{Span, Root, Literal, text, number, truth, Operand, attribute, Tree, both, either, Part, any, typed, Actions, Policy}
-use Rattle.grammar.specs.Rules.{inside, spanOf, isLiteral, literalOf, typeAmong, typeOf, isType, principalTypes, resourceTypes, isPattern}
+use Rattle.grammar.specs.Rules.{inside, spanOf, isLiteral, literalOf, typeAmong, typeOf, isType, principalTypes, resourceTypes, mostLiterals, mostPolicies, isPattern}
 use Rattle.grammar.specs.Grammar.{sizes, spanned, APath, Attribute, rooted, AnOperand, given, Element, element, Listing, Simple, comparison, likeness, listed, held, call, having, Conjunction, Disjunction, ConditionOver, simple, negation, bracketed, conditional, Condition, Typed, ResourceRest, ActionRest, When, PolicyRest, Policies}
 use Rattle.grammar.specs.Grammar as grammar
 use Rattle.placing.specs.Placed.{quotedAt, StringPlaced, NumberPlaced, PathPlaced, Each, none-left, and-each, LiteralPlaced, a-string, a-number, a-truth, ActionPlaced, an-action, OperandPlaced, an-attribute, a-literal, Listed, TreePlaced, a-constant, a-comparison, a-likeness, in-list, in-attribute, a-call, a-presence, a-negation, in-brackets, a-conjunction, a-disjunction, a-choice, depth, PrincipalPlaced, any-principal, principal-type, ResourcePlaced, any-resource, resource-type, one-resource, ActionsPlaced, any-action, one-of, ConditionPlaced, no-condition, a-condition, PolicyPlaced, PoliciesPlaced}
@@ -130,7 +130,7 @@ module _ {t : List ℕ} where
       where
         go : {i r : List Lexeme} {ks : List Literal} → Element sizes sort ls i r ks → FromText t i → Listed P ks × FromText t r
         go (element {x} s c) f =
-            let n = length-append ls (literalOf x ∷ []) in
+            let n = length-append ls (literalOf x ∷ []) in let m = ltb-true (length ls) mostLiterals c in
             (record { some = omega arith; few = omega arith; each = each-more e (one _ _ s (head-of f)) }, tail-of f)
 
     gives-listing : Gives t (Listing sizes sort) (Listed P)
@@ -263,5 +263,5 @@ module _ {t : List ℕ} where
   pub policies-walk : {i : List Lexeme} {ps qs : List Policy} → Policies sizes ps i qs → FromText t i → PoliciesPlaced t ps → PoliciesPlaced t qs
   policies-walk grammar.Policies.end f p = p
   policies-walk (grammar.Policies.policy {p = q} {ps = ps} e n h k) f p =
-      let y = gives-policy _ .at h (tail-of f) in
+      let y = gives-policy _ .at h (tail-of f) in let m = ltb-true (length ps) mostPolicies n in
       policies-walk k (y .1) (record { few = omega (arith, length-append ps (q ∷ [])); each = each-more (p .each) (y .0) })

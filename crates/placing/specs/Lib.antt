@@ -1,1 +1,4 @@
 pub mod Placed
+pub mod Said
+pub mod Words
+pub mod Moved

@@ -14,7 +14,7 @@ use Rattle.tokens.specs.Forms.{All, quote}
 use Rattle.tokens.specs.declared.classes.Sort.the-variants.{Letters, WordBytes, StringBytes}
 use Rattle.numbers.specs.Literals.{IsNumber}
 use Rattle.grammar.specs.Policies.{Span, Root, Root.Action, Comparator, Literal, text, number, truth, Operand, attribute, literal, Which, Tree, constant, compare, like, among, within, contains, has, not, brackets, both, either, choice, Part, any, typed, pinned, Actions, every, oneOf, Policy}
-use Rattle.grammar.specs.Rules.{isPattern, mostLiterals, mostPolicies}
+use Rattle.grammar.specs.Rules.{isPattern, mostPathBytes, mostLiterals, mostPolicies}
 
 -- ---- bytes
 
@@ -64,7 +64,7 @@ pub record NumberPlaced (t : List ℕ) (s : Span) : Type 0 where
 pub record PathPlaced (t : List ℕ) (root : Root) (s : Span) : Type 0 where
   pub lies : Lies t s
   pub path : IsPath (pathAt t s)
-  pub few : length (pathAt t s) ≤ 64
+  pub few : length (pathAt t s) ≤ mostPathBytes
   pub action : root ≡ Action → pathAt t s ≡ bytes "name"
 
 -- ---- literals, operands, lists

@@ -9,7 +9,6 @@ use crate::columns::fourth_end;
 use bags::After;
 use bags::sections::Divided;
 use bags::sections::sections_of;
-use tokens::classes::class_table;
 
 pub mod columns;
 mod elements;
@@ -35,16 +34,5 @@ pub fn question_sections(classes: &[u8; 256], s: &[u8]) -> Divided
                 }
             }
         },
-    }
-}
-
-// Whether `s` is a question.
-pub fn is_question(s: &[u8]) -> bool
-    ensures { λ r. ⌜ r ≡ isQuestion (now (s .entry)) ⌝ }
-{
-    let classes = class_table();
-    match question_sections(&classes, s) {
-        Divided::In(_) => true,
-        Divided::Broken => false,
     }
 }

@@ -48,14 +48,6 @@ pub fn places(s: &[u8], at: usize, n: usize) -> [[usize; 8]; 6]
     grid
 }
 
-// The place of one choice.
-pub fn place_at(grid: [[usize; 8]; 6], column: usize, choice: usize) -> usize
-    requires { ⌜ (column < 6) × (choice < 8) ⌝ }
-    ensures { λ r. ⌜ r ≡ getD (getD grid column []) choice 0 ⌝ }
-{
-    grid[column][choice]
-}
-
 // The places of the `n` columns from `at`, and 0 past the last.
 pub fn heads(s: &[u8], at: usize, n: usize) -> [usize; 6]
     requires { ⌜ n ≤ 6 ⌝ }

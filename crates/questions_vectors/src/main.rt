@@ -7,11 +7,10 @@ ghost use Rattle.questions.specs.Questions.{Question};
 use bags::sections::Divided;
 use bags::sections::Sections;
 use libc::STDOUT_FILENO;
-use questions::places::place_at;
 use questions::places::places;
-use questions::places::rows;
 use questions::question_sections;
 use tokens::classes::class_table;
+use vectors::place_at;
 
 // How many candidates a column has: past the last of them the places are 0.
 fn count(grid: [[usize; 8]; 6], column: usize) -> usize
@@ -46,7 +45,7 @@ fn report(s: &[u8], p: Sections)
     let at = p.end;
     let n = s[at] as usize;
     let first = at + 1;
-    io::print_decimal(STDOUT_FILENO, rows(s, first, n) as u64);
+    io::print_decimal(STDOUT_FILENO, desk::desk_rows(s) as u64);
     let grid = places(s, first, n);
     let mut column = 0;
     while column < n {

@@ -3,3 +3,4 @@ pub mod Complete
 pub mod Local
 pub mod Stream
 pub mod Opened
+pub mod Listed

@@ -1,31 +1,13 @@
--- Tokens with their bytes, and the tokens of a text in order. Definitions only.
+-- The reader of a text's tokens in order; what it must give is said on paper in Listed.antt, whose words it passes on. Definitions only.
 use mathlib.Core.Bool.{Bool, true, false}
 use mathlib.Core.List.{List, [], _∷_}
-use Prim.Native.Nat.{ℕ, zero, suc, _-_}
+use Prim.Native.Nat.{ℕ, zero, suc}
 use lib.Dec.{eqb}
-use lib.ListN.{length, take, drop}
+use lib.ListN.{length}
 use Rattle.tokens.specs.declared.reader.Token.{Token}
 use Rattle.tokens.specs.Kinds.{endOfText}
 use Rattle.tokens.specs.Tokens.{tokenAt}
-
--- a token: its kind, where it stands, and its bytes
-pub record Lexeme : Type 0 where
-  pub kind : ℕ
-  pub start : ℕ
-  pub end : ℕ
-  pub bytes : List ℕ
-
--- a token of a text
-abbrev pub lexeme : List ℕ → Token → Lexeme
-lexeme text t = record { kind = t .kind; start = t .start; end = t .end; bytes = take (t .end - t .start) (drop (t .start) text) }
-
--- a token of this kind
-abbrev pub is : ℕ → Lexeme → Bool
-is k x = eqb (x .kind) k
-
--- how many bytes a token has, by its places
-abbrev pub size : Lexeme → ℕ
-size x = x .end - x .start
+pub use Rattle.reading.specs.Listed.{Lexeme, lexeme, is, size, TokensOf, ended, goes-on}
 
 -- the first of two where the test holds, else the second; only the one that is chosen is computed
 unfoldable pub choose : {A : Type 0} → Bool → (Unit {0} → A) → (Unit {0} → A) → A
@@ -41,7 +23,7 @@ unfoldable pub tokensUpTo : ℕ → List ℕ → ℕ → List Lexeme
 tokensUpTo zero text at = []
 tokensUpTo (suc n) text at = following text (tokenAt text at) (tokensUpTo n text)
 
--- the tokens of a text from a place on, up to its end: no text has more tokens than bytes. What is no token stands there too, with its refusal's number as its kind
+-- the tokens of a text from a place on, up to its end: no text has more tokens than bytes
 unfoldable pub tokensFrom : List ℕ → ℕ → List Lexeme
 tokensFrom text at = tokensUpTo (suc (length text)) text at
 

@@ -1,3 +1,4 @@
+pub mod Listed
 pub mod Lexemes
 pub mod Reads
 pub mod Reader

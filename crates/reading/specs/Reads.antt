@@ -3,7 +3,7 @@ use mathlib.Core.Path.{_≡_}
 use mathlib.Core.Bool.{Bool, true}
 use mathlib.Core.List.{List, _∷_}
 use Prim.Native.Nat.{ℕ}
-use Rattle.reading.specs.Lexemes.{Lexeme}
+use Rattle.reading.specs.Listed.{Lexeme}
 
 -- `R i r a`: the tokens i begin with those of an a, and r is what follows them
 abbrev pub Reading : Type 0 → Type 1

@@ -17,7 +17,7 @@ use Rattle.sheets.specs.declared.Answer.{Answer}
 use Rattle.sheets.specs.declared.Answer.the-variants.{Listed, Refused}
 use Rattle.sheet.specs.declared.Printed.{Printed}
 use Rattle.sheet.specs.declared.Printed.the-variants.{Rows, Refusal}
-use Rattle.sheet.specs.Printed.{refusalFor, Accepted, PagePrinted, pageRoom, allListed, printedFor}
+use Rattle.sheet.specs.Printed.{refusalFor, Accepted, PagePrinted, pageRoom, Counted, allListed, printedFor}
 
 -- ---- refusals
 
@@ -40,7 +40,7 @@ module _ {text table s : List ℕ} {q : Request} {start : ℕ} {page after : Lis
   unfolding answerOf
   refusal-told long h e = ap refusedBy (sym e ∙ l .answered) ∙ told-by (refusalOf text table s q start page 0) _ _ ∙ refusal-is long h
 
-  module _ {rows : ℕ} (a : Accepted text table s q rows) (h : start < rows) (long : length page ≡ 6000) where
+  module _ {rows : ℕ} (a : Accepted text table s q rows) (h : start ≤ rows) (long : length page ≡ 60000) where
     answer-is : answer ≡ Listed (length (pageRows (decisions text s q) rows start pageRoom)) (nextRow (decisions text s q) rows start pageRoom)
     unfolding answerOf unless
     answer-is = l .answered ∙ rw (refusal-is (omega arith) (rw (← a .counted) (omega arith)), a .no-refusal, a .counted, long) refl
@@ -51,7 +51,7 @@ module _ {text table s : List ℕ} {q : Request} {start : ℕ} {page after : Lis
     pub never-refused : {number : ℕ} {A : Type 0} → answer ≡ Refused number → A
     never-refused e = absurd (let i = answer-is in let z : _≡_ {A = ℕ} 0 1 = cc in omega arith)
 
-    pub rows-fit : {written next : ℕ} → answer ≡ Listed written next → 6 * written ≤ 6000
+    pub rows-fit : {written next : ℕ} → answer ≡ Listed written next → 6 * written ≤ 60000
     unfolding pageRows
     rows-fit e = omega (arith, page-printed e .written, length-take pageRoom (listed (decisions text s q) rows start))
 
@@ -69,35 +69,35 @@ accepted {text} {table} {s} {q} r h e few =
 
 -- ---- what is printed in all
 
-some-told : (n : ℕ) (a : Printed) {m : ℕ} → m ≡ n → 0 < m → Refusal m ≡ unless n a Refusal
+refused-as : (n : ℕ) {m number : ℕ} {answer : Answer} (a : Printed) (w o : ℕ) → answer ≡ unless m (Listed w o) Refused → m ≡ n → answer ≡ Refused number → Refusal number ≡ unless n a Refusal
 unfolding unless
-some-told zero a e h = absurd (omega arith)
-some-told (suc n) a e h = ap Refusal e
+refused-as zero a w o told same e = absurd (let none : unless 0 (Listed w o) Refused ≡ Listed w o = refl in let z : _≡_ {A = ℕ} 0 1 = cc in omega arith)
+refused-as (suc n) a w o told same e = cc
 
-pub refusal-printed : (text table s : List ℕ) (q : Request) {number : ℕ} → number ≡ refusalFor text table s q → 0 < number → Refusal number ≡ printedFor text table s q
-unfolding printedFor
-refusal-printed text table s q e h = some-told (refusalFor text table s q) _ e h
+-- what is refused on its first page
+pub refusal-printed : {text table s : List ℕ} {q : Request} {page after : List ℕ} {answer : Answer} {number : ℕ} → SheetListed text table s q 0 page 0 answer after
+    → 6 ≤ length page → answer ≡ Refused number → Refusal number ≡ printedFor text table s q
+unfolding printedFor answerOf
+refusal-printed l long e = refused-as _ _ _ _ (l .answered) (refusal-is l long (omega arith)) e
 
-pub rows-printed : (text table s : List ℕ) (q : Request) {rows all : ℕ} → refusalFor text table s q ≤ 0 → rows ≡ cond (isQuestion s) (rowsAsked s) 0 → rows ≤ 262144 → all ≡ allListed text s q rows
-    → Rows rows all ≡ printedFor text table s q
+-- what is accepted
+pub rows-printed : {text table s : List ℕ} {q : Request} {rows all : ℕ} → Accepted text table s q rows → all ≡ allListed text s q rows → Rows rows all ≡ printedFor text table s q
 unfolding printedFor unless
-rows-printed text table s q {rows} h counted few e =
-    let a : Accepted text table s q rows = accepted refl h counted few in
-    rw (a .no-refusal, e, a .counted) refl
+rows-printed a e = rw (a .no-refusal, e, a .counted) refl
 
 -- ---- pages
 
-module _ {text s : List ℕ} {q : Request} {rows start : ℕ} {page : Page} (w : PagePrinted text s q rows start page) (h : start < rows) where
+module _ {text s : List ℕ} {q : Request} {rows start : ℕ} {page : Page} (w : PagePrinted text s q rows start page) (h : start ≤ rows) where
   abbrev d : ℕ → Decision
   d = decisions text s q
 
-  pub goes-on : start < page .next
-  goes-on = rw (w .next) (next-past d rows start pageRoom h (omega arith))
+  pub goes-on : start < rows → start < page .next
+  goes-on below = rw (w .next) (next-past d rows start pageRoom below (omega arith))
 
   pub goes-within : page .next ≤ rows
   goes-within = rw (w .next) (next-within d rows start pageRoom (omega arith))
 
-  pub few-written : page .written ≤ 1000
+  pub few-written : page .written ≤ pageRoom
   unfolding pageRows
   few-written = omega (arith, w .written, length-take pageRoom (listed d rows start))
 
@@ -115,3 +115,16 @@ all-counted d rows start e h =
     let k : rows - start ≡ 0 = omega arith in
     let none : length (listed d rows start) ≡ 0 = rw k in
     omega arith
+
+-- behind the first page
+pub first-counted : {text s : List ℕ} {q : Request} {rows : ℕ} {page : Page} → PagePrinted text s q rows 0 page → Counted text s q rows (page .next) (page .written)
+first-counted w = record { all = rows-joined w (omega arith); within = goes-within w (omega arith); few = omega (arith, few-written w (omega arith)) }
+
+-- what is listed on its first page is accepted, and that page is the sheet's
+module _ {text table s : List ℕ} {q : Request} {page after : List ℕ} {answer : Answer} {written next rows : ℕ} (l : SheetListed text table s q 0 page 0 answer after)
+    (long : length page ≡ 60000) (e : answer ≡ Listed written next) (counted : rows ≡ cond (isQuestion s) (rowsAsked s) 0) (few : rows ≤ 262144) where
+  pub first-accepted : Accepted text table s q rows
+  first-accepted = accepted (refusal-told l (omega arith) (omega arith) e) (omega arith) counted few
+
+  pub first-printed : PagePrinted text s q rows 0 (record { written = written; next = next })
+  first-printed = page-printed l first-accepted (omega arith) long e

@@ -1,12 +1,13 @@
--- What the sheet program prints for a text that compiles: a refusal's number, or the number of rows and the listed rows, read a page at a time. Definitions only.
+-- What the sheet program prints for a text that compiles: a refusal's number, or the number of rows and the listed rows, a page at a time. Definitions only.
 use mathlib.Core.Path.{_≡_}
 use mathlib.Core.Bool.{cond}
-use mathlib.Core.List.{List}
-use Prim.Native.Nat.{ℕ, _≤_}
-use lib.ListN.{length}
+use mathlib.Core.List.{List, [], _∷_, _++_}
+use Prim.Native.Nat.{ℕ, zero, suc, _+_, _*_, _≤_}
+use lib.ListN.{length, getD, take, drop}
+use Rattle.folder.specs.Decimals.{numbersLine}
 use Rattle.questions.specs.Questions.{isQuestion}
 use Rattle.meaning.specs.Targets.{Request}
-use Rattle.pages.specs.Listing.{listed, pageRows, nextRow}
+use Rattle.pages.specs.Listing.{listed, pageRows, nextRow, rowSize}
 use Rattle.pages.specs.declared.Page.{Page}
 use Rattle.sheets.specs.Sheets.{decisions, rowsAsked, requestRefusal, unless}
 use Rattle.sheet.specs.declared.Printed.{Printed}
@@ -22,9 +23,9 @@ pub record Accepted (text table s : List ℕ) (q : Request) (rows : ℕ) : Type 
   pub counted : rows ≡ rowsAsked s
   pub few : rows ≤ 262144
 
--- a page that is printed has up to 1,000 rows
+-- a page that is printed has up to 10,000 rows
 abbrev pub pageRoom : ℕ
-pageRoom = 1000
+pageRoom = 10000
 
 -- a page's rows and the row to go on with are those of the sheet
 pub record PagePrinted (text s : List ℕ) (q : Request) (rows start : ℕ) (page : Page) : Type 0 where
@@ -34,6 +35,26 @@ pub record PagePrinted (text s : List ℕ) (q : Request) (rows start : ℕ) (pag
 -- how many rows are printed in all
 abbrev pub allListed : List ℕ → List ℕ → Request → ℕ → ℕ
 allListed text s q rows = length (listed (decisions text s q) rows 0)
+
+-- so many rows are listed before a start row
+pub record Counted (text s : List ℕ) (q : Request) (rows start before : ℕ) : Type 0 where
+  pub all : before + length (listed (decisions text s q) rows start) ≡ allListed text s q rows
+  pub within : start ≤ rows
+  pub few : before ≤ pageRoom * start + pageRoom
+
+-- the line of the row whose six bytes come first: row number, outcome and policy, in decimal digits
+unfoldable pub rowAt : List ℕ → List ℕ
+rowAt s = numbersLine ((getD s 0 0 + 256 * getD s 1 0 + 65536 * getD s 2 0 + 16777216 * getD s 3 0) ∷ getD s 4 0 ∷ getD s 5 0 ∷ [])
+
+-- the lines of so many rows
+unfoldable pub rowLines : ℕ → List ℕ → List ℕ
+rowLines zero s = []
+rowLines (suc n) s = rowAt s ++ rowLines n (drop rowSize s)
+
+-- the buffer is filled with the lines of so many rows of a page
+pub record RowsPut (page : List ℕ) (written : ℕ) (new : List ℕ) (filled : ℕ) : Type 0 where
+  pub lines : take filled new ≡ rowLines written page
+  pub inside : filled ≤ length new
 
 -- what is printed of a sheet: its refusal's number, or how many rows there are and how many of them are listed
 unfoldable pub printedFor : List ℕ → List ℕ → List ℕ → Request → Printed

@@ -1,13 +1,18 @@
 // The sheet program. It reads policy.txt, question.bin and request.txt in the folder where it is started, and prints the rows that are answered with yes.
 ghost use mathlib.Core.Path.{_≡_};
 ghost use Prim.Native.Nat.{_+_, _*_, _≤_, _<_};
-ghost use lib.ListN.{length};
-ghost use Rattle.io.specs.Counts.{Counts};
+ghost use lib.ListN.{length, drop};
+ghost use Rattle.folder.specs.Added.{Added};
 ghost use Rattle.targets.specs.Matching.{request};
 ghost use Rattle.sheet.specs.Lines.{requestIn, EndsAt, GoesOnAt};
-ghost use Rattle.sheet.specs.Printed.{refusalFor, Accepted, PagePrinted, allListed, printedFor};
+ghost use Rattle.sheet.specs.Printed.{Accepted, PagePrinted, Counted, RowsPut, rowAt, pageRoom, allListed, printedFor};
 use compiling::Compiled;
 use compiling::compile;
+use folder::cases::wide;
+use folder::lines::put_one;
+use folder::lines::put_refusal;
+use folder::lines::put_three;
+use folder::read_file;
 use libc::STDOUT_FILENO;
 use pages::Page;
 use sheets::Answer;
@@ -18,19 +23,6 @@ use sheets::sheet;
 pub enum Printed {
     Rows(usize, usize),
     Refusal(u8),
-}
-
-// Reads a file from its beginning, as much as fits, and gives how many bytes came. A missing file is empty.
-fn read_file(name: &[u8], buf: &mut [u8]) -> usize
-    ensures { λ r. ⌜ Counts r (now (buf .exit)) ⌝ }
-{
-    let file = os::open_read(name);
-    if file < 0 {
-        return 0;
-    }
-    let n = io::read_full(file, buf);
-    libc::close(file);
-    n
 }
 
 // Where the line that starts at `at` ends: at its line feed, or where the bytes end.
@@ -56,50 +48,62 @@ fn line_after(s: &[u8], end: usize) -> usize
     if end < s.len() { end + 1 } else { end }
 }
 
-fn print_number(n: usize, end: &[u8; 1]) {
-    io::print_decimal(STDOUT_FILENO, n as u64);
-    io::write_all(STDOUT_FILENO, end);
+fn print_refusal(number: u32, line: usize, column: usize) {
+    let mut out = [0u8; 71];
+    let n = put_refusal(&mut out, 0, number, line, column);
+    io::write_all(STDOUT_FILENO, &out[..n]);
 }
 
-fn print_refusal(number: u8, line: usize, column: usize) {
-    io::write_all(STDOUT_FILENO, b"refused ");
-    print_number(number as usize, b" ");
-    print_number(line, b" ");
-    print_number(column, b"\n");
+// A line of a word and a number.
+fn print_one(word: &[u8], n: usize)
+    requires { ⌜ length (now word) ≤ 8 ⌝ }
+{
+    let mut out = [0u8; 29];
+    let end = put_one(&mut out, 0, word, n);
+    io::write_all(STDOUT_FILENO, &out[..end]);
 }
 
 // The number in four bytes, the lowest first.
-fn number4(a: u8, b: u8, c: u8, d: u8) -> usize {
-    a as usize + 256 * (b as usize) + 65536 * (c as usize) + 16777216 * (d as usize)
-}
-
-fn print_byte(n: u8, end: &[u8; 1]) {
-    print_number(n as usize, end);
-}
-
-// Prints the row that lies at a byte of a page: row number, outcome and policy.
-fn print_row(page: &[u8], at: usize)
-    requires { ⌜ at + 6 ≤ length (now page) ⌝ }
+fn number4(a: u8, b: u8, c: u8, d: u8) -> usize
+    ensures { λ r. ⌜ (r ≡ a + 256 * b + 65536 * c + 16777216 * d) × (r < 4294967296) ⌝ }
 {
-    print_number(
-        number4(page[at], page[at + 1], page[at + 2], page[at + 3]),
-        b" ",
-    );
-    print_byte(page[at + 4], b" ");
-    print_byte(page[at + 5], b"\n");
+    wide(a) + 256 * wide(b) + 65536 * wide(c) + 16777216 * wide(d)
 }
 
-// Prints so many rows of a page.
-fn print_rows(page: &[u8], written: usize)
-    requires { ⌜ 6 * written ≤ length (now page) ⌝ }
+// The line of the row that lies at a byte of a page: row number, outcome and policy.
+fn put_row(page: &[u8], at: usize, out: &mut [u8], filled: usize) -> usize
+    requires { ⌜ (at + 6 ≤ length (now page)) × (filled + 63 ≤ length (now out)) ⌝ }
+    ensures { λ r. ⌜ Added (now (out .entry)) filled (rowAt (drop at (now (page .entry)))) (now (out .exit)) r × (r ≤ filled + 19) ⌝ }
+{
+    let row = number4(page[at], page[at + 1], page[at + 2], page[at + 3]);
+    let outcome = wide(page[at + 4]);
+    let policy = wide(page[at + 5]);
+    put_three(out, filled, row, outcome, policy)
+}
+
+// The lines of so many rows of a page.
+fn put_rows(page: &[u8], written: usize, out: &mut [u8]) -> usize
+    requires { ⌜ (6 * written ≤ length (now page)) × (19 * written + 63 ≤ length (now out)) ⌝ }
+    ensures { λ r. ⌜ RowsPut (now (page .entry)) written (now (out .exit)) r ⌝ }
 {
     let mut left = written;
     let mut at = 0;
+    let mut filled = 0;
     while 0 < left {
-        print_row(page, at);
+        filled = put_row(page, at, out, filled);
         at += 6;
         left -= 1;
     }
+    filled
+}
+
+// Prints so many rows of a page, at once.
+fn print_rows(page: &[u8], written: usize)
+    requires { ⌜ (6 * written ≤ length (now page)) × (written ≤ pageRoom) ⌝ }
+{
+    let mut out = [0u8; 190063]; // 19 bytes for each of 10,000 rows, and room for a line of any numbers
+    let n = put_rows(page, written, &mut out);
+    io::write_all(STDOUT_FILENO, &out[..n]);
 }
 
 // Prints the page from a start row on, and gives how many rows it has and the row to go on with.
@@ -115,9 +119,10 @@ fn print_page<'a>(
 ) -> Page
     requires { ⌜ Accepted (now text) (now table) (now question) (request (now subject) (now action) (now resource)) rows ⌝ }
     requires { ⌜ start < rows ⌝ }
-    ensures { λ r. ⌜ PagePrinted (now (text .entry)) (now (question .entry)) (request (now (subject .entry)) (now (action .entry)) (now (resource .entry))) rows start r ⌝ }
+    ensures { λ r. ⌜ PagePrinted (now (text .entry)) (now (question .entry))
+        (request (now (subject .entry)) (now (action .entry)) (now (resource .entry))) rows start r ⌝ }
 {
-    let mut page = [0u8; 6000]; // room for 1,000 rows
+    let mut page = [0u8; 60000]; // room for 10,000 rows
     match sheet(
         text,
         table,
@@ -141,7 +146,7 @@ fn print_page<'a>(
     }
 }
 
-// Prints all pages, and gives how many rows they have.
+// Prints the pages from a start row on, and gives how many rows they and those before them have.
 fn print_pages<'a>(
     text: &'a [u8],
     table: &[u8],
@@ -150,12 +155,16 @@ fn print_pages<'a>(
     action: &'a [u8],
     resource: &[u8],
     rows: usize,
+    first: usize,
+    before: usize,
 ) -> usize
     requires { ⌜ Accepted (now text) (now table) (now question) (request (now subject) (now action) (now resource)) rows ⌝ }
-    ensures { λ r. ⌜ r ≡ allListed (now (text .entry)) (now (question .entry)) (request (now (subject .entry)) (now (action .entry)) (now (resource .entry))) rows ⌝ }
+    requires { ⌜ Counted (now text) (now question) (request (now subject) (now action) (now resource)) rows first before ⌝ }
+    ensures { λ r. ⌜ r ≡ allListed (now (text .entry)) (now (question .entry))
+        (request (now (subject .entry)) (now (action .entry)) (now (resource .entry))) rows ⌝ }
 {
-    let mut listed = 0;
-    let mut start = 0;
+    let mut listed = before;
+    let mut start = first;
     while start < rows {
         let page = print_page(
             text,
@@ -173,34 +182,6 @@ fn print_pages<'a>(
     listed
 }
 
-// The number of the refusal that the sheet gets, and 0 where it gets none.
-fn refusal<'a>(
-    text: &'a [u8],
-    table: &[u8],
-    question: &'a [u8],
-    subject: &[u8],
-    action: &'a [u8],
-    resource: &[u8],
-) -> u8
-    ensures { λ r. ⌜ r ≡ refusalFor (now (text .entry)) (now (table .entry)) (now (question .entry)) (request (now (subject .entry)) (now (action .entry)) (now (resource .entry))) ⌝ }
-{
-    let mut row = [0u8; 6];
-    match sheet(
-        text,
-        table,
-        question,
-        subject,
-        action,
-        resource,
-        0,
-        &mut row,
-        0,
-    ) {
-        Answer::Refused(number) => number,
-        Answer::Listed(_, _) => 0,
-    }
-}
-
 // Prints the sheet, and gives what it printed.
 fn print_sheet<'a>(
     text: &'a [u8],
@@ -210,20 +191,44 @@ fn print_sheet<'a>(
     action: &'a [u8],
     resource: &[u8],
 ) -> Printed
-    ensures { λ r. ⌜ r ≡ printedFor (now (text .entry)) (now (table .entry)) (now (question .entry)) (request (now (subject .entry)) (now (action .entry)) (now (resource .entry))) ⌝ }
+    ensures { λ r. ⌜ r ≡ printedFor (now (text .entry)) (now (table .entry)) (now (question .entry))
+        (request (now (subject .entry)) (now (action .entry)) (now (resource .entry))) ⌝ }
 {
-    let number = refusal(text, table, question, subject, action, resource);
-    if 0 < number {
-        print_refusal(number, 0, 0);
-        return Printed::Refusal(number);
+    let mut page = [0u8; 60000]; // room for 10,000 rows
+    match sheet(
+        text,
+        table,
+        question,
+        subject,
+        action,
+        resource,
+        0,
+        &mut page,
+        0,
+    ) {
+        Answer::Refused(number) => {
+            print_refusal(number as u32, 0, 0);
+            Printed::Refusal(number)
+        }
+        Answer::Listed(written, next) => {
+            let rows = row_count(question);
+            print_one(b"rows ", rows);
+            print_rows(&page, written);
+            let listed = print_pages(
+                text,
+                table,
+                question,
+                subject,
+                action,
+                resource,
+                rows,
+                next,
+                written,
+            );
+            print_one(b"allowed ", listed);
+            Printed::Rows(rows, listed)
+        }
     }
-    let rows = row_count(question);
-    io::write_all(STDOUT_FILENO, b"rows ");
-    print_number(rows, b"\n");
-    let listed = print_pages(text, table, question, subject, action, resource, rows);
-    io::write_all(STDOUT_FILENO, b"allowed ");
-    print_number(listed, b"\n");
-    Printed::Rows(rows, listed)
 }
 
 // The sheet of a request that has its three lines: subject, action, resource.
@@ -255,7 +260,7 @@ fn main() {
     let q = read_file(b"question.bin", &mut question);
     let r = read_file(b"request.txt", &mut request);
     match compile(&text[..n], &mut table) {
-        Compiled::Refused(number, line, column) => print_refusal(number, line, column),
+        Compiled::Refused(number, spot) => print_refusal(number as u32, spot.line, spot.column),
         Compiled::Policies(_, _) => {
             print_request(&text[..n], &table, &question[..q], &request[..r]);
         }

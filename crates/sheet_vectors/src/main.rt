@@ -2,9 +2,8 @@
 // whole sheet, which is lent with a pattern in it.
 ghost use Prim.Native.Nat.{_<_, _≤_};
 ghost use lib.ListN.{length};
+use desk::DeskPage;
 use libc::STDOUT_FILENO;
-use sheets::Answer;
-use sheets::sheet;
 
 // The sheet before the call: byte n is n mod 251.
 fn fill(sheet: &mut [u8]) {
@@ -15,17 +14,15 @@ fn fill(sheet: &mut [u8]) {
     }
 }
 
-fn report(answer: Answer, sheet: &[u8]) {
-    match answer {
-        Answer::Refused(number) => {
-            io::write_all(STDOUT_FILENO, b"R ");
-            vectors::print_number(number as u64, b' ');
-        }
-        Answer::Listed(written, next) => {
-            vectors::print_number(written as u64, b' ');
-            vectors::print_number(next as u64, b' ');
-        }
+fn report(answer: DeskPage, sheet: &[u8]) {
+    if 0 < answer.refusal {
+        io::write_all(STDOUT_FILENO, b"R ");
+        vectors::print_number(answer.refusal as u64, b' ');
+        vectors::print_number(vectors::sum_of(sheet), b'\n');
+        return;
     }
+    vectors::print_number(answer.written as u64, b' ');
+    vectors::print_number(answer.next as u64, b' ');
     vectors::print_number(vectors::sum_of(sheet), b'\n');
 }
 
@@ -83,7 +80,7 @@ fn page<'a>(
     at: usize,
 ) {
     fill(lent);
-    let answer = sheet(
+    let answer = desk::desk_sheet(
         text,
         table,
         question,

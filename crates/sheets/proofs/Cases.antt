@@ -7,7 +7,8 @@ use borrow.Author.Tests.{le-leb, lt-leb}
 use borrow.Rule.Slice.PartMut.{putMid}
 use lib.ListN.{length, take, drop, take-append-drop}
 use Rattle.slices.proofs.Parts.{tail-lent, tail-back}
-use Rattle.grammar.specs.Policies.{Policy}
+use Rattle.grammar.specs.Policies.{PolicyOf}
+use Rattle.placing.specs.Said.{Word, wordsOf}
 use Rattle.compiling.specs.Outcome.{heldOf}
 use Rattle.compiling.specs.declared.Held.the-variants.{Right, Wrong}
 use Rattle.compiling.proofs.Outcomes.{right-begins, wrong-begins}
@@ -19,7 +20,7 @@ use Rattle.stored.specs.ReadBack.{policiesAt}
 use Rattle.meaning.specs.Targets.{Request, isSystem, isSubject, isAction, isResource}
 use Rattle.meaning.specs.Decisions.{decisionOf}
 use Rattle.meaning.specs.declared.Decision.{Decision}
-use Rattle.deciding.specs.Answers.{policiesOf}
+use Rattle.deciding.specs.Answers.{wordsIn}
 use Rattle.deciding.proofs.HeldLaws.{held-says}
 use Rattle.pages.specs.Listing.{rowSize, PageWritten}
 use Rattle.pages.specs.declared.Page.{Page}
@@ -35,17 +36,17 @@ module _ (text table s : List ℕ) (p : Sections) (q : Request) (start : ℕ) (p
   refused-by n e = record { answered = rw e; bytes = rw e }
 
   -- the decisions by any policies that decide alike
-  listed-by : requestRefusal text table q ≡ 0 → (ps : List Policy) → ((row : ℕ) → decisionAt text s p q ps row ≡ decisionAt text s p q (policiesOf text) row)
+  listed-by : requestRefusal text table q ≡ 0 → (ps : List (PolicyOf Word)) → ((row : ℕ) → decisionAt s p q ps row ≡ decisionAt s p q (wordsIn text) row)
       → {all : ℕ} → all ≡ rowsIn s p → {page : Page} {after : List ℕ} {answer : Answer} → answer ≡ Listed (page .written) (page .next)
-      → PageWritten (decisionAt text s p q ps) all start part page after → PartListed text table s p q start part answer after
+      → PageWritten (decisionAt s p q ps) all start part page after → PartListed text table s p q start part answer after
   unfolding unless
   listed-by e ps same a {page} {after} {answer} l w =
-      let alike : _≡_ {A = ℕ → Decision} (decisionAt text s p q ps) (decisionAt text s p q (policiesOf text)) = λ i row. same row i in
-      let v : PageWritten (decisionAt text s p q (policiesOf text)) (rowsIn s p) start part page after = rw (alike, a) at w in
+      let alike : _≡_ {A = ℕ → Decision} (decisionAt s p q ps) (decisionAt s p q (wordsIn text)) = λ i row. same row i in
+      let v : PageWritten (decisionAt s p q (wordsIn text)) (rowsIn s p) start part page after = rw (alike, a) at w in
       record { answered = rw e (l ∙ rw (v .written, v .next)); bytes = rw e (v .bytes) }
 
-  pub system-listed : isSystem (q .subject) ≡ true → (ps : List Policy) → {all : ℕ} → all ≡ rowsIn s p → {page : Page} {after : List ℕ} {answer : Answer}
-      → answer ≡ Listed (page .written) (page .next) → PageWritten (decisionAt text s p q ps) all start part page after → PartListed text table s p q start part answer after
+  pub system-listed : isSystem (q .subject) ≡ true → (ps : List (PolicyOf Word)) → {all : ℕ} → all ≡ rowsIn s p → {page : Page} {after : List ℕ} {answer : Answer}
+      → answer ≡ Listed (page .written) (page .next) → PageWritten (decisionAt s p q ps) all start part page after → PartListed text table s p q start part answer after
   unfolding requestRefusal decisionBy decisionOf
   system-listed e ps = listed-by (rw e) ps (λ row. rw e)
 
@@ -71,10 +72,10 @@ module _ (text table s : List ℕ) (p : Sections) (q : Request) (start : ℕ) (p
 
           pub held-listed : {policies entries : ℕ} → heldOf text table ≡ Right policies entries → {all : ℕ} → all ≡ rowsIn s p
               → {page : Page} {after : List ℕ} {answer : Answer} → answer ≡ Listed (page .written) (page .next)
-              → PageWritten (decisionAt text s p q (policiesAt table entries)) all start part page after → PartListed text table s p q start part answer after
+              → PageWritten (decisionAt s p q (wordsOf text (policiesAt table entries))) all start part page after → PartListed text table s p q start part answer after
           unfolding requestRefusal
           held-listed {policies} {entries} e =
-              listed-by (rw (other, subject, action, resource, ← right-begins text table (sym e))) (policiesAt table entries)
+              listed-by (rw (other, subject, action, resource, ← right-begins text table (sym e))) (wordsOf text (policiesAt table entries))
               (λ row. rw (held-says text table policies entries e))
 
 -- ---- the call

@@ -1,4 +1,3 @@
-pub mod RowLaws
 pub mod Cases
 pub mod Promised
 pub mod Opened

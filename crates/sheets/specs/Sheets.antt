@@ -1,54 +1,26 @@
--- What the sheet's call answers and leaves in the sheet, as functions of all that it is given (document 01, 'The sheet' and 'Refusal numbers'). Definitions only.
+-- What the sheet's call answers and leaves in the sheet, as functions of all that it is given (document 01, 'The sheet', 'Refusal numbers'). Definitions only.
 use mathlib.Core.Path.{_≡_}
 use mathlib.Core.Bool.{cond}
 use mathlib.Core.List.{List, _++_}
 use Prim.Native.Nat.{ℕ, zero, suc, _+_}
 use lib.Dec.{leb}
 use lib.ListN.{length, take, drop}
-use Rattle.grammar.specs.Policies.{Policy}
 use Rattle.compiling.specs.Outcome.{beginsOf}
-use Rattle.bags.specs.Reading.{byte}
 use Rattle.bags.specs.Sections.{sectionsOf}
 use Rattle.bags.specs.declared.sections.Sections.{Sections}
 use Rattle.bags.specs.declared.sections.Divided.{Divided}
 use Rattle.bags.specs.declared.sections.Divided.the-variants.{In, Broken}
-use Rattle.questions.specs.Questions.{isQuestion, rowsOf}
-use Rattle.views.specs.Meaning.{look}
-use Rattle.views.specs.Rows.{bagOfRow}
+use Rattle.questions.specs.Questions.{isQuestion}
 use Rattle.meaning.specs.Targets.{Request, isSystem, isSubject, isAction, isResource}
-use Rattle.meaning.specs.Decisions.{decisionOf}
 use Rattle.meaning.specs.declared.Decision.{Decision}
-use Rattle.deciding.specs.Answers.{policiesOf}
-use Rattle.pages.specs.Rows.{countsOf, choicesAt}
+use Rattle.deciding.specs.Answers.{wordsIn}
+pub use Rattle.turns.specs.Rows.{columnsIn, firstIn, countsIn, rowsIn, decisionAt}
+unfoldable pub use Rattle.turns.specs.Rows.{decisionBy}
 use Rattle.pages.specs.Listing.{pageRows, nextRow, rowSize, bytesOf, over, roomIn}
 use Rattle.sheets.specs.declared.Answer.{Answer}
 use Rattle.sheets.specs.declared.Answer.the-variants.{Listed, Refused}
 
--- ---- the rows of a question, and what is decided in each
-
--- how many columns: their count byte stands at the sections' end
-abbrev pub columnsIn : List ℕ → Sections → ℕ
-columnsIn s p = byte s (p .end)
-
--- where the first column starts
-abbrev pub firstIn : Sections → ℕ
-firstIn p = p .end + 1
-
--- how many candidates each column has
-abbrev pub countsIn : List ℕ → Sections → List ℕ
-countsIn s p = countsOf (columnsIn s p) s (firstIn p)
-
--- how many rows
-abbrev pub rowsIn : List ℕ → Sections → ℕ
-rowsIn s p = rowsOf (columnsIn s p) s (firstIn p)
-
--- what is decided where the columns have these choices: a row's bag is the base with each column's attribute set to its choice or removed
-unfoldable pub decisionBy : List ℕ → List ℕ → Sections → Request → List Policy → List ℕ → Decision
-decisionBy text s p q ps choices = decisionOf text (look (bagOfRow s p (columnsIn s p) (firstIn p) choices)) q ps
-
--- the decision of each row
-abbrev pub decisionAt : List ℕ → List ℕ → Sections → Request → List Policy → ℕ → Decision
-decisionAt text s p q ps row = decisionBy text s p q ps (choicesAt (countsIn s p) row)
+-- ---- the sections of a question
 
 -- sections as they are divided, and none where they are broken
 unfoldable pub dividedAs : Divided → Sections
@@ -89,14 +61,14 @@ writtenOver d rows start part = over (bytesOf d (pageRows d rows start (roomIn p
 
 -- a page for a question whose sections are p
 pub record PartListed (text table s : List ℕ) (p : Sections) (q : Request) (start : ℕ) (before : List ℕ) (answer : Answer) (after : List ℕ) : Type 0 where
-  pub answered : answer ≡ unless (requestRefusal text table q) (listedOn (decisionAt text s p q (policiesOf text)) (rowsIn s p) start before) Refused
-  pub bytes : after ≡ unless (requestRefusal text table q) (writtenOver (decisionAt text s p q (policiesOf text)) (rowsIn s p) start before) (λ _. before)
+  pub answered : answer ≡ unless (requestRefusal text table q) (listedOn (decisionAt s p q (wordsIn text)) (rowsIn s p) start before) Refused
+  pub bytes : after ≡ unless (requestRefusal text table q) (writtenOver (decisionAt s p q (wordsIn text)) (rowsIn s p) start before) (λ _. before)
 
 -- ---- the call
 
 -- the decision of each row of the question
 abbrev pub decisions : List ℕ → List ℕ → Request → ℕ → Decision
-decisions text s q = decisionAt text s (sectionsIn s) q (policiesOf text)
+decisions text s q = decisionAt s (sectionsIn s) q (wordsIn text)
 
 -- how many rows the question has
 abbrev pub rowsAsked : List ℕ → ℕ
@@ -104,7 +76,8 @@ rowsAsked s = rowsIn s (sectionsIn s)
 
 -- what the call answers
 unfoldable pub answerOf : List ℕ → List ℕ → List ℕ → Request → ℕ → List ℕ → ℕ → Answer
-answerOf text table s q start sheet at = unless (refusalOf text table s q start sheet at) (listedOn (decisions text s q) (rowsAsked s) start (drop at sheet)) Refused
+answerOf text table s q start sheet at =
+    unless (refusalOf text table s q start sheet at) (listedOn (decisions text s q) (rowsAsked s) start (drop at sheet)) Refused
 
 -- the sheet afterwards: the page is written into the part from the named byte on; a refusal changes nothing
 unfoldable pub sheetAfter : List ℕ → List ℕ → List ℕ → Request → ℕ → List ℕ → ℕ → List ℕ

@@ -11,6 +11,7 @@ ghost use Rattle.questions.specs.Questions.{isQuestion};
 ghost use Rattle.sheets.specs.Sheets.{rowsAsked, PartListed, SheetListed};
 ghost use Rattle.sheets.specs.Asked.{Asked};
 ghost use Rattle.sheets.specs.declared.Answer.the-variants.{Listed};
+use crate::writing::Rules;
 use crate::writing::write_page;
 use bags::sections::Divided;
 use bags::sections::Sections;
@@ -19,6 +20,7 @@ use compiling::held_policies;
 use pages::Page;
 use questions::places::rows;
 use questions::question_sections;
+use targets::Types;
 use targets::forms::is_action;
 use targets::forms::is_system;
 use targets::forms::resource_type;
@@ -55,8 +57,8 @@ fn page_for_other<'a>(
     requires { ⌜ now classes ≡ classTable ⌝ }
     requires { ⌜ Asked (now s) p all start ⌝ }
     requires { ⌜ isSystem (now subject) ≡ false ⌝ }
-    ensures { λ r. ⌜ PartListed (now (text .entry)) (now (table .entry)) (now (s .entry)) p (request (now (subject .entry)) (now (action .entry)) (now (resource .entry)))
-        start (now (part .entry)) r (now (part .exit)) ⌝ }
+    ensures { λ r. ⌜ PartListed (now (text .entry)) (now (table .entry)) (now (s .entry)) p
+        (request (now (subject .entry)) (now (action .entry)) (now (resource .entry))) start (now (part .entry)) r (now (part .exit)) ⌝ }
 {
     let subject_type = subject_type(subject);
     if subject_type == 0 {
@@ -69,25 +71,33 @@ fn page_for_other<'a>(
     if resource_type == 0 {
         return Answer::Refused(23);
     }
+    let types = Types {
+        subject: subject_type,
+        resource: resource_type,
+    };
     match held_policies(classes, text, table) {
         Held::Wrong => Answer::Refused(20),
-        Held::Right(policies, entries) => listed(write_page(
-            false,
-            text,
-            table,
-            policies,
-            entries,
-            s,
-            p,
-            subject,
-            subject_type,
-            action,
-            resource,
-            resource_type,
-            all,
-            start,
-            part,
-        )),
+        Held::Right(policies, entries) => {
+            let rules = Rules {
+                system: false,
+                policies: policies,
+                entries: entries,
+            };
+            listed(write_page(
+                rules,
+                text,
+                table,
+                s,
+                p,
+                subject,
+                action,
+                resource,
+                types,
+                all,
+                start,
+                part,
+            ))
+        }
     }
 }
 
@@ -107,23 +117,29 @@ fn page_for<'a>(
 ) -> Answer
     requires { ⌜ now classes ≡ classTable ⌝ }
     requires { ⌜ Asked (now s) p all start ⌝ }
-    ensures { λ r. ⌜ PartListed (now (text .entry)) (now (table .entry)) (now (s .entry)) p (request (now (subject .entry)) (now (action .entry)) (now (resource .entry)))
-        start (now (part .entry)) r (now (part .exit)) ⌝ }
+    ensures { λ r. ⌜ PartListed (now (text .entry)) (now (table .entry)) (now (s .entry)) p
+        (request (now (subject .entry)) (now (action .entry)) (now (resource .entry))) start (now (part .entry)) r (now (part .exit)) ⌝ }
 {
     if is_system(subject) {
+        let rules = Rules {
+            system: true,
+            policies: 0,
+            entries: 0,
+        };
+        let types = Types {
+            subject: 0,
+            resource: 0,
+        };
         return listed(write_page(
-            true,
+            rules,
             text,
             table,
-            0,
-            0,
             s,
             p,
             subject,
-            0,
             action,
             resource,
-            0,
+            types,
             all,
             start,
             part,

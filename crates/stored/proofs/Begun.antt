@@ -1,4 +1,4 @@
--- A table that begins with a text's entries has its policies stored. Assumes nothing.
+-- A table that begins with a text's entries has its policies stored: their fields fit into two bytes each. Assumes nothing.
 use mathlib.Core.Path.{_≡_, _∙_}
 use mathlib.Core.Bool.{true, false}
 use mathlib.Core.List.{List, [], _∷_, _++_}
@@ -12,11 +12,17 @@ use Rattle.placing.proofs.Theorems.{policies-placed, span-fits}
 use Rattle.table.specs.declared.Entry.{Entry}
 use Rattle.table.specs.Entries.{entry, placed, literalEntry, literalEntries, operandEntry, whichKind, treeEntries, partEntry, actionEntries, conditionEntries, effectKind, targetEntries, policyEntries, policiesEntries}
 use Rattle.slices.specs.Parts.{Begins}
-use Rattle.table.specs.Layout.{held, bytesOf, startsWith}
-use Rattle.stored.specs.Stored.{TextSays, Small, StoredPolicies}
-use Rattle.table.proofs.Holding.{held-starts, starts-decides}
+use Rattle.table.specs.Layout.{entryAt, held, bytesOf, startsWith}
+use Rattle.stored.specs.Stored.{TextSays, StandFrom, StoredPolicies}
+use Rattle.stored.specs.Stored as stored
+use Rattle.table.proofs.Holding.{held-starts, held-entry, held-right, starts-decides}
 use Rattle.placing.proofs.EachLaws.{each-append}
 use Rattle.table.proofs.Counting.{entries-few}
+
+-- both fields of an entry fit into their two bytes
+record Small (x : Entry) : Type 0 where
+  first : x .first < 65536
+  second : x .second < 65536
 
 small : {k : ℕ} (a b : ℕ) → a < 65536 → b < 65536 → Small (entry k a b)
 small a b h i = record { first = h; second = i }
@@ -131,7 +137,7 @@ module _ (t : List ℕ) (short : length t ≤ 8192) where
       let n = length-append (a ++ b) (entry (effectKind (p .permits)) e m ∷ []) in let o = length-append a b in
       node-small (effectKind (p .permits)) (a ++ b) e m (each-append a b (target-small h) (condition-small (h .condition) m (omega arith))) (omega arith) (omega arith)
 
-  pub policies-small : {ps : List Policy} → Each (PolicyPlaced t) ps → (e : ℕ) → e + length (policiesEntries e ps) < 65536 → Each Small (policiesEntries e ps)
+  policies-small : {ps : List Policy} → Each (PolicyPlaced t) ps → (e : ℕ) → e + length (policiesEntries e ps) < 65536 → Each Small (policiesEntries e ps)
   unfolding policiesEntries
   policies-small none-left e few = none-left
   policies-small (and-each {a = p} {l = ps} h hs) e few =
@@ -140,16 +146,22 @@ module _ (t : List ℕ) (short : length t ≤ 8192) where
 
 -- ---- a table that begins with a text's entries
 
-module _ {table t : List ℕ} {ps : List Policy} (says : TextSays t ps) where
-  pub begun-stored : held table 0 (policiesEntries 0 ps) ≡ true → StoredPolicies table (length (policiesEntries 0 ps)) ps
+-- entries that a table has, with such fields, are those that its accessor gives
+stand-by : (T : List ℕ) (e : ℕ) (es : List Entry) → Each Small es → held T e es ≡ true → StandFrom (entryAt T) e es
+stand-by T e [] s h = stored.none-left
+stand-by T e (x ∷ es) (and-each m s) h = stored.one-more (held-entry T e x es (m .first) (m .second) h) (stand-by T (e + 1) es s (held-right T e (x ∷ []) es h))
+
+module _ (table : List ℕ) {t : List ℕ} {ps : List Policy} (says : TextSays t ps) where
+  pub begun-stored : held table 0 (policiesEntries 0 ps) ≡ true → StoredPolicies (entryAt table) (length (policiesEntries 0 ps)) ps
   begun-stored h =
       let short = says .short in
       let n = entries-few t ps (says .read) in
-      record { stands = record { has = h; ends = omega arith; small = policies-small t short (policies-placed t ps (says .read) .each) 0 (omega arith); few = omega arith } }
+      let fit = policies-small t short (policies-placed t ps (says .read) .each) 0 (omega arith) in
+      record { stands = record { from = stand-by table 0 _ fit h; ends = omega arith; few = omega arith } }
 
   -- the same where it begins with their bytes, by the test and by the statement
-  pub starts-stored : startsWith (bytesOf (policiesEntries 0 ps)) table ≡ true → StoredPolicies table (length (policiesEntries 0 ps)) ps
+  pub starts-stored : startsWith (bytesOf (policiesEntries 0 ps)) table ≡ true → StoredPolicies (entryAt table) (length (policiesEntries 0 ps)) ps
   starts-stored h = begun-stored (held-starts table 0 (policiesEntries 0 ps) ∙ h)
 
-  pub begins-stored : Begins (bytesOf (policiesEntries 0 ps)) table → StoredPolicies table (length (policiesEntries 0 ps)) ps
+  pub begins-stored : Begins (bytesOf (policiesEntries 0 ps)) table → StoredPolicies (entryAt table) (length (policiesEntries 0 ps)) ps
   begins-stored b = starts-stored (starts-decides (bytesOf (policiesEntries 0 ps)) table .complete b)

@@ -7,3 +7,4 @@ pub mod Nodes
 pub mod Evaluating
 pub mod Theorems
 pub mod Examples
+pub mod Alike

@@ -1,4 +1,4 @@
--- Policies that a table has, from the last to the first. Assumes nothing.
+-- Policies that are stored, from the last to the first. Assumes nothing.
 use mathlib.Core.Path.{_≡_, refl, sym, ap, subst}
 use mathlib.Core.List.{List, [], _∷_, _++_}
 use mathlib.Core.Option.{Option, none, some}
@@ -9,23 +9,22 @@ use Rattle.grammar.specs.Policies.{Tree, Actions, every, oneOf, Policy}
 use Rattle.table.proofs.Counting.{policies-append}
 use Rattle.table.specs.declared.Entry.{Entry}
 use Rattle.table.specs.Entries.{entry, literalEntry, literalEntries, partEntry, actionEntries, conditionEntries, effectKind, targetEntries, policyEntries, policiesEntries}
-use Rattle.table.specs.Layout.{entryAt}
 use Rattle.stored.specs.Stored.{EntriesStand, StoredPolicy, StoredPolicies, ActionView, is-every, is-one-of, ConditionView, no-condition, a-condition, PolicyView, LastPolicy}
-use Rattle.stored.proofs.Standing.{stands-left, stands-right, stands-head, stands-tail, stands-before, stands-last, stands-from, literals-stand}
+use Rattle.stored.proofs.Standing.{stands-left, stands-right, stands-head, stands-tail, stands-before, stands-last, stands-from}
 use Rattle.stored.proofs.Views.{some-entries}
 
 -- ---- one policy
 
-action-view : {T : List ℕ} {first end : ℕ} (a : Actions) → EntriesStand T first end (actionEntries a) → ActionView T end a (entryAt T (end - 1))
+action-view : {at : ℕ → Entry} {first end : ℕ} (a : Actions) → EntriesStand at first end (actionEntries a) → ActionView at end a (at (end - 1))
 unfolding actionEntries
-action-view {T} {first} {end} every s = subst (ActionView T end every) (sym (stands-last [] (entry 32 0 0) s)) is-every
-action-view {T} {first} {end} (oneOf ls) s =
+action-view {at} {first} {end} every s = subst (ActionView at end every) (sym (stands-last [] (entry 32 0 0) s)) is-every
+action-view {at} {first} {end} (oneOf ls) s =
     let n = length-map ls literalEntry in let m = length-append (literalEntries ls) (entry 33 (length ls) 0 ∷ []) in let e = s .ends in
     let place : first ≡ end - length ls - 1 = omega arith in
-    subst (ActionView T end (oneOf ls)) (sym (stands-last (literalEntries ls) (entry 33 (length ls) 0) s))
-    (is-one-of (omega arith) (literals-stand ls (stands-from place (stands-before (literalEntries ls) (entry 33 (length ls) 0) s))))
+    subst (ActionView at end (oneOf ls)) (sym (stands-last (literalEntries ls) (entry 33 (length ls) 0) s))
+    (is-one-of (omega arith) (stands-from place (stands-before (literalEntries ls) (entry 33 (length ls) 0) s) .from))
 
-condition-view : {T : List ℕ} {first end : ℕ} (c : Option Tree) → EntriesStand T first end (conditionEntries first c) → ConditionView T first end c
+condition-view : {at : ℕ → Entry} {first end : ℕ} (c : Option Tree) → EntriesStand at first end (conditionEntries first c) → ConditionView at first end c
 unfolding conditionEntries
 condition-view none s = let e = s .ends in no-condition (omega arith)
 condition-view {first = first} (some t) s = let e = s .ends in let n = some-entries first t in a-condition (omega arith) (record { first = first; stands = s })
@@ -36,9 +35,9 @@ actions-some every = omega arith
 actions-some (oneOf ls) = let m = length-append (literalEntries ls) (entry 33 (length ls) 0 ∷ []) in omega arith
 
 -- a policy by its last entry, which also says where it begins
-pub policy-view : {T : List ℕ} {end : ℕ} (p : Policy) (h : StoredPolicy T end p) → PolicyView T end p (entryAt T (end - 1)) × (entryAt T (end - 1) .first ≡ h .first)
+pub policy-view : {at : ℕ → Entry} {end : ℕ} (p : Policy) (h : StoredPolicy at end p) → PolicyView at end p (at (end - 1)) × (at (end - 1) .first ≡ h .first)
 unfolding policyEntries targetEntries
-policy-view {T} {end} p h =
+policy-view {at} {end} p h =
     let first = h .first in let s = h .stands in
     let front = partEntry (p .principal) ∷ actionEntries (p .action) in
     let last = partEntry (p .resource) in
@@ -55,30 +54,30 @@ policy-view {T} {end} p h =
     let lw = length-append (target ++ conditionEntries m (p .condition)) (x ∷ []) in
     let e : end ≡ first + length ((target ++ conditionEntries m (p .condition)) ++ x ∷ []) = s .ends in
     let back : m - 1 - 1 ≡ m - 2 = omega arith in
-    let view : PolicyView T end p x = record {
+    let view : PolicyView at end p x = record {
       kind = refl;
       begins = omega arith;
       ends = omega arith;
       principal = stands-head (partEntry (p .principal)) (actionEntries (p .action)) fs;
-      action = subst (λ (i : ℕ). ActionView T (m - 1) (p .action) (entryAt T i)) back (action-view (p .action) (stands-tail (partEntry (p .principal)) (actionEntries (p .action)) fs));
+      action = subst (λ (i : ℕ). ActionView at (m - 1) (p .action) (at i)) back (action-view (p .action) (stands-tail (partEntry (p .principal)) (actionEntries (p .action)) fs));
       resource = stands-last front last ts;
       condition = condition-view (p .condition) cs;
     } in
     let is = stands-last (target ++ conditionEntries m (p .condition)) x s in
-    (subst (PolicyView T end p) (sym is) view, ap (λ (y : Entry). y .first) is)
+    (subst (PolicyView at end p) (sym is) view, ap (λ (y : Entry). y .first) is)
 
 -- ---- all policies
 
-pub policies-view : {T : List ℕ} {end : ℕ} (ps : List Policy) (p : Policy) → StoredPolicies T end (ps ++ p ∷ []) → LastPolicy T end (ps ++ p ∷ [])
-policies-view {T} {end} ps p h =
+pub policies-view : {at : ℕ → Entry} {end : ℕ} (ps : List Policy) (p : Policy) → StoredPolicies at end (ps ++ p ∷ []) → LastPolicy at end (ps ++ p ∷ [])
+policies-view {at} {end} ps p h =
     let f = 0 + length (policiesEntries 0 ps) in
-    let s = subst (EntriesStand T 0 end) (policies-append 0 ps p) (h .stands) in
+    let s = subst (EntriesStand at 0 end) (policies-append 0 ps p) (h .stands) in
     let a = stands-left (policiesEntries 0 ps) (policyEntries f p) s in
     let b = stands-right (policiesEntries 0 ps) (policyEntries f p) s in
     let (v, e) = policy-view p (record { first = f; stands = b }) in
-    record { front = ps; last = p; is = refl; policy = v; before = record { stands = subst (λ (i : ℕ). EntriesStand T 0 i (policiesEntries 0 ps)) (sym e) a } }
+    record { front = ps; last = p; is = refl; policy = v; before = record { stands = subst (λ (i : ℕ). EntriesStand at 0 i (policiesEntries 0 ps)) (sym e) a } }
 
-pub no-policies : {T : List ℕ} {end : ℕ} → StoredPolicies T end [] → end ≡ 0
+pub no-policies : {at : ℕ → Entry} {end : ℕ} → StoredPolicies at end [] → end ≡ 0
 unfolding policiesEntries
 no-policies h = let e = h .stands .ends in omega arith
 
@@ -92,11 +91,11 @@ ended : (p : Policy) (ps : List Policy) → Ended (p ∷ ps)
 ended p [] = record { front = []; last = p; is = refl }
 ended p (q ∷ ps) = let k = ended q ps in record { front = p ∷ k .front; last = k .last; is = ap (λ (l : List Policy). p ∷ l) (k .is) }
 
-pub last-policy : {T : List ℕ} {end : ℕ} (ps : List Policy) → StoredPolicies T end ps → 0 < end → LastPolicy T end ps
+pub last-policy : {at : ℕ → Entry} {end : ℕ} (ps : List Policy) → StoredPolicies at end ps → 0 < end → LastPolicy at end ps
 last-policy [] h more = let e = no-policies h in absurd (omega arith)
-last-policy {T} {end} (p ∷ ps) h more =
+last-policy {at} {end} (p ∷ ps) h more =
     let k = ended p ps in
-    subst (LastPolicy T end) (sym (k .is)) (policies-view (k .front) (k .last) (subst (StoredPolicies T end) (k .is) h))
+    subst (LastPolicy at end) (sym (k .is)) (policies-view (k .front) (k .last) (subst (StoredPolicies at end) (k .is) h))
 
 policy-some : (e : ℕ) (p : Policy) → 0 < length (policyEntries e p)
 unfolding policyEntries
@@ -104,7 +103,7 @@ policy-some e p =
     let m = e + length (targetEntries p) in
     let n = length-append (targetEntries p ++ conditionEntries m (p .condition)) (entry (effectKind (p .permits)) e m ∷ []) in omega arith
 
-pub none-stored : {T : List ℕ} (ps : List Policy) → StoredPolicies T 0 ps → ps ≡ []
+pub none-stored : {at : ℕ → Entry} (ps : List Policy) → StoredPolicies at 0 ps → ps ≡ []
 unfolding policiesEntries
 none-stored [] h = refl
 none-stored (p ∷ ps) h =

@@ -1,7 +1,7 @@
--- What is read back from a table is what is stored there, so a table says one condition and one list of policies. Assumes nothing.
+-- What is read back from entries is what is stored there, so they say one condition and one list of policies. Assumes nothing.
 use mathlib.Core.Path.{_≡_, refl, sym, _∙_, ap, subst}
 use mathlib.Core.Bool.{Bool, true, false}
-use mathlib.Core.List.{List}
+use mathlib.Core.List.{List, [], _∷_}
 use mathlib.Core.Option.{Option}
 use Prim.Native.Nat.{ℕ, zero, suc, _-_, _≤_, _<_}
 use native.Mathlib.Omega.{arith}
@@ -10,10 +10,9 @@ use lib.ListN.{length}
 use borrow.Author.Tests.{eq-eqb, ne-eqb}
 use Rattle.grammar.specs.Policies.{Span, Root, Root.Principal, Root.Resource, Root.Env, Root.Action, Comparator, Comparator.Equal, Comparator.NotEqual, Comparator.More, Comparator.AtLeast, Comparator.Less, Comparator.AtMost, Literal, text, number, truth, Operand, attribute, literal, Which, Which.All, Which.Any, Tree, compare, contains, has, not, brackets, Part, any, typed, pinned, Actions, Policy}
 use Rattle.table.specs.declared.Entry.{Entry}
-use Rattle.table.specs.Entries.{entry, placed, literalEntry, operandEntry, comparatorKind, whichKind, rootKind, hasKind, partEntry, effectKind}
-use Rattle.table.specs.Layout.{entryAt}
-use Rattle.stored.specs.Stored.{Stored, Literals, none-left, one-more, View, is-true, is-false, is-comparison, is-like, is-among, is-within, is-contains, is-has, is-not, is-brackets, is-both, is-either, is-choice, StoredPolicies, ActionView, is-every, is-one-of, ConditionView, no-condition, a-condition, PolicyView}
-use Rattle.stored.specs.ReadBack.{spanOf, rootOf, literalOf, operandOf, comparatorOf, literalsAt, treeOf, treeIn, treeAt, partOf, actionsOf, conditionBetween, policyOf, policiesIn, policiesAt}
+use Rattle.table.specs.Entries.{entry, placed, literalEntry, literalEntries, operandEntry, comparatorKind, whichKind, rootKind, hasKind, partEntry, effectKind}
+use Rattle.stored.specs.Stored.{Stored, StandFrom, none-left, one-more, View, is-true, is-false, is-comparison, is-like, is-among, is-within, is-contains, is-has, is-not, is-brackets, is-both, is-either, is-choice, StoredPolicies, ActionView, is-every, is-one-of, ConditionView, no-condition, a-condition, PolicyView}
+use Rattle.stored.specs.ReadBack.{spanOf, rootOf, literalOf, operandOf, comparatorOf, literalsBy, treeFrom, treeIn, treeBy, partOf, actionsBy, conditionBy, policyBy, policiesIn, policiesBy}
 use Rattle.stored.proofs.Views.{view-of, stored-some}
 use Rattle.stored.proofs.Policies.{last-policy, none-stored}
 
@@ -48,23 +47,23 @@ operand-back (attribute Env s) = refl
 operand-back (attribute Action s) = refl
 operand-back (literal l) = plain-back l ∙ ap literal (literal-back l)
 
-literals-back : {T : List ℕ} {e : ℕ} {ls : List Literal} → Literals T e ls → literalsAt (length ls) T e ≡ ls
-unfolding literalsAt
-literals-back none-left = refl
-literals-back (one-more {l = l} h k) = rw (h, literal-back l, literals-back k)
+literals-back : {at : ℕ → Entry} {e : ℕ} (ls : List Literal) → StandFrom at e (literalEntries ls) → literalsBy (length ls) at e ≡ ls
+unfolding literalsBy
+literals-back [] none-left = refl
+literals-back (l ∷ ls) (one-more h k) = rw (h, literal-back l, literals-back ls k)
 
 operand-at : {x : Entry} (a : Operand) → x ≡ operandEntry a → operandOf x ≡ a
 operand-at a h = ap operandOf h ∙ operand-back a
 
-module _ (T : List ℕ) where
+module _ (at : ℕ → Entry) where
   -- ---- conditions
 
   module _ (part : ℕ → Tree) (end : ℕ) where
     abbrev here : Entry → Tree
-    here x = treeOf part T end x
+    here x = treeFrom part at end x
 
-    comparison-back : (c : Comparator) → here (entry (comparatorKind c) 0 0) ≡ compare c (operandOf (entryAt T (end - 3))) (operandOf (entryAt T (end - 2)))
-    unfolding treeOf comparatorOf
+    comparison-back : (c : Comparator) → here (entry (comparatorKind c) 0 0) ≡ compare c (operandOf (at (end - 3))) (operandOf (at (end - 2)))
+    unfolding treeFrom comparatorOf
     comparison-back Equal = refl
     comparison-back NotEqual = refl
     comparison-back More = refl
@@ -73,28 +72,28 @@ module _ (T : List ℕ) where
     comparison-back AtMost = refl
 
     has-back : (root : Root) (s : Span) → here (placed (hasKind root) s) ≡ has root s
-    unfolding treeOf rootOf
+    unfolding treeFrom rootOf
     has-back Principal s = refl
     has-back Resource s = refl
     has-back Env s = refl
     has-back Action s = refl
 
     contains-back : (w : Which) (n : ℕ) → here (entry (whichKind w) n 0)
-        ≡ contains w (rootOf (entryAt T (end - n - 2) .kind)) (spanOf (entryAt T (end - n - 2))) (literalsAt n T (end - n - 1))
-    unfolding treeOf
+        ≡ contains w (rootOf (at (end - n - 2) .kind)) (spanOf (at (end - n - 2))) (literalsBy n at (end - n - 1))
+    unfolding treeFrom
     contains-back All n = refl
     contains-back Any n = refl
 
-    module _ (below : (m : ℕ) (u : Tree) → Stored T m u → m < end → part m ≡ u) (more : 0 < end) where
-      pub seen-back : {t : Tree} {x : Entry} → View T end t x → here x ≡ t
-      unfolding treeOf
+    module _ (below : (m : ℕ) (u : Tree) → Stored at m u → m < end → part m ≡ u) (more : 0 < end) where
+      pub seen-back : {t : Tree} {x : Entry} → View at end t x → here x ≡ t
+      unfolding treeFrom
       seen-back is-true = refl
       seen-back is-false = refl
       seen-back (is-comparison {c = c} {a = a} {b = b} q n h k) = ap (λ (i : ℕ). here (entry i 0 0)) q ∙ comparison-back c ∙ rw (operand-at a h, operand-at b k)
       seen-back (is-like {a = a} n h) = rw (operand-at a h)
-      seen-back (is-among {a = a} n h k) = rw (operand-at a h, literals-back k)
+      seen-back (is-among {a = a} {ls = ls} n h k) = rw (operand-at a h, literals-back ls k)
       seen-back (is-within {a = a} {root = root} n h k) = rw (operand-at a h, k, root-back root)
-      seen-back (is-contains {w = w} {root = root} {ls = ls} q n h k) = ap (λ (i : ℕ). here (entry i (length ls) 0)) q ∙ contains-back w (length ls) ∙ rw (h, root-back root, literals-back k)
+      seen-back (is-contains {w = w} {root = root} {ls = ls} q n h k) = ap (λ (i : ℕ). here (entry i (length ls) 0)) q ∙ contains-back w (length ls) ∙ rw (h, root-back root, literals-back ls k)
       seen-back (is-has {root = root} {s = s} q) = ap (λ (i : ℕ). here (placed i s)) q ∙ has-back root s
       seen-back (is-not s) = ap not (below _ _ s (omega arith))
       seen-back (is-brackets s) = ap brackets (below _ _ s (omega arith))
@@ -102,14 +101,14 @@ module _ (T : List ℕ) where
       seen-back (is-either n l r) = rw (below _ _ l n, below _ _ r (omega arith))
       seen-back (is-choice m n c a b) = rw (below _ _ c m, below _ _ a n, below _ _ b (omega arith))
 
-  tree-in : (n end : ℕ) (t : Tree) → Stored T end t → end ≤ n → treeIn n T end ≡ t
+  tree-in : (n end : ℕ) (t : Tree) → Stored at end t → end ≤ n → treeIn n at end ≡ t
   unfolding treeIn
   tree-in zero end t h l = let k = stored-some h in absurd (omega arith)
-  tree-in (suc n) end t h l = seen-back (treeIn n T) end (λ m u k b. tree-in n m u k (omega arith)) (stored-some h) (view-of t h)
+  tree-in (suc n) end t h l = seen-back (treeIn n at) end (λ m u k b. tree-in n m u k (omega arith)) (stored-some h) (view-of t h)
 
 -- the condition that is stored is the one that is read back
-pub tree-back : {T : List ℕ} {end : ℕ} {t : Tree} → Stored T end t → treeAt T end ≡ t
-tree-back {T} {end} {t} h = tree-in T end end t h (omega arith)
+pub tree-back : {at : ℕ → Entry} {end : ℕ} {t : Tree} → Stored at end t → treeBy at end ≡ t
+tree-back {at} {end} {t} h = tree-in at end end t h (omega arith)
 
 -- ---- policies
 
@@ -124,36 +123,36 @@ unfolding effectKind
 effect-back true = refl
 effect-back false = refl
 
-actions-back : {T : List ℕ} {end : ℕ} {a : Actions} {x : Entry} → ActionView T end a x → actionsOf T end x ≡ a
-unfolding actionsOf
+actions-back : {at : ℕ → Entry} {end : ℕ} {a : Actions} {x : Entry} → ActionView at end a x → actionsBy at end x ≡ a
+unfolding actionsBy
 actions-back is-every = refl
-actions-back (is-one-of n h) = rw (literals-back h)
+actions-back (is-one-of {ls = ls} n h) = rw (literals-back ls h)
 
-condition-back : {T : List ℕ} {first end : ℕ} {c : Option Tree} → ConditionView T first end c → conditionBetween T first end ≡ c
-unfolding conditionBetween
+condition-back : {at : ℕ → Entry} {first end : ℕ} {c : Option Tree} → ConditionView at first end c → conditionBy at first end ≡ c
+unfolding conditionBy
 condition-back {first = first} {end} (no-condition e) = rw (eq-eqb first end e)
 condition-back {first = first} {end} (a-condition l h) = rw (ne-eqb first end (λ (e : first ≡ end). omega arith), tree-back h)
 
-pub policy-back : {T : List ℕ} {end : ℕ} {p : Policy} {x : Entry} → PolicyView T end p x → policyOf T end x ≡ p
-unfolding policyOf
+pub policy-back : {at : ℕ → Entry} {end : ℕ} {p : Policy} {x : Entry} → PolicyView at end p x → policyBy at end x ≡ p
+unfolding policyBy
 policy-back {p = p} v =
     rw (v .kind, effect-back (p .permits), v .principal, part-back (p .principal), actions-back (v .action), v .resource, part-back (p .resource), condition-back (v .condition))
 
-policies-in : {T : List ℕ} (n end : ℕ) (ps : List Policy) → StoredPolicies T end ps → end ≤ n → policiesIn n T end ≡ ps
+policies-in : {at : ℕ → Entry} (n end : ℕ) (ps : List Policy) → StoredPolicies at end ps → end ≤ n → policiesIn n at end ≡ ps
 unfolding policiesIn
-policies-in {T} zero end ps h l =
-    let e : end ≡ 0 = omega arith in sym (none-stored ps (subst (λ (i : ℕ). StoredPolicies T i ps) e h))
-policies-in {T} (suc n) zero ps h l = sym (none-stored ps h)
-policies-in {T} (suc n) (suc m) ps h l =
+policies-in {at} zero end ps h l =
+    let e : end ≡ 0 = omega arith in sym (none-stored ps (subst (λ (i : ℕ). StoredPolicies at i ps) e h))
+policies-in {at} (suc n) zero ps h l = sym (none-stored ps h)
+policies-in {at} (suc n) (suc m) ps h l =
     let k = last-policy ps h (omega arith) in
     let v = k .policy in
     let b = v .begins in let c = v .ends in
     rw (ne-eqb (suc m) 0 (λ (e : suc m ≡ 0). omega arith), policies-in n _ (k .front) (k .before) (omega arith), policy-back v) (sym (k .is))
 
 -- the policies that are stored are those that are read back
-pub policies-back : {T : List ℕ} {end : ℕ} {ps : List Policy} → StoredPolicies T end ps → policiesAt T end ≡ ps
+pub policies-back : {at : ℕ → Entry} {end : ℕ} {ps : List Policy} → StoredPolicies at end ps → policiesBy at end ≡ ps
 policies-back {end = end} {ps = ps} h = policies-in end end ps h (omega arith)
 
 -- two lists of policies that end at the same number are one
-pub one-list : {T : List ℕ} {end : ℕ} {ps qs : List Policy} → StoredPolicies T end ps → StoredPolicies T end qs → ps ≡ qs
+pub one-list : {at : ℕ → Entry} {end : ℕ} {ps qs : List Policy} → StoredPolicies at end ps → StoredPolicies at end qs → ps ≡ qs
 one-list h k = sym (policies-back h) ∙ policies-back k

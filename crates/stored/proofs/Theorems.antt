@@ -1,15 +1,15 @@
 -- The bytes that a text is compiled to say its policies: they are read back from any table that begins with them. Assumes nothing.
 use mathlib.Core.Path.{_≡_, sym, _∙_, ap, subst}
 use mathlib.Core.List.{List, [], append-nil}
-use Prim.Native.Nat.{ℕ}
+use Prim.Native.Nat.{ℕ, _≤_}
 use native.Mathlib.Omega.{arith}
-use lib.ListN.{length}
+use lib.ListN.{length, length-append}
 use Rattle.grammar.specs.Policies.{Policy}
 use Rattle.placing.proofs.Theorems.{policies-placed}
 use Rattle.table.specs.Entries.{policiesEntries}
 use Rattle.slices.specs.Parts.{Begins}
-use Rattle.table.specs.Layout.{bytesOf}
-use Rattle.table.proofs.Holding.{length-bytesOf}
+use Rattle.table.specs.Layout.{entryAt, entriesIn, bytesOf}
+use Rattle.table.proofs.Holding.{length-bytesOf, room-many}
 use Rattle.stored.specs.Stored.{TextSays, StoredPolicies}
 use Rattle.stored.specs.ReadBack.{policiesAt}
 use Rattle.stored.specs.Ready.{ReadyPolicies}
@@ -20,11 +20,17 @@ use Rattle.stored.proofs.Evaluating.{ready-policies}
 -- a table that begins with a text's compiled bytes says its policies
 module _ {table text : List ℕ} {ps : List Policy} (says : TextSays text ps) (b : Begins (bytesOf (policiesEntries 0 ps)) table) where
   pub compiled-says : policiesAt table (length (policiesEntries 0 ps)) ≡ ps
-  compiled-says = policies-back (begins-stored says b)
+  compiled-says = policies-back (begins-stored table says b)
 
   -- and they can be evaluated there
   pub compiled-ready : ReadyPolicies text table (length (policiesEntries 0 ps))
-  compiled-ready = ready-policies (begins-stored says b) (policies-placed text ps (says .read) .each)
+  compiled-ready = ready-policies room (begins-stored table says b) (policies-placed text ps (says .read) .each)
+    where
+      room : length (policiesEntries 0 ps) ≤ entriesIn table
+      room =
+          let es = policiesEntries 0 ps in
+          let n = length-bytesOf es in let l = ap length (b .is) in let m = length-append (bytesOf es) (b .rest) in
+          room-many table (length es) (omega arith)
 
 -- two texts that are compiled to the same bytes say the same policies
 module _ {a b : List ℕ} {ps qs : List Policy} (h : TextSays a ps) (k : TextSays b qs) where
@@ -33,5 +39,5 @@ module _ {a b : List ℕ} {ps qs : List Policy} (h : TextSays a ps) (k : TextSay
       let T = bytesOf (policiesEntries 0 ps) in
       let n = length-bytesOf (policiesEntries 0 ps) in let m = length-bytesOf (policiesEntries 0 qs) in let l = ap length e in
       let same : length (policiesEntries 0 qs) ≡ length (policiesEntries 0 ps) = omega arith in
-      one-list (begins-stored h (record { rest = []; is = sym (append-nil T) }))
-      (subst (λ (i : ℕ). StoredPolicies T i qs) same (begins-stored k (record { rest = []; is = e ∙ sym (append-nil (bytesOf (policiesEntries 0 qs))) })))
+      one-list (begins-stored T h (record { rest = []; is = sym (append-nil T) }))
+      (subst (λ (i : ℕ). StoredPolicies (entryAt T) i qs) same (begins-stored T k (record { rest = []; is = e ∙ sym (append-nil (bytesOf (policiesEntries 0 qs))) })))

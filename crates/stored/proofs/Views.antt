@@ -1,45 +1,43 @@
--- A condition that a table has, by its last entry. Assumes nothing.
+-- A condition that is stored, by its last entry. Assumes nothing.
 use mathlib.Core.Path.{_≡_, refl, sym, _∙_, ap, subst}
 use mathlib.Core.Bool.{true, false}
 use mathlib.Core.List.{List, [], _∷_, _++_}
-use Prim.Native.Nat.{ℕ, _+_, _-_, _*_, _≤_, _<_}
+use Prim.Native.Nat.{ℕ, _+_, _-_, _≤_, _<_}
 use native.Mathlib.Omega.{arith}
 use lib.ListN.{length, length-append, length-map}
 use Rattle.grammar.specs.Policies.{Literal, Tree, constant, compare, like, among, within, contains, has, not, brackets, both, either, choice}
 use Rattle.table.specs.declared.Entry.{Entry}
 use Rattle.table.specs.Entries.{entry, placed, literalEntry, literalEntries, operandEntry, comparatorKind, whichKind, rootKind, hasKind, treeEntries}
-use Rattle.table.specs.Layout.{entrySize, entryAt}
-use Rattle.table.proofs.Holding.{held-room}
-use Rattle.stored.specs.Stored.{EntriesStand, Stored, Literals, View, is-true, is-false, is-comparison, is-like, is-among, is-within, is-contains, is-has, is-not, is-brackets, is-both, is-either, is-choice}
-use Rattle.stored.proofs.Standing.{stands-left, stands-right, stands-head, stands-tail, stands-before, stands-last, stands-from, literals-stand}
+use Rattle.stored.specs.Stored.{EntriesStand, Stored, StandFrom, View, is-true, is-false, is-comparison, is-like, is-among, is-within, is-contains, is-has, is-not, is-brackets, is-both, is-either, is-choice}
+use Rattle.stored.proofs.Standing.{stands-left, stands-right, stands-head, stands-tail, stands-before, stands-last, stands-from}
 
 longer : (a : List Entry) (x : Entry) → 0 < length (a ++ x ∷ [])
 longer a x = let n = length-append a (x ∷ []) in omega arith
 
-module _ {T : List ℕ} {first end : ℕ} where
+module _ {at : ℕ → Entry} {first end : ℕ} where
   -- three entries
-  three-stand : (x y z : Entry) → EntriesStand T first end (x ∷ y ∷ z ∷ []) → (3 ≤ end) × (entryAt T (end - 3) ≡ x) × (entryAt T (end - 2) ≡ y) × (entryAt T (end - 1) ≡ z)
+  three-stand : (x y z : Entry) → EntriesStand at first end (x ∷ y ∷ z ∷ []) → (3 ≤ end) × (at (end - 3) ≡ x) × (at (end - 2) ≡ y) × (at (end - 1) ≡ z)
   three-stand x y z s =
       let e = s .ends in
       let p : end - 3 ≡ first = omega arith in
       let q : end - 2 ≡ first + 1 = omega arith in
-      (omega arith, ap (entryAt T) p ∙ stands-head x _ s, ap (entryAt T) q ∙ stands-head y _ (stands-tail x _ s), stands-last (x ∷ y ∷ []) z s)
+      (omega arith, ap at p ∙ stands-head x _ s, ap at q ∙ stands-head y _ (stands-tail x _ s), stands-last (x ∷ y ∷ []) z s)
 
   -- an entry, a list's literals, and an entry
-  list-stands : (x : Entry) (ls : List Literal) (y : Entry) → EntriesStand T first end ((x ∷ literalEntries ls) ++ y ∷ [])
-      → (length ls + 2 ≤ end) × (entryAt T (end - length ls - 2) ≡ x) × Literals T (end - length ls - 1) ls × (entryAt T (end - 1) ≡ y)
+  list-stands : (x : Entry) (ls : List Literal) (y : Entry) → EntriesStand at first end ((x ∷ literalEntries ls) ++ y ∷ [])
+      → (length ls + 2 ≤ end) × (at (end - length ls - 2) ≡ x) × StandFrom at (end - length ls - 1) (literalEntries ls) × (at (end - 1) ≡ y)
   list-stands x ls y s =
       let n = length-map ls literalEntry in
       let m = length-append (literalEntries ls) (y ∷ []) in let e = s .ends in
       let p : end - length ls - 2 ≡ first = omega arith in
       let q : first + 1 ≡ end - length ls - 1 = omega arith in
       let inner = stands-before (x ∷ literalEntries ls) y s in
-      (omega arith, ap (entryAt T) p ∙ stands-head x _ s, literals-stand ls (stands-from q (stands-tail x (literalEntries ls) inner)), stands-last (x ∷ literalEntries ls) y s)
+      (omega arith, ap at p ∙ stands-head x _ s, stands-from q (stands-tail x (literalEntries ls) inner) .from, stands-last (x ∷ literalEntries ls) y s)
 
   -- two parts and a node
   joint-stands : (kind : ℕ) (l r : Tree)
-      → EntriesStand T first end ((treeEntries first l ++ treeEntries (first + length (treeEntries first l)) r) ++ entry kind (first + length (treeEntries first l)) 0 ∷ [])
-      → (first + length (treeEntries first l) < end) × Stored T (first + length (treeEntries first l)) l × Stored T (end - 1) r
+      → EntriesStand at first end ((treeEntries first l ++ treeEntries (first + length (treeEntries first l)) r) ++ entry kind (first + length (treeEntries first l)) 0 ∷ [])
+      → (first + length (treeEntries first l) < end) × Stored at (first + length (treeEntries first l)) l × Stored at (end - 1) r
   joint-stands kind l r s =
       let m = first + length (treeEntries first l) in
       let inner = stands-before (treeEntries first l ++ treeEntries m r) (entry kind m 0) s in
@@ -50,12 +48,12 @@ module _ {T : List ℕ} {first end : ℕ} where
       let e = s .ends in
       (omega arith, record { first = first; stands = left }, record { first = m; stands = right })
 
-module _ {T : List ℕ} {end : ℕ} where
-  seen-as : (t : Tree) {x : Entry} → entryAt T (end - 1) ≡ x → View T end t x → View T end t (entryAt T (end - 1))
-  seen-as t e v = subst (View T end t) (sym e) v
+module _ {at : ℕ → Entry} {end : ℕ} where
+  seen-as : (t : Tree) {x : Entry} → at (end - 1) ≡ x → View at end t x → View at end t (at (end - 1))
+  seen-as t e v = subst (View at end t) (sym e) v
 
   -- the entry before number `end` says which condition ends there, and where its parts do
-  pub view-of : (t : Tree) → Stored T end t → View T end t (entryAt T (end - 1))
+  pub view-of : (t : Tree) → Stored at end t → View at end t (at (end - 1))
   unfolding treeEntries
   view-of (constant true) h = seen-as (constant true) (stands-last [] (entry 11 0 0) (h .stands)) is-true
   view-of (constant false) h = seen-as (constant false) (stands-last [] (entry 12 0 0) (h .stands)) is-false
@@ -65,7 +63,7 @@ module _ {T : List ℕ} {end : ℕ} where
   view-of (like a s) h =
       let k = h .stands in let e = k .ends in
       let p : end - 2 ≡ h .first = omega arith in
-      seen-as (like a s) (stands-last (operandEntry a ∷ []) (placed 19 s) k) (is-like (omega arith) (ap (entryAt T) p ∙ stands-head _ _ k))
+      seen-as (like a s) (stands-last (operandEntry a ∷ []) (placed 19 s) k) (is-like (omega arith) (ap at p ∙ stands-head _ _ k))
   view-of (among a ls) h =
       let (n, x, l, y) = list-stands (operandEntry a) ls (entry 20 (length ls) 0) (h .stands) in
       seen-as (among a ls) y (is-among n x l)
@@ -99,7 +97,7 @@ module _ {T : List ℕ} {end : ℕ} where
       let e : end ≡ f + length (whole ++ entry 28 m n ∷ []) = k .ends in
       seen-as (choice c a b) (stands-last whole (entry 28 m n) k) (is-choice (omega arith) (omega arith)
       (record { first = f; stands = stands-left (treeEntries f c) (treeEntries m a) ca })
-      (record { first = m; stands = subst (λ (i : ℕ). EntriesStand T m i (treeEntries m a)) q (stands-right (treeEntries f c) (treeEntries m a) ca) })
+      (record { first = m; stands = subst (λ (i : ℕ). EntriesStand at m i (treeEntries m a)) q (stands-right (treeEntries f c) (treeEntries m a) ca) })
       (record { first = n; stands = stands-from q (stands-right es (treeEntries n b) inner) }))
 
 -- ---- ends fall from a condition to its parts
@@ -123,16 +121,8 @@ some-entries e (choice c a b) =
     longer ((treeEntries e c ++ treeEntries m a) ++ treeEntries n b) (entry 28 m n)
 
 -- an entry stands before the end of a condition
-pub stored-some : {T : List ℕ} {end : ℕ} {t : Tree} → Stored T end t → 0 < end
+pub stored-some : {at : ℕ → Entry} {end : ℕ} {t : Tree} → Stored at end t → 0 < end
 stored-some {t = t} h = let n = some-entries (h .first) t in let e = h .stands .ends in omega arith
 
-pub stored-few : {T : List ℕ} {end : ℕ} {t : Tree} → Stored T end t → end < 65536
+pub stored-few : {at : ℕ → Entry} {end : ℕ} {t : Tree} → Stored at end t → end < 65536
 stored-few h = h .stands .few
-
--- the table has the entries that end there
-pub stands-here : {T : List ℕ} {first end : ℕ} {es : List Entry} → EntriesStand T first end es → first < end → entrySize * end ≤ length T
-stands-here {T} {first} {end} {es} h n =
-    let e = h .ends in let k = held-room T first es (omega arith) (h .has) in omega arith
-
-pub stored-here : {T : List ℕ} {end : ℕ} {t : Tree} → Stored T end t → entrySize * end ≤ length T
-stored-here {t = t} h = let n = some-entries (h .first) t in let e = h .stands .ends in stands-here (h .stands) (omega arith)

@@ -1,3 +1,4 @@
 pub mod Stored
 pub mod ReadBack
 pub mod Ready
+pub mod Alike

@@ -1,4 +1,4 @@
--- The policies that a table says, read back from its entries, the last first. Definitions only.
+-- The policies that entries say, read back from the last to the first. An accessor `at` gives each entry by its number. Definitions only.
 use mathlib.Core.Bool.{false, cond}
 use mathlib.Core.List.{List, [], _∷_, _++_}
 use mathlib.Core.Option.{Option, none, some}
@@ -6,6 +6,7 @@ use Prim.Native.Nat.{ℕ, zero, suc, _+_, _-_}
 use lib.Dec.{eqb, leb}
 use Rattle.grammar.specs.Policies.{Span, span, Root, Root.Principal, Root.Resource, Root.Env, Root.Action, Comparator, Comparator.Equal, Comparator.NotEqual, Comparator.More, Comparator.AtLeast, Comparator.Less, Comparator.AtMost, Literal, text, number, truth, Operand, attribute, literal, Which.All, Which.Any, Tree, constant, compare, like, among, within, contains, has, not, brackets, both, either, choice, Part, any, typed, pinned, Actions, every, oneOf, Policy}
 use Rattle.table.specs.declared.Entry.{Entry}
+use Rattle.table.specs.Kinds.{principalKind, resourceKind, envKind, actionKind, hasActionKind, stringKind, numberKind, trueKind, falseKind, equalKind, notEqualKind, moreKind, atLeastKind, lessKind, atMostKind, likeKind, inListKind, inAttributeKind, containsAllKind, containsAnyKind, notKind, bracketsKind, andKind, orKind, barePartKind, typedPartKind, bareActionKind, permitKind, roots}
 use Rattle.table.specs.Layout.{entryAt}
 
 -- ---- operands and literals
@@ -16,91 +17,121 @@ spanOf x = span (x .first) (x .second)
 
 -- the root of an attribute, by its kind
 unfoldable pub rootOf : ℕ → Root
-rootOf k = cond (eqb k 1) Principal (cond (eqb k 2) Resource (cond (eqb k 3) Env Action))
+rootOf k = cond (eqb k principalKind) Principal (cond (eqb k resourceKind) Resource (cond (eqb k envKind) Env Action))
 
 -- the literal of an entry
 unfoldable pub literalOf : Entry → Literal
-literalOf x = cond (eqb (x .kind) 9) (text (spanOf x)) (cond (eqb (x .kind) 10) (number (spanOf x)) (truth (eqb (x .kind) 11)))
+literalOf x = cond (eqb (x .kind) stringKind) (text (spanOf x)) (cond (eqb (x .kind) numberKind) (number (spanOf x)) (truth (eqb (x .kind) trueKind)))
 
 -- the operand of an entry
 unfoldable pub operandOf : Entry → Operand
-operandOf x = cond (leb (x .kind) 4) (attribute (rootOf (x .kind)) (spanOf x)) (literal (literalOf x))
+operandOf x = cond (leb (x .kind) actionKind) (attribute (rootOf (x .kind)) (spanOf x)) (literal (literalOf x))
 
 -- the comparator, by its kind
 unfoldable pub comparatorOf : ℕ → Comparator
 comparatorOf k =
-    cond (eqb k 13) Equal (cond (eqb k 14) NotEqual (cond (eqb k 15) More (cond (eqb k 16) AtLeast (cond (eqb k 17) Less AtMost))))
+    cond (eqb k equalKind) Equal
+    (cond (eqb k notEqualKind) NotEqual
+    (cond (eqb k moreKind) More
+    (cond (eqb k atLeastKind) AtLeast
+    (cond (eqb k lessKind) Less AtMost))))
 
 -- so many literals, whose entries begin at number e
-unfoldable pub literalsAt : ℕ → List ℕ → ℕ → List Literal
-literalsAt zero table e = []
-literalsAt (suc n) table e = literalOf (entryAt table e) ∷ literalsAt n table (e + 1)
+unfoldable pub literalsBy : ℕ → (ℕ → Entry) → ℕ → List Literal
+literalsBy zero at e = []
+literalsBy (suc n) at e = literalOf (at e) ∷ literalsBy n at (e + 1)
 
 -- the literals before the entry x, number end - 1, which says how many they are
-abbrev pub listAt : List ℕ → ℕ → Entry → List Literal
-listAt table end x = literalsAt (x .first) table (end - x .first - 1)
+abbrev pub listBy : (ℕ → Entry) → ℕ → Entry → List Literal
+listBy at end x = literalsBy (x .first) at (end - x .first - 1)
 
 -- the operand's entry, which stands before them
-abbrev pub ownerAt : List ℕ → ℕ → Entry → Entry
-ownerAt table end x = entryAt table (end - x .first - 2)
+abbrev pub ownerBy : (ℕ → Entry) → ℕ → Entry → Entry
+ownerBy at end x = at (end - x .first - 2)
 
 -- ---- conditions
 
 -- the condition of which x is the last entry, number end - 1, where `part` gives those that end before
-unfoldable pub treeOf : (ℕ → Tree) → List ℕ → ℕ → Entry → Tree
-treeOf part table end x =
-    cond (leb (x .kind) 8) (has (rootOf (x .kind - 4)) (spanOf x))
-    (cond (leb (x .kind) 12) (constant (eqb (x .kind) 11))
-    (cond (leb (x .kind) 18) (compare (comparatorOf (x .kind)) (operandOf (entryAt table (end - 3))) (operandOf (entryAt table (end - 2))))
-    (cond (eqb (x .kind) 19) (like (operandOf (entryAt table (end - 2))) (spanOf x))
-    (cond (eqb (x .kind) 20) (among (operandOf (ownerAt table end x)) (listAt table end x))
-    (cond (eqb (x .kind) 21) (within (operandOf (entryAt table (end - 3))) (rootOf (entryAt table (end - 2) .kind)) (spanOf (entryAt table (end - 2))))
-    (cond (eqb (x .kind) 22) (contains All (rootOf (ownerAt table end x .kind)) (spanOf (ownerAt table end x)) (listAt table end x))
-    (cond (eqb (x .kind) 23) (contains Any (rootOf (ownerAt table end x .kind)) (spanOf (ownerAt table end x)) (listAt table end x))
-    (cond (eqb (x .kind) 24) (not (part (end - 1)))
-    (cond (eqb (x .kind) 25) (brackets (part (end - 1)))
-    (cond (eqb (x .kind) 26) (both (part (x .first)) (part (end - 1)))
-    (cond (eqb (x .kind) 27) (either (part (x .first)) (part (end - 1)))
+unfoldable pub treeFrom : (ℕ → Tree) → (ℕ → Entry) → ℕ → Entry → Tree
+treeFrom part at end x =
+    cond (leb (x .kind) hasActionKind) (has (rootOf (x .kind - roots)) (spanOf x))
+    (cond (leb (x .kind) falseKind) (constant (eqb (x .kind) trueKind))
+    (cond (leb (x .kind) atMostKind) (compare (comparatorOf (x .kind)) (operandOf (at (end - 3))) (operandOf (at (end - 2))))
+    (cond (eqb (x .kind) likeKind) (like (operandOf (at (end - 2))) (spanOf x))
+    (cond (eqb (x .kind) inListKind) (among (operandOf (ownerBy at end x)) (listBy at end x))
+    (cond (eqb (x .kind) inAttributeKind) (within (operandOf (at (end - 3))) (rootOf (at (end - 2) .kind)) (spanOf (at (end - 2))))
+    (cond (eqb (x .kind) containsAllKind) (contains All (rootOf (ownerBy at end x .kind)) (spanOf (ownerBy at end x)) (listBy at end x))
+    (cond (eqb (x .kind) containsAnyKind) (contains Any (rootOf (ownerBy at end x .kind)) (spanOf (ownerBy at end x)) (listBy at end x))
+    (cond (eqb (x .kind) notKind) (not (part (end - 1)))
+    (cond (eqb (x .kind) bracketsKind) (brackets (part (end - 1)))
+    (cond (eqb (x .kind) andKind) (both (part (x .first)) (part (end - 1)))
+    (cond (eqb (x .kind) orKind) (either (part (x .first)) (part (end - 1)))
     (choice (part (x .first)) (part (x .second)) (part (end - 1))))))))))))))
 
 -- the condition whose entries end before number `end`, in at most n levels
-unfoldable pub treeIn : ℕ → List ℕ → ℕ → Tree
-treeIn zero table end = constant false
-treeIn (suc n) table end = treeOf (treeIn n table) table end (entryAt table (end - 1))
+unfoldable pub treeIn : ℕ → (ℕ → Entry) → ℕ → Tree
+treeIn zero at end = constant false
+treeIn (suc n) at end = treeFrom (treeIn n at) at end (at (end - 1))
 
 -- the same: no condition has more levels than entries
-abbrev pub treeAt : List ℕ → ℕ → Tree
-treeAt table end = treeIn end table end
+abbrev pub treeBy : (ℕ → Entry) → ℕ → Tree
+treeBy at end = treeIn end at end
 
 -- ---- policies
 
 -- the principal or resource part of an entry
 unfoldable pub partOf : Entry → Part
-partOf x = cond (eqb (x .kind) 29) any (cond (eqb (x .kind) 30) (typed (x .first)) (pinned (spanOf x)))
+partOf x = cond (eqb (x .kind) barePartKind) any (cond (eqb (x .kind) typedPartKind) (typed (x .first)) (pinned (spanOf x)))
 
 -- the action part of which x is the last entry, number end - 1
-unfoldable pub actionsOf : List ℕ → ℕ → Entry → Actions
-actionsOf table end x = cond (eqb (x .kind) 32) every (oneOf (listAt table end x))
+unfoldable pub actionsBy : (ℕ → Entry) → ℕ → Entry → Actions
+actionsBy at end x = cond (eqb (x .kind) bareActionKind) every (oneOf (listBy at end x))
 
 -- the condition from number `first` up to number `end`, or none where they are the same
-unfoldable pub conditionBetween : List ℕ → ℕ → ℕ → Option Tree
-conditionBetween table first end = cond (eqb first end) none (some (treeAt table end))
+unfoldable pub conditionBy : (ℕ → Entry) → ℕ → ℕ → Option Tree
+conditionBy at first end = cond (eqb first end) none (some (treeBy at end))
 
 -- the policy of which x is the last entry, number end - 1
-unfoldable pub policyOf : List ℕ → ℕ → Entry → Policy
-policyOf table end x = record {
-  permits = eqb (x .kind) 34;
-  principal = partOf (entryAt table (x .first));
-  action = actionsOf table (x .second - 1) (entryAt table (x .second - 2));
-  resource = partOf (entryAt table (x .second - 1));
-  condition = conditionBetween table (x .second) (end - 1);
+unfoldable pub policyBy : (ℕ → Entry) → ℕ → Entry → Policy
+policyBy at end x = record {
+  permits = eqb (x .kind) permitKind;
+  principal = partOf (at (x .first));
+  action = actionsBy at (x .second - 1) (at (x .second - 2));
+  resource = partOf (at (x .second - 1));
+  condition = conditionBy at (x .second) (end - 1);
 }
 
 -- the policies whose entries end before number `end`, but at most n
-unfoldable pub policiesIn : ℕ → List ℕ → ℕ → List Policy
-policiesIn zero table end = []
-policiesIn (suc n) table end = cond (eqb end 0) [] (policiesIn n table (entryAt table (end - 1) .first) ++ policyOf table end (entryAt table (end - 1)) ∷ [])
+unfoldable pub policiesIn : ℕ → (ℕ → Entry) → ℕ → List Policy
+policiesIn zero at end = []
+policiesIn (suc n) at end = cond (eqb end 0) [] (policiesIn n at (at (end - 1) .first) ++ policyBy at end (at (end - 1)) ∷ [])
 
 -- the same: there are no more policies than entries
+abbrev pub policiesBy : (ℕ → Entry) → ℕ → List Policy
+policiesBy at end = policiesIn end at end
+
+-- ---- the same of a table, whose accessor is `entryAt table`
+
+-- so many literals, whose entries begin at number e
+abbrev pub literalsAt : ℕ → List ℕ → ℕ → List Literal
+literalsAt n table e = literalsBy n (entryAt table) e
+
+-- the condition whose entries end before number `end`
+abbrev pub treeAt : List ℕ → ℕ → Tree
+treeAt table end = treeBy (entryAt table) end
+
+-- the condition of which x is the last entry, number end - 1
+abbrev pub treeOf : List ℕ → ℕ → Entry → Tree
+treeOf table end x = treeFrom (treeAt table) (entryAt table) end x
+
+-- the action part of which x is the last entry, number end - 1
+abbrev pub actionsOf : List ℕ → ℕ → Entry → Actions
+actionsOf table end x = actionsBy (entryAt table) end x
+
+-- the policy of which x is the last entry, number end - 1
+abbrev pub policyOf : List ℕ → ℕ → Entry → Policy
+policyOf table end x = policyBy (entryAt table) end x
+
+-- the policies whose entries end before number `end`
 abbrev pub policiesAt : List ℕ → ℕ → List Policy
-policiesAt table end = policiesIn end table end
+policiesAt table end = policiesBy (entryAt table) end

@@ -3,6 +3,7 @@ use mathlib.Core.Path.{_≡_, refl, sym, _∙_, ap}
 use mathlib.Core.Bool.{Bool, true, false, _&&_}
 use mathlib.Core.List.{List, [], _∷_, _++_, append-assoc, append-nil}
 use Prim.Native.Nat.{ℕ, suc, _+_, _*_, _/_, _%_, _≤_, _<_}
+use native.Mathlib.Nat.{le-div-iff-mul-le}
 use native.Mathlib.Omega.{arith}
 use native.Mathlib.Nat.{add-zero}
 use native.Mathlib.Numerals.{towards-suc}
@@ -13,7 +14,7 @@ use borrow.Author.Tests.{eqb-true, eqb-false, eq-eqb, le-leb, leb-true, leb-fals
 use Rattle.tokens.proofs.TokenLaws.{and-left, and-right}
 use Rattle.table.specs.declared.Entry.{Entry}
 use Rattle.slices.specs.Parts.{Begins}
-use Rattle.table.specs.Layout.{entrySize, entryBytes, bytesOf, fits, putAt, puts, numberOf, entryAt, entryIs, held, startsWith}
+use Rattle.table.specs.Layout.{entrySize, entryBytes, bytesOf, entriesIn, fits, putAt, puts, numberOf, entryAt, entryIs, held, startsWith}
 use Rattle.slices.specs.Decides.{Decides}
 use Rattle.slices.proofs.Decided.{yes-to, no-to, refuted}
 
@@ -194,6 +195,19 @@ puts-behind (x ∷ es) T a e h l =
 -- a table into which entries were put from its first byte on: their bytes, and then what was there
 pub puts-front : (es : List Entry) (T : List ℕ) → length (bytesOf es) ≤ length T → puts T 0 es ≡ bytesOf es ++ drop (length (bytesOf es)) T
 puts-front es T l = puts-behind es T [] 0 refl l
+
+-- ---- the entries that a table has room for, and its bytes
+
+pub many-room : (T : List ℕ) (n : ℕ) → n ≤ entriesIn T → entrySize * n ≤ length T
+unfolding entriesIn
+many-room T n h = let b = le-div-iff-mul-le {k = entrySize} {x = n} {y = length T} (omega arith) .0 h in omega arith
+
+pub room-many : (T : List ℕ) (n : ℕ) → entrySize * n ≤ length T → n ≤ entriesIn T
+unfolding entriesIn
+room-many T n h = le-div-iff-mul-le {k = entrySize} {x = n} {y = length T} (omega arith) .1 (omega arith)
+
+pub many-few : (T : List ℕ) → entriesIn T ≤ length T
+many-few T = let l = many-room T (entriesIn T) (omega arith) in omega arith
 
 -- a table that has some entries is long enough for them
 entry-fits : (T : List ℕ) (e : ℕ) (x : Entry) → entryIs T e x ≡ true → entrySize * e + entrySize ≤ length T

@@ -5,6 +5,7 @@ use mathlib.Core.Option.{Option, none, some}
 use Prim.Native.Nat.{ℕ, _+_}
 use lib.ListN.{length}
 use Rattle.table.specs.declared.Entry.{Entry}
+use Rattle.table.specs.Kinds.{principalKind, resourceKind, envKind, actionKind, hasPrincipalKind, hasResourceKind, hasEnvKind, hasActionKind, stringKind, numberKind, trueKind, falseKind, equalKind, notEqualKind, moreKind, atLeastKind, lessKind, atMostKind, likeKind, inListKind, inAttributeKind, containsAllKind, containsAnyKind, notKind, bracketsKind, andKind, orKind, ifKind, barePartKind, typedPartKind, pinnedPartKind, bareActionKind, listedActionKind, permitKind, forbidKind}
 use Rattle.grammar.specs.Policies.{Span, Root, Root.Principal, Root.Resource, Root.Env, Root.Action, Comparator, Comparator.Equal, Comparator.NotEqual, Comparator.More, Comparator.AtLeast, Comparator.Less, Comparator.AtMost, Literal, text, number, truth, Operand, attribute, literal, Which, Which.All, Which.Any, Tree, constant, compare, like, among, within, contains, has, not, brackets, both, either, choice, Part, any, typed, pinned, Actions, every, oneOf, Policy}
 
 -- an entry of this kind, with these two fields
@@ -19,24 +20,24 @@ placed kind s = entry kind (s .start) (s .end)
 
 -- attributes, by their roots: those of a bag have their root bytes
 abbrev pub rootKind : Root → ℕ
-rootKind Principal = 1
-rootKind Resource = 2
-rootKind Env = 3
-rootKind Action = 4
+rootKind Principal = principalKind
+rootKind Resource = resourceKind
+rootKind Env = envKind
+rootKind Action = actionKind
 
 -- `has`, by its root
 abbrev pub hasKind : Root → ℕ
-hasKind Principal = 5
-hasKind Resource = 6
-hasKind Env = 7
-hasKind Action = 8
+hasKind Principal = hasPrincipalKind
+hasKind Resource = hasResourceKind
+hasKind Env = hasEnvKind
+hasKind Action = hasActionKind
 
 -- a literal: a string and a number by their places
 unfoldable pub literalEntry : Literal → Entry
-literalEntry (text s) = placed 9 s
-literalEntry (number s) = placed 10 s
-literalEntry (truth true) = entry 11 0 0
-literalEntry (truth false) = entry 12 0 0
+literalEntry (text s) = placed stringKind s
+literalEntry (number s) = placed numberKind s
+literalEntry (truth true) = entry trueKind 0 0
+literalEntry (truth false) = entry falseKind 0 0
 
 -- an operand: an attribute by its root and its path's place, or a literal
 unfoldable pub operandEntry : Operand → Entry
@@ -49,17 +50,17 @@ literalEntries ls = map literalEntry ls
 
 -- `==`, `!=`, `>`, `>=`, `<`, `<=`
 abbrev pub comparatorKind : Comparator → ℕ
-comparatorKind Equal = 13
-comparatorKind NotEqual = 14
-comparatorKind More = 15
-comparatorKind AtLeast = 16
-comparatorKind Less = 17
-comparatorKind AtMost = 18
+comparatorKind Equal = equalKind
+comparatorKind NotEqual = notEqualKind
+comparatorKind More = moreKind
+comparatorKind AtLeast = atLeastKind
+comparatorKind Less = lessKind
+comparatorKind AtMost = atMostKind
 
 -- containsAll, containsAny
 abbrev pub whichKind : Which → ℕ
-whichKind All = 22
-whichKind Any = 23
+whichKind All = containsAllKind
+whichKind Any = containsAnyKind
 
 -- ---- conditions
 
@@ -69,36 +70,36 @@ joint kind e left right = (left ++ right (e + length left)) ++ entry kind (e + l
 
 -- a node after its three parts: it says where the second and the third begin
 abbrev pub fork : ℕ → List Entry → (ℕ → List Entry) → (ℕ → List Entry) → List Entry
-fork e a b c = let f = e + length a in let g = f + length (b f) in ((a ++ b f) ++ c g) ++ entry 28 f g ∷ []
+fork e a b c = let f = e + length a in let g = f + length (b f) in ((a ++ b f) ++ c g) ++ entry ifKind f g ∷ []
 
 -- the entries of a condition whose first is number e
 unfoldable pub treeEntries : ℕ → Tree → List Entry
-treeEntries e (constant true) = entry 11 0 0 ∷ []
-treeEntries e (constant false) = entry 12 0 0 ∷ []
+treeEntries e (constant true) = entry trueKind 0 0 ∷ []
+treeEntries e (constant false) = entry falseKind 0 0 ∷ []
 treeEntries e (compare c a b) = operandEntry a ∷ operandEntry b ∷ entry (comparatorKind c) 0 0 ∷ []
-treeEntries e (like a s) = operandEntry a ∷ placed 19 s ∷ []
-treeEntries e (among a ls) = (operandEntry a ∷ literalEntries ls) ++ entry 20 (length ls) 0 ∷ []
-treeEntries e (within a root s) = operandEntry a ∷ placed (rootKind root) s ∷ entry 21 0 0 ∷ []
+treeEntries e (like a s) = operandEntry a ∷ placed likeKind s ∷ []
+treeEntries e (among a ls) = (operandEntry a ∷ literalEntries ls) ++ entry inListKind (length ls) 0 ∷ []
+treeEntries e (within a root s) = operandEntry a ∷ placed (rootKind root) s ∷ entry inAttributeKind 0 0 ∷ []
 treeEntries e (contains w root s ls) = (placed (rootKind root) s ∷ literalEntries ls) ++ entry (whichKind w) (length ls) 0 ∷ []
 treeEntries e (has root s) = placed (hasKind root) s ∷ []
-treeEntries e (not t) = treeEntries e t ++ entry 24 0 0 ∷ []
-treeEntries e (brackets t) = treeEntries e t ++ entry 25 0 0 ∷ []
-treeEntries e (both l r) = joint 26 e (treeEntries e l) (λ f. treeEntries f r)
-treeEntries e (either l r) = joint 27 e (treeEntries e l) (λ f. treeEntries f r)
+treeEntries e (not t) = treeEntries e t ++ entry notKind 0 0 ∷ []
+treeEntries e (brackets t) = treeEntries e t ++ entry bracketsKind 0 0 ∷ []
+treeEntries e (both l r) = joint andKind e (treeEntries e l) (λ f. treeEntries f r)
+treeEntries e (either l r) = joint orKind e (treeEntries e l) (λ f. treeEntries f r)
 treeEntries e (choice a b c) = fork e (treeEntries e a) (λ f. treeEntries f b) (λ f. treeEntries f c)
 
 -- ---- policies
 
 -- a principal or resource part: bare, with a type's number, with a string's place
 unfoldable pub partEntry : Part → Entry
-partEntry any = entry 29 0 0
-partEntry (typed k) = entry 30 k 0
-partEntry (pinned s) = placed 31 s
+partEntry any = entry barePartKind 0 0
+partEntry (typed k) = entry typedPartKind k 0
+partEntry (pinned s) = placed pinnedPartKind s
 
 -- an action part: bare, or its strings and how many they are
 unfoldable pub actionEntries : Actions → List Entry
-actionEntries every = entry 32 0 0 ∷ []
-actionEntries (oneOf ls) = literalEntries ls ++ entry 33 (length ls) 0 ∷ []
+actionEntries every = entry bareActionKind 0 0 ∷ []
+actionEntries (oneOf ls) = literalEntries ls ++ entry listedActionKind (length ls) 0 ∷ []
 
 -- a policy's condition, if it has one
 unfoldable pub conditionEntries : ℕ → Option Tree → List Entry
@@ -107,8 +108,8 @@ conditionEntries e (some t) = treeEntries e t
 
 -- permit, forbid
 unfoldable pub effectKind : Bool → ℕ
-effectKind true = 34
-effectKind false = 35
+effectKind true = permitKind
+effectKind false = forbidKind
 
 -- a policy's target: its principal, action and resource parts
 unfoldable pub targetEntries : Policy → List Entry

@@ -1,4 +1,5 @@
--- The bytes of the table: 5 for each entry, its kind and its two fields of 16 bits, the low byte first. An entry is there whole or not at all. Definitions only.
+-- The bytes of the table: 5 for each entry, its kind and its two fields of 16 bits, the low byte first; no other file says how they lie.
+-- An entry is there whole or not at all. Definitions only.
 use mathlib.Core.List.{List, [], _∷_, _++_}
 use mathlib.Core.Bool.{Bool, true, false, cond, _&&_}
 use Prim.Native.Nat.{ℕ, _+_, _*_, _/_, _%_}
@@ -8,7 +9,7 @@ use lib.Dec.{eqb, leb}
 use Rattle.table.specs.declared.Entry.{Entry}
 use Rattle.table.specs.Entries.{entry}
 
--- an entry's bytes
+-- how many bytes an entry takes
 abbrev pub entrySize : ℕ
 entrySize = 5
 
@@ -20,6 +21,10 @@ entryBytes x = x .kind ∷ x .first % 256 ∷ x .first / 256 % 256 ∷ x .second
 unfoldable pub bytesOf : List Entry → List ℕ
 bytesOf [] = []
 bytesOf (x ∷ xs) = entryBytes x ++ bytesOf xs
+
+-- how many entries a table has room for
+unfoldable pub entriesIn : List ℕ → ℕ
+entriesIn table = length table / entrySize
 
 -- whether the table has room for entry number e
 abbrev pub fits : List ℕ → ℕ → Bool

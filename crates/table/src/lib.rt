@@ -3,11 +3,13 @@ pub mod entries;
 
 ghost use mathlib.Core.Path.{_≡_};
 ghost use mathlib.Core.Bool.{_&&_};
-ghost use Prim.Native.Nat.{_+_, _*_, _<_, _≤_, _^_};
-ghost use lib.ListN.{length};
-ghost use Rattle.table.specs.Layout.{putAt, numberOf, entryAt, entryIs};
+ghost use Prim.Native.Nat.{_<_, _^_};
+ghost use Rattle.table.specs.Layout.{putAt, numberOf, entriesIn, entryAt, entryIs};
 
-// An entry: a kind and two fields. In a table it takes five bytes: the kind, and two for each field.
+// How many bytes an entry takes in a table: the kind, and two for each field.
+pub const ENTRY_SIZE: usize = 5;
+
+// An entry: a kind and two fields.
 pub struct Entry {
     pub kind: u8,
     pub first: usize,
@@ -23,10 +25,10 @@ fn number_of(low: u8, high: u8) -> usize
 
 // Entry `number` of a table that has it.
 pub fn entry_in(table: &[u8], number: usize) -> Entry
-    requires { ⌜ 5 * number + 5 ≤ length (now table) ⌝ }
+    requires { ⌜ number < entriesIn (now table) ⌝ }
     ensures { λ r. ⌜ r ≡ entryAt (now (table .entry)) number ⌝ }
 {
-    let p = 5 * number;
+    let p = ENTRY_SIZE * number;
     Entry {
         kind: table[p],
         first: number_of(table[p + 1], table[p + 2]),
@@ -39,7 +41,7 @@ pub fn entry_at(table: &[u8], number: usize) -> Entry
     requires { ⌜ number < 2 ^ 60 ⌝ }
     ensures { λ r. ⌜ r ≡ entryAt (now (table .entry)) number ⌝ }
 {
-    if 5 * number + 5 <= table.len() {
+    if ENTRY_SIZE * number + ENTRY_SIZE <= table.len() {
         return entry_in(table, number);
     }
     Entry {
@@ -54,8 +56,8 @@ fn entry_is(table: &[u8], number: usize, x: Entry) -> bool
     requires { ⌜ number < 2 ^ 60 ⌝ }
     ensures { λ r. ⌜ r ≡ entryIs (now (table .entry)) number x ⌝ }
 {
-    let p = 5 * number;
-    if p + 5 <= table.len() {
+    let p = ENTRY_SIZE * number;
+    if p + ENTRY_SIZE <= table.len() {
         let kind = table[p] == x.kind;
         let first = number_of(table[p + 1], table[p + 2]) == x.first % 65536;
         let second = number_of(table[p + 3], table[p + 4]) == x.second % 65536;
@@ -70,8 +72,8 @@ fn put_entry(table: &mut [u8], number: usize, x: Entry)
     requires { ⌜ number < 2 ^ 60 ⌝ }
     ensures { λ _. ⌜ now (table .exit) ≡ putAt (now (table .entry)) number x ⌝ }
 {
-    let p = 5 * number;
-    if p + 5 <= table.len() {
+    let p = ENTRY_SIZE * number;
+    if p + ENTRY_SIZE <= table.len() {
         table[p] = x.kind;
         table[p + 1] = (x.first % 256) as u8;
         table[p + 2] = (x.first / 256 % 256) as u8;

@@ -13,13 +13,15 @@ use Rattle.slices.proofs.Equal.{other-length}
 use Rattle.grammar.specs.Policies.{Span, span, Literal, text, number, truth, Part, pinned, Actions, oneOf}
 use Rattle.grammar.specs.Rules.{principalTypes, resourceTypes}
 use Rattle.placing.specs.Placed.{quotedAt, Each, StringPlaced, ActionPlaced, an-action, PrincipalPlaced, any-principal, principal-type, ResourcePlaced, any-resource, resource-type, one-resource, ActionsPlaced, any-action, one-of}
+use Rattle.placing.specs.Said.{literalWords, actionWords, partWords, policyWords}
 use Rattle.placing.proofs.EachLaws.{each-first, each-rest}
 use Rattle.table.specs.declared.Entry.{Entry}
 use Rattle.table.specs.Layout.{entryAt}
-use Rattle.stored.specs.ReadBack.{spanOf, literalOf, literalsAt, listAt, partOf, actionsOf, policyOf}
+use Rattle.stored.specs.ReadBack.{spanOf, literalOf, literalsBy, literalsAt, listBy, partOf, actionsBy, actionsOf, policyBy, policyOf}
 use Rattle.meaning.specs.Conditions.{some}
 use Rattle.meaning.specs.Targets.{typeIn, partMatches, isString, actionMatches}
 use Rattle.meaning.specs.Decisions.{targetMatches}
+use Rattle.meaning.proofs.WordLaws.{some-words}
 use Rattle.targets.specs.Matching.{request}
 
 -- ---- strings of the text
@@ -44,16 +46,16 @@ unfolding partOf
 pinned-is x n m = rw (ne-eqb _ _ n, ne-eqb _ _ m)
 
 module _ (t s : List ℕ) (x : Entry) (types : List (List ℕ)) where
-  pub any-part : x .kind ≡ 29 → true ≡ partMatches types t s (partOf x)
-  unfolding partMatches partOf
+  pub any-part : x .kind ≡ 29 → true ≡ partMatches types s (partWords t (partOf x))
+  unfolding partMatches partWords partOf
   any-part e = rw (eq-eqb _ _ e)
 
-  pub typed-part : {n : ℕ} → n ≡ typeIn types s → x .kind ≡ 30 → eqb n (x .first) ≡ partMatches types t s (partOf x)
-  unfolding partMatches partOf
+  pub typed-part : {n : ℕ} → n ≡ typeIn types s → x .kind ≡ 30 → eqb n (x .first) ≡ partMatches types s (partWords t (partOf x))
+  unfolding partMatches partWords partOf
   typed-part d e = rw (e, d)
 
-  pub pinned-part : (x .kind ≡ 29 → ⊥) → (x .kind ≡ 30 → ⊥) → same s (quotedAt t (spanOf x)) ≡ partMatches types t s (partOf x)
-  unfolding partMatches
+  pub pinned-part : (x .kind ≡ 29 → ⊥) → (x .kind ≡ 30 → ⊥) → same s (quotedAt t (spanOf x)) ≡ partMatches types s (partWords t (partOf x))
+  unfolding partMatches partWords
   pinned-part n m = rw (pinned-is x n m)
 
 pinned-placed : {t : List ℕ} {p : Part} {s : Span} → p ≡ pinned s → ResourcePlaced t p → StringPlaced t s
@@ -89,10 +91,10 @@ string-at {t} {l} {x} e (an-action {s = z} p) =
 module _ (t action table : List ℕ) where
   -- the strings left, from entry number e on
   abbrev pub amongAt : ℕ → ℕ → Bool
-  amongAt left e = some (isString t action) (literalsAt left table e)
+  amongAt left e = some (λ l. isString action (literalWords t l)) (literalsAt left table e)
 
   literals-on : (left e : ℕ) → 0 < left → literalsAt left table e ≡ literalOf (entryAt table e) ∷ literalsAt (left - 1) table (e + 1)
-  unfolding literalsAt
+  unfolding literalsBy
   literals-on zero e l = absurd (omega arith)
   literals-on (suc n) e l = let m : suc n - 1 ≡ n = omega arith in rw m
 
@@ -107,7 +109,7 @@ module _ (t action table : List ℕ) where
     each-on = parted .1
 
     unroll : amongAt left e ≡ same action (quotedAt t (spanOf (entryAt table e))) || amongAt (left - 1) (e + 1)
-    unfolding some isString
+    unfolding some isString literalWords
     unroll = rw (literals-on left e l, here .is)
 
     module _ (x : Entry) (is : x ≡ entryAt table e) where
@@ -121,26 +123,26 @@ module _ (t action table : List ℕ) where
       not-here = rw is (λ h. sym (unroll ∙ rw h))
 
   pub none-found : (left e : ℕ) → left ≤ 0 → false ≡ amongAt left e
-  unfolding literalsAt some
+  unfolding literalsBy some
   none-found zero e l = refl
   none-found (suc n) e l = absurd (omega arith)
 
   module _ (end : ℕ) (x : Entry) where
-    pub every-action : x .kind ≡ 32 → true ≡ actionMatches t action (actionsOf table end x)
-    unfolding actionMatches actionsOf
+    pub every-action : x .kind ≡ 32 → true ≡ actionMatches action (actionWords t (actionsOf table end x))
+    unfolding actionMatches actionWords actionsBy
     every-action e = rw (eq-eqb _ _ e)
 
-    listed-is : (x .kind ≡ 32 → ⊥) → actionsOf table end x ≡ oneOf (listAt table end x)
-    unfolding actionsOf
+    listed-is : (x .kind ≡ 32 → ⊥) → actionsOf table end x ≡ oneOf (listBy (entryAt table) end x)
+    unfolding actionsBy
     listed-is n = rw (ne-eqb _ _ n)
 
-    pub one-action : (x .kind ≡ 32 → ⊥) → amongAt (x .first) (end - x .first - 1) ≡ actionMatches t action (actionsOf table end x)
-    unfolding actionMatches
-    one-action n = rw (listed-is n)
+    pub one-action : (x .kind ≡ 32 → ⊥) → amongAt (x .first) (end - x .first - 1) ≡ actionMatches action (actionWords t (actionsOf table end x))
+    unfolding actionMatches actionWords
+    one-action n = rw (listed-is n) (sym (some-words t (isString action) (listBy (entryAt table) end x)))
 
-    each-of : {a : Actions} → a ≡ oneOf (listAt table end x) → ActionsPlaced t a → Each (ActionPlaced t) (listAt table end x)
+    each-of : {a : Actions} → a ≡ oneOf (listBy (entryAt table) end x) → ActionsPlaced t a → Each (ActionPlaced t) (listBy (entryAt table) end x)
     each-of e any-action = absurd (let z : _≡_ {A = ℕ} 0 1 = cc in omega arith)
-    each-of e (one-of {ls = ls} p) = let k : ls ≡ listAt table end x = cc in subst (Each (ActionPlaced t)) k (p .each)
+    each-of e (one-of {ls = ls} p) = let k : ls ≡ listBy (entryAt table) end x = cc in subst (Each (ActionPlaced t)) k (p .each)
 
     pub each-listed : (x .kind ≡ 32 → ⊥) → ActionsPlaced t (actionsOf table end x) → Each (ActionPlaced t) (literalsAt (x .first) table (end - x .first - 1))
     each-listed n p = each-of (listed-is n) p
@@ -149,19 +151,19 @@ module _ (t action table : List ℕ) where
 
 module _ (t table : List ℕ) (end : ℕ) (x : Entry) (subject action resource : List ℕ) where
   abbrev whole : Bool
-  whole = targetMatches t (request subject action resource) (policyOf table end x)
+  whole = targetMatches (request subject action resource) (policyWords t (policyOf table end x))
 
   module _ (y : Entry) (is : y ≡ entryAt table (x .first)) where
-    pub other-subject : {r : Bool} → r ≡ partMatches principalTypes t subject (partOf y) → r ≡ false → false ≡ whole
-    unfolding targetMatches policyOf
+    pub other-subject : {r : Bool} → r ≡ partMatches principalTypes subject (partWords t (partOf y)) → r ≡ false → false ≡ whole
+    unfolding targetMatches policyBy
     other-subject d e = rw (← is, sym d ∙ e)
 
     module _ (z : Entry) (is′ : z ≡ entryAt table (x .second - 1)) where
-      pub other-resource : {r : Bool} → r ≡ partMatches resourceTypes t resource (partOf z) → r ≡ false → false ≡ whole
-      unfolding targetMatches policyOf
+      pub other-resource : {r : Bool} → r ≡ partMatches resourceTypes resource (partWords t (partOf z)) → r ≡ false → false ≡ whole
+      unfolding targetMatches policyBy
       other-resource d e = rw (← is′, sym d ∙ e, and-false)
 
-      pub by-action : {r r′ b : Bool} → r ≡ partMatches principalTypes t subject (partOf y) → r ≡ true → r′ ≡ partMatches resourceTypes t resource (partOf z) → r′ ≡ true
-          → (w : Entry) → w ≡ entryAt table (x .second - 2) → b ≡ actionMatches t action (actionsOf table (x .second - 1) w) → b ≡ whole
-      unfolding targetMatches policyOf
+      pub by-action : {r r′ b : Bool} → r ≡ partMatches principalTypes subject (partWords t (partOf y)) → r ≡ true → r′ ≡ partMatches resourceTypes resource (partWords t (partOf z)) → r′ ≡ true
+          → (w : Entry) → w ≡ entryAt table (x .second - 2) → b ≡ actionMatches action (actionWords t (actionsOf table (x .second - 1) w)) → b ≡ whole
+      unfolding targetMatches policyBy
       by-action d e f h w k a = a ∙ rw (k, ← is, sym d ∙ e, ← is′, sym f ∙ h) (sym (and-true _))

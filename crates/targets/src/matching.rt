@@ -5,13 +5,14 @@ ghost use Prim.Native.Nat.{ℕ, _+_, _-_, _<_, _≤_};
 ghost use lib.ListN.{length};
 ghost use Rattle.slices.specs.Same.{same};
 ghost use Rattle.grammar.specs.Policies.{span};
-ghost use Rattle.grammar.specs.Rules.{principalTypes, resourceTypes};
 ghost use Rattle.placing.specs.Placed.{quotedAt, ResourcePlaced};
+ghost use Rattle.placing.specs.Said.{actionWords, partWords, policyWords};
 ghost use Rattle.stored.specs.ReadBack.{partOf, actionsOf, policyOf};
 ghost use Rattle.stored.specs.Ready.{Last};
 ghost use Rattle.meaning.specs.Targets.{typeIn, partMatches, actionMatches};
 ghost use Rattle.meaning.specs.Decisions.{targetMatches};
-ghost use Rattle.targets.specs.Matching.{request, ActionsAt};
+ghost use Rattle.targets.specs.Matching.{request, ActionsAt, TypesOf};
+use crate::Types;
 use lookups::bytes::same_bytes;
 use table::Entry;
 use table::entries;
@@ -33,7 +34,8 @@ fn is_quoted(text: &[u8], start: usize, end: usize, s: &[u8]) -> bool
 // Whether the principal part or the resource part that x says matches s, whose type has this number among the part's types.
 fn part_matches(text: &[u8], x: Entry, s: &[u8], type_number: usize) -> bool
     requires { ⌜ ResourcePlaced (now text) (partOf x) ⌝ }
-    ensures { λ r. ⌜ ((types : List (List ℕ)) → «type_number» ≡ typeIn types (now (s .entry)) → r ≡ partMatches types (now (text .entry)) (now (s .entry)) (partOf x)) ⌝ }
+    ensures { λ r. ⌜ ((types : List (List ℕ)) → «type_number» ≡ typeIn types (now (s .entry))
+        → r ≡ partMatches types (now (s .entry)) (partWords (now (text .entry)) (partOf x))) ⌝ }
 {
     if x.kind == entries::BARE_PART {
         return true;
@@ -47,7 +49,7 @@ fn part_matches(text: &[u8], x: Entry, s: &[u8], type_number: usize) -> bool
 // Whether the action part matches the action, where x is the part's last entry, number end - 1.
 fn action_matches(text: &[u8], table: &[u8], end: usize, x: Entry, action: &[u8]) -> bool
     requires { ⌜ ActionsAt (now text) (now table) end x ⌝ }
-    ensures { λ r. ⌜ r ≡ actionMatches (now (text .entry)) (now (action .entry)) (actionsOf (now (table .entry)) end x) ⌝ }
+    ensures { λ r. ⌜ r ≡ actionMatches (now (action .entry)) (actionWords (now (text .entry)) (actionsOf (now (table .entry)) end x)) ⌝ }
 {
     if x.kind == entries::BARE_ACTION {
         return true;
@@ -72,22 +74,21 @@ pub fn target_matches(
     end: usize,
     x: Entry,
     subject: &[u8],
-    subject_type: usize,
     action: &[u8],
     resource: &[u8],
-    resource_type: usize,
+    types: Types,
 ) -> bool
     requires { ⌜ Last (now text) (now table) end x ⌝ }
-    requires { ⌜ «subject_type» ≡ typeIn principalTypes (now subject) ⌝ }
-    requires { ⌜ «resource_type» ≡ typeIn resourceTypes (now resource) ⌝ }
-    ensures { λ r. ⌜ r ≡ targetMatches (now (text .entry)) (request (now (subject .entry)) (now (action .entry)) (now (resource .entry))) (policyOf (now (table .entry)) end x) ⌝ }
+    requires { ⌜ TypesOf types (now subject) (now resource) ⌝ }
+    ensures { λ r. ⌜ r ≡ targetMatches (request (now (subject .entry)) (now (action .entry)) (now (resource .entry)))
+        (policyWords (now (text .entry)) (policyOf (now (table .entry)) end x)) ⌝ }
 {
     let principal = entry_in(table, x.first);
-    if !part_matches(text, principal, subject, subject_type) {
+    if !part_matches(text, principal, subject, types.subject) {
         return false;
     }
     let part = entry_in(table, x.second - 1);
-    if !part_matches(text, part, resource, resource_type) {
+    if !part_matches(text, part, resource, types.resource) {
         return false;
     }
     let actions = entry_in(table, x.second - 2);

@@ -2,9 +2,12 @@
 // each vector: its length in 2 bytes, and its bytes. Numbers have their low byte first; bytes that the input lacks count as 0.
 use libc::STDIN_FILENO;
 use libc::STDOUT_FILENO;
+ghost use mathlib.Core.Path.{_≡_};
 ghost use mathlib.Core.Bool.{not};
+ghost use mathlib.Core.List.{[]};
 ghost use lib.Dec.{T};
 ghost use lib.Ieee.{isNan};
+ghost use lib.ListN.{getD};
 ghost use Prim.Native.Nat.{_<_, _≤_};
 ghost use Rattle.io.specs.Counts.{Counts};
 
@@ -105,4 +108,12 @@ fn pass_over(n: usize)
 {
     let mut space = io::large_buffer();
     io::read_full(STDIN_FILENO, &mut space[..n]);
+}
+
+// One of six by eight places, by column and choice.
+pub fn place_at(grid: [[usize; 8]; 6], column: usize, choice: usize) -> usize
+    requires { ⌜ (column < 6) × (choice < 8) ⌝ }
+    ensures { λ r. ⌜ r ≡ getD (getD grid column []) choice 0 ⌝ }
+{
+    grid[column][choice]
 }

@@ -3,17 +3,11 @@ use Prim.Native.Nat.{ℕ}
 use mathlib.Core.List.{List, [], _∷_}
 use mathlib.Core.Bool.{Bool, true, false, _&&_, _||_, cond}
 use lib.Dec.{eqb}
-use lib.Ieee.{Float}
 use Rattle.slices.specs.Same.{same}
+use Rattle.bags.specs.Forms.{Contents}
 use Rattle.lookups.specs.Lookups.{Entry, lookIn}
-
--- what an attribute or a literal is: a string, a number, a flag, a list of strings, or absent
-pub data Datum : Type 0 where
-  text : List ℕ → Datum
-  number : Float → Datum
-  flag : Bool → Datum
-  texts : List (List ℕ) → Datum
-  absent : Datum
+-- what an attribute or a literal is
+pub use Rattle.bags.specs.Data.{Datum, text, number, flag, texts, absent}
 
 -- whether there is a value
 abbrev pub present : Datum → Bool
@@ -30,6 +24,10 @@ View = ℕ → List ℕ → Datum
 -- a section of entries for each root byte
 abbrev pub Bag : Type 0
 Bag = ℕ → List (Entry Datum)
+
+-- what the three sections hold, by root byte: 1 principal, 2 resource, 3 env; any other has none
+unfoldable pub asBag : Contents → Bag
+asBag c root = cond (eqb root 1) (c .principal) (cond (eqb root 2) (c .resource) (cond (eqb root 3) (c .env) []))
 
 -- an attribute of a bag: the value of the entry with its path, or absent
 abbrev pub look : Bag → View

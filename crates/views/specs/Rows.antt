@@ -1,7 +1,7 @@
 -- A row of a question: where its columns stand and what they choose, and the view of attributes that it gives. Definitions only.
 use Prim.Native.Nat.{ℕ, _<_, _≤_}
-use mathlib.Core.List.{List, map}
-use lib.ListN.{length, getD}
+use mathlib.Core.List.{List, [], _∷_, map}
+use lib.ListN.{length, getD, drop}
 use Rattle.tokens.specs.Table.{valuesFrom}
 use Rattle.bags.specs.Reading.{byte}
 use Rattle.bags.specs.Sections.{Sectioned}
@@ -11,7 +11,8 @@ use Rattle.lookups.specs.Lookups.{lookIn, baseOf}
 use Rattle.lookups.specs.declared.values.Value.{Value}
 use Rattle.questions.specs.Columns.{columnPath, countAt}
 use Rattle.questions.specs.Questions.{headOf, countOf, choiceOf}
-use Rattle.views.specs.Meaning.{View, Bag, look, Chosen, rowBag, columnsFirst}
+use Rattle.questions.specs.Forms.{Column}
+use Rattle.views.specs.Meaning.{Datum, absent, View, Bag, look, Chosen, rowBag, columnsFirst}
 use Rattle.views.specs.Values.{baseBag, chosenMeant}
 
 -- the column at c, with the value whose kind byte stands at k
@@ -56,3 +57,14 @@ bagOfRow s p n at choices = rowBag (baseBag s p) (map (chosenMeant s) (columnsOf
 -- each choice is one of its column's candidates
 abbrev pub Chooses : ℕ → List ℕ → ℕ → List ℕ → Type 0
 Chooses n s at choices = (i : ℕ) → i < n → getD choices i 0 < countOf s (headOf s at i)
+
+-- ---- by what the question's bytes say: its base, and its columns with their candidates
+
+-- a column with its candidate of this number
+abbrev pub picked : Column → ℕ → Chosen Datum
+picked c j = record { root = c .names .root; path = c .names .path; value = getD (map (λ x. x .is) (c .choices)) j absent }
+
+-- each column with its choice
+unfoldable pub pickedAll : List Column → List ℕ → List (Chosen Datum)
+pickedAll [] choices = []
+pickedAll (c ∷ cs) choices = picked c (getD choices 0 0) ∷ pickedAll cs (drop 1 choices)

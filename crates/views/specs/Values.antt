@@ -1,33 +1,17 @@
 -- What a read value stands for. Definitions only.
-use Prim.Native.Nat.{ℕ, _+_}
+use Prim.Native.Nat.{ℕ}
 use mathlib.Core.List.{List, map}
 use mathlib.Core.Bool.{cond}
 use mathlib.Core.Path.{_≡_}
 use lib.Dec.{eqb}
 use lib.Ieee.{eq}
-use Rattle.numbers.specs.Bits.{numberAt}
-use Rattle.slices.specs.Parts.{part}
-use Rattle.bags.specs.Reading.{byte, each}
-use Rattle.bags.specs.Values.{stringEnd}
 use Rattle.bags.specs.declared.sections.Sections.{Sections}
 use Rattle.lookups.specs.Values.{unit, Whole}
 use Rattle.lookups.specs.Lookups.{Entry, baseOf}
 use Rattle.lookups.specs.declared.values.Value.{Value}
 use Rattle.views.specs.Meaning.{Datum, text, number, flag, texts, absent, Bag, Chosen}
-
--- a string: a length byte and its bytes; a list: a count byte and its strings
-unfoldable pub stringAt : List ℕ → ℕ → List ℕ
-stringAt s at = part s (at + 1) (byte s at)
-
-unfoldable pub listAt : List ℕ → ℕ → List (List ℕ)
-listAt s at = each (byte s at) (stringEnd s) (λ at e. stringAt s at) (at + 1)
-
--- what the kind byte at k and the bytes after it say
-unfoldable pub datumAt : List ℕ → ℕ → Datum
-datumAt s k =
-    cond (eqb (byte s k) 1) (text (stringAt s (k + 1)))
-    (cond (eqb (byte s k) 2) (number (numberAt s (k + 1)))
-    (cond (eqb (byte s k) 3) (flag (eqb (byte s (k + 1)) 1)) (cond (eqb (byte s k) 4) (texts (listAt s (k + 1))) absent)))
+-- what the bytes at a place say
+unfoldable pub use Rattle.bags.specs.Data.{stringAt, listAt, datumAt}
 
 -- what a read value stands for, where its string is x and its list's strings are l
 unfoldable pub datumOf : Value → List ℕ → List (List ℕ) → Datum

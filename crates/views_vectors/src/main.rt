@@ -18,10 +18,10 @@ use libc::STDOUT_FILENO;
 use lookups::steps::value_next;
 use lookups::values::Value;
 use questions::places::heads;
-use questions::places::place_at;
 use questions::places::places;
 use questions::question_sections;
 use tokens::classes::class_table;
+use vectors::place_at;
 use views::attribute;
 use views::chosen;
 

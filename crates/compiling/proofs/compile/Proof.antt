@@ -34,9 +34,9 @@ read-all-requires c κs = let a = c .before .before .before .before .before .bef
     let h = accepts (a .text .now) (length (a .table .now)) _ _ (sym (c .before .before .before .before .found3 .given .1) ∙ c .before .before .before .before .before .before .recognise .ensures) in
     (c .before .before .before .before .before .before .before .before .class-table .ensures, omega (arith, h .short))
 
-mul-t20 : tie.Need-mul-t20
+mul-t21 : tie.Need-mul-t21
 unfolding said
-mul-t20 c = let a = c .before .before .before .before .before .before .before .before .before .before .before .before .before .before .args in
+mul-t21 c = let a = c .before .before .before .before .before .before .before .before .before .before .before .before .before .before .args in
     let h = accepts (a .text .now) (length (a .table .now)) _ _ (sym (c .before .before .before .before .before .before .before .found3 .given .1) ∙ c .before .before .before .before .before .before .before .before .before .recognise .ensures) in
     omega (arith, no-more h (c .before .before .read-all .ensures), h .short)
 
@@ -73,7 +73,7 @@ compile-spec =
     enum-known-found-3
     slice-aggregate-read-all
     read-all-requires
-    mul-t20
+    mul-t21
     returns
     returns-2
     same-length

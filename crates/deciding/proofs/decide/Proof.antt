@@ -49,7 +49,10 @@ held-requires c κs =
       c .before .before .before .before .before .before .class-table .ensures,
       (
         sections-at _ _ (bag-divided _ _ (sym (c .before .before .before .before .bag-sections .ensures) ∙ c .before .before .p .given .1) .1),
-        (typed-number _ _ _ (second .before .subject-type .ensures) (second .if2 .left), typed-number _ _ _ (last .before .resource-type .ensures) (last .if4 .left)),
+        record {
+          subject-type = typed-number _ _ _ (second .before .subject-type .ensures) (second .if2 .left);
+          resource-type = typed-number _ _ _ (last .before .resource-type .ensures) (last .if4 .left);
+        },
       ),
     )
 

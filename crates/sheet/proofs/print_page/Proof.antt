@@ -7,13 +7,14 @@ use Rattle.sheet.proofs.print_page.Tie as tie
 
 print-rows-requires : tie.Need-print-rows-requires
 print-rows-requires c κs =
-    omega (arith, rows-fit (c .before .before .before .before .before .sheet .ensures) (c .before .before .before .before .before .before .before .before .before .before .before .before .before .pre .0) (c .before .before .before .before .before .before .before .before .before .before .before .before .before .pre .1) (omega arith) (c .before .before .written .given .1))
+    let fit = rows-fit (c .before .before .before .before .before .sheet .ensures) (c .before .before .before .before .before .before .before .before .before .before .before .before .before .pre .0) (omega (arith, c .before .before .before .before .before .before .before .before .before .before .before .before .before .pre .1)) (omega arith) (c .before .before .written .given .1) in
+    (omega arith, omega arith)
 
 returns : tie.Need-returns
-returns c = never-refused (c .before .before .before .sheet .ensures) (c .before .before .before .before .before .before .before .before .before .before .before .pre .0) (c .before .before .before .before .before .before .before .before .before .before .before .pre .1) (omega arith) (c .enum-told .given .1)
+returns c = never-refused (c .before .before .before .sheet .ensures) (c .before .before .before .before .before .before .before .before .before .before .before .pre .0) (omega (arith, c .before .before .before .before .before .before .before .before .before .before .before .pre .1)) (omega arith) (c .enum-told .given .1)
 
 returns-2 : tie.Need-returns-2
-returns-2 c = page-printed (c .before .before .before .before .before .before .sheet .ensures) (c .before .before .before .before .before .before .before .before .before .before .before .before .before .before .pre .0) (c .before .before .before .before .before .before .before .before .before .before .before .before .before .before .pre .1) (omega arith) (c .before .before .before .written .given .1)
+returns-2 c = page-printed (c .before .before .before .before .before .before .sheet .ensures) (c .before .before .before .before .before .before .before .before .before .before .before .before .before .before .pre .0) (omega (arith, c .before .before .before .before .before .before .before .before .before .before .before .before .before .before .pre .1)) (omega arith) (c .before .before .before .written .given .1)
 
 pub print-page-spec : {M : Type 1} → statement M
 print-page-spec =

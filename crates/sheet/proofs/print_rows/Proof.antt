@@ -1,26 +1,20 @@
--- `sheet::print_rows` prints only rows that were written. Assumes nothing.
-use Prim.Native.Nat.{_+_, _*_, _≤_}
-use lib.ListN.{length}
+-- `sheet::print_rows` has room for the lines of a page. Assumes nothing.
+use mathlib.Core.Path.{sym}
+use lib.Seq.{length-take-le}
 use borrow.Author.Needs.{needs}
 use Rattle.sheet.proofs.print_rows.Statement.{statement}
 use Rattle.sheet.proofs.print_rows.Tie as tie
 
-abbrev Inv-loop : tie.InvT-loop
-Inv-loop page written left₀ at₀ left at = at + 6 * left ≤ length page
-
-abbrev μ-loop : tie.MeasureT-loop
-μ-loop page written left₀ at₀ left at = left
+slice-aggregate-write-all : tie.Need-slice-aggregate-write-all
+slice-aggregate-write-all c = sym (length-take-le _ _ (c .before .before .put-rows .ensures .inside))
 
 pub print-rows-spec : {M : Type 1} → statement M
 print-rows-spec =
     tie.close
     (tie.spec
-    Inv-loop
-    μ-loop
     (λ c. search needs)
     (λ c κs. search needs)
     (λ c. search needs)
-    (λ c. search needs)
-    (λ c. search needs)
-    (λ c. search needs)
+    slice-aggregate-write-all
+    (λ c κs. search needs)
     (λ c. search needs))

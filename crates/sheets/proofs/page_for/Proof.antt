@@ -1,7 +1,7 @@
 -- `sheets::page_for` meets its contract: the system, and any other subject. Assumes nothing.
 use Rattle.sheets.proofs.Cases.{system-listed}
-use mathlib.Core.Path.{_≡_, sym, _∙_}
-use Prim.Native.Nat.{ℕ}
+use Rattle.turns.proofs.RowLaws.{none-ready, none-many}
+use mathlib.Core.Path.{sym, _∙_}
 use native.Mathlib.Omega.{arith}
 use borrow.Author.Needs.{needs}
 use Rattle.sheets.proofs.page_for.Statement.{statement}
@@ -10,7 +10,13 @@ use Rattle.sheets.proofs.page_for.Tie as tie
 write-page-requires : tie.Need-write-page-requires
 write-page-requires c κs = (
   c .before .before .before .before .before .before .before .before .before .before .pre .1,
-  record { whose = sym (c .before .if1 .taken) ∙ c .before .before .is-system .ensures; others = λ e. absurd (let z : _≡_ {A = ℕ} 0 1 = cc in omega arith) },
+  record {
+    whose = sym (c .before .if1 .taken) ∙ c .before .before .is-system .ensures;
+    ready = none-ready _ _;
+    many = none-many _;
+    few = omega arith;
+    typed = λ l. absurd (omega arith);
+  },
 )
 
 returns : tie.Need-returns

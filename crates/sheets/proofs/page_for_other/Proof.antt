@@ -26,12 +26,12 @@ write-page-requires c κs =
       c .before .before .before .before .before .before .before .before .before .before .before .before .before .before .before .before .before .before .pre .1 .0,
       record {
         whose = sym (c .before .before .before .before .before .before .before .before .before .before .before .before .before .before .before .before .before .before .pre .1 .1);
-        others = λ e. record {
-          ready = held-ready _ _ _ _ h;
-          many = held-many _ _ _ _ h;
-          few = held-few _ _ _ _ h;
-          subject-type-is = typed-number _ _ _ (c .before .before .before .before .before .before .before .before .before .before .subject-type .ensures) (c .before .before .before .before .before .before .before .before .before .if1 .left);
-          resource-type-is = typed-number _ _ _ (c .before .before .before .before .before .before .resource-type .ensures) (c .before .before .before .before .before .if3 .left);
+        ready = held-ready _ _ _ _ h;
+        many = held-many _ _ _ _ h;
+        few = held-few _ _ _ _ h;
+        typed = λ l. record {
+          subject-type = typed-number _ _ _ (c .before .before .before .before .before .before .before .before .before .before .subject-type .ensures) (c .before .before .before .before .before .before .before .before .before .if1 .left);
+          resource-type = typed-number _ _ _ (c .before .before .before .before .before .before .resource-type .ensures) (c .before .before .before .before .before .if3 .left);
         };
       },
     )

@@ -1,9 +1,14 @@
 -- `table::entry_at` meets its contract. Assumes nothing.
 use borrow.Author.Needs.{needs}
 use borrow.Author.Tests.{lt-leb}
+use native.Mathlib.Omega.{arith}
 use Rattle.table.specs.Layout.{entryAt}
+use Rattle.table.proofs.Holding.{room-many}
 use Rattle.table.proofs.entry_at.Statement.{statement}
 use Rattle.table.proofs.entry_at.Tie as tie
+
+entry-in-requires : tie.Need-entry-in-requires
+entry-in-requires c κs = let h = c .if1 .taken in room-many _ _ (omega arith)
 
 returns-2 : tie.Need-returns-2
 unfolding entryAt
@@ -15,6 +20,6 @@ entry-at-spec =
     (tie.spec
     (λ c. search needs)
     (λ c. search needs)
-    (λ c κs. search needs)
+    entry-in-requires
     (λ c. search needs)
     returns-2)

@@ -1,10 +1,16 @@
--- `sheets::writing::write_page` meets its contract: what is found of the columns is what the rows are asked with. Assumes nothing.
+-- `sheets::writing::write_page` meets its contract: what is found of the columns and policies is what the rows are walked with. Assumes nothing.
 use Rattle.pages.proofs.SixColumns.{heads-counted}
 use mathlib.Core.Path.{refl}
 use native.Mathlib.Omega.{arith}
 use borrow.Author.Needs.{needs}
+use Rattle.targets.specs.Matching.{request}
 use Rattle.sheets.proofs.writing.write_page.Statement.{statement}
 use Rattle.sheets.proofs.writing.write_page.Tie as tie
+
+-- the columns are found: where the call starts
+
+abbrev start : tie.After-heads → tie.Start
+start c = c .before .before .before .before .before .before .before .before .before
 
 shared-slice-read-n : tie.Need-shared-slice-read-n
 shared-slice-read-n c = c .before .before .before .before .before .before .before .before .pre .0 .question .counted
@@ -16,23 +22,47 @@ add-first : tie.Need-add-first
 add-first c = omega (arith, c .before .before .before .before .before .before .before .before .pre .0 .question .counted)
 
 heads-requires : tie.Need-heads-requires
-heads-requires c κs = (c .before .before .before .before .before .before .before .before .pre .0 .question .few, (c .before .before .before .before .before .before .before .before .pre .0 .question .last, c .before .before .before .before .before .before .before .before .pre .0 .question .columns))
+heads-requires c κs = let question = c .before .before .before .before .before .before .before .before .pre .0 .question in (question .few, (question .last, question .columns))
 
 places-requires : tie.Need-places-requires
-places-requires c κs = (c .before .before .before .before .before .before .before .before .before .pre .0 .question .few, (c .before .before .before .before .before .before .before .before .before .pre .0 .question .last, c .before .before .before .before .before .before .before .before .before .pre .0 .question .columns))
+places-requires c κs = let question = start c .pre .0 .question in (question .few, (question .last, question .columns))
 
 lasts-requires : tie.Need-lasts-requires
-lasts-requires c κs = heads-counted _ _ _ _ (c .before .before .before .before .before .before .before .before .before .before .before .pre .0 .question .few) (c .before .before .before .before .before .before .before .before .before .before .before .pre .0 .question .columns) _ (c .before .before .heads .ensures)
+lasts-requires c κs =
+    let found = c .before .before in
+    let question = start found .pre .0 .question in
+    heads-counted _ _ _ _ (question .few) (question .columns) _ (found .heads .ensures)
+
+looks-requires : tie.Need-looks-requires
+looks-requires c κs =
+    let found = c .before .before .before .before in
+    let question = start found .pre .0 .question in
+    let rules = start found .pre .1 in
+    (rules .ready, (rules .many, (rules .few, (heads-counted _ _ _ _ (question .few) (question .columns) _ (found .heads .ensures), rules .typed))))
 
 write-rows-requires : tie.Need-write-rows-requires
-write-rows-requires c κs = record {
-  asked = c .before .before .before .before .before .before .before .before .before .before .before .before .before .before .before .pre .0;
-  laid = record { many = refl; starts-are = c .before .before .before .before .before .before .heads .ensures; grid-is = c .before .before .before .before .before .places .ensures; six = omega arith; ends-are = c .before .before .before .lasts .ensures };
-  decidable = c .before .before .before .before .before .before .before .before .before .before .before .before .before .before .before .pre .1;
-}
+write-rows-requires c κs =
+    let looks = c .before .before .before .before .looks in
+    let found = c .before .before .before .before .before .before .before .before .before in
+    let pre = start found .pre in (
+      record {
+        asked = pre .0;
+        walked = record {
+          question = pre .0 .question;
+          laid = record { many = refl; starts-are = found .heads .ensures; grid-is = c .before .before .before .before .before .before .before .before .places .ensures; six = omega (arith, c .before .before .before .before .before .before .lasts .ok); ends-are = c .before .before .before .before .before .before .lasts .ensures };
+          ready = pre .1 .ready;
+          many = pre .1 .many;
+          few = pre .1 .few;
+          depths = looks .ensures .0;
+        };
+      },
+      record { q = request _ _ _; walk-for = record { acts = refl; whose = pre .1 .whose; aims = looks .ensures .1 } },
+    )
 
 returns : tie.Need-returns
-returns c = c .before .before .write-rows .ensures
+returns c =
+    let found = c .before .before .before .before .before .before .before .before .before .before .before .before in
+    c .before .before .write-rows .ensures _ (record { acts = refl; whose = start found .pre .1 .whose; aims = c .before .before .before .before .before .before .before .looks .ensures .1 })
 
 pub write-page-spec : {M : Type 1} → statement M
 write-page-spec =
@@ -44,6 +74,7 @@ write-page-spec =
     heads-requires
     places-requires
     lasts-requires
+    looks-requires
     write-rows-requires
     (λ c. search needs)
     returns)

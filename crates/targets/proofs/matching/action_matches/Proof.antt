@@ -1,17 +1,18 @@
 -- `targets::matching::action_matches` meets its contract. The invariant: the action is among the strings exactly if it is among those left. Assumes nothing.
 use native.Mathlib.Omega.{arith}
 use Rattle.targets.proofs.MatchLaws.{amongAt, every-action, one-action, each-listed, each-on, string-lies, found-here, not-here, none-found}
+use Rattle.table.specs.Layout.{entriesIn}
+use Rattle.table.proofs.Holding.{many-few}
 use Rattle.stored.specs.ReadBack.{literalsAt}
 use Rattle.placing.specs.Placed.{Each, ActionPlaced}
-use Prim.Native.Nat.{_+_, _*_, _≤_}
-use lib.ListN.{length}
+use Prim.Native.Nat.{_+_, _≤_}
 use mathlib.Core.Path.{_≡_, refl, sym, _∙_}
 use Rattle.targets.proofs.matching.action_matches.Statement.{statement}
 use Rattle.targets.proofs.matching.action_matches.Tie as tie
 
 abbrev Inv-loop : tie.InvT-loop
 Inv-loop text table end action left₀ e₀ left e =
-    (amongAt text action table left e ≡ amongAt text action table left₀ e₀) × Each (ActionPlaced text) (literalsAt left table e) × (5 * (e + left) ≤ length table)
+    (amongAt text action table left e ≡ amongAt text action table left₀ e₀) × Each (ActionPlaced text) (literalsAt left table e) × (e + left ≤ entriesIn table)
 
 abbrev μ-loop : tie.MeasureT-loop
 μ-loop text table end action left₀ e₀ left e = left
@@ -57,7 +58,7 @@ action-matches-spec =
     (λ c κs. omega arith)
     is-quoted-requires
     returns-2
-    (λ c. omega arith)
+    (λ c. omega (arith, many-few (c .before .before .before .before .before .before .before .before .before .before .before .args .table .now)))
     (λ c. omega arith)
     (λ c. omega arith)
     loop-again

@@ -1,0 +1,70 @@
+-- What the ask program prints: a line for a text, and a line for each case. Definitions only.
+use mathlib.Core.Path.{_≡_}
+use mathlib.Core.Bool.{cond}
+use mathlib.Core.List.{List, [], _∷_, _++_}
+use Prim.Native.Nat.{ℕ, _+_, _≤_, _<_}
+use Prim.Native.Char.{code}
+use lib.Dec.{eqb}
+use lib.ListN.{length, take, drop}
+use Rattle.targets.specs.Matching.{request}
+use Rattle.folder.specs.Added.{Added}
+use Rattle.folder.specs.Cases.{Case, caseOf, pastCase, casesOf}
+use Rattle.folder.specs.Decimals.{numbersLine, refusedLine}
+use Rattle.desk.specs.Answers.{compileSays, decideSays}
+use Rattle.desk.specs.declared.DeskCompiled.{DeskCompiled}
+use Rattle.desk.specs.declared.DeskDecision.{DeskDecision}
+use Rattle.ask.specs.declared.Step.{Step}
+
+-- the word `compiled` and a blank
+abbrev pub compiledWord : List ℕ
+compiledWord = code "c" ∷ code "o" ∷ code "m" ∷ code "p" ∷ code "i" ∷ code "l" ∷ code "e" ∷ code "d" ∷ code " " ∷ []
+
+-- the word `decided` and a blank
+abbrev pub decidedWord : List ℕ
+decidedWord = code "d" ∷ code "e" ∷ code "c" ∷ code "i" ∷ code "d" ∷ code "e" ∷ code "d" ∷ code " " ∷ []
+
+-- for what compiling answers: policies and bytes used, or the refusal with its place
+unfoldable pub compiledLine : DeskCompiled → List ℕ
+compiledLine c =
+    cond (eqb (c .refusal) 0) (compiledWord ++ numbersLine (c .policies ∷ c .bytes ∷ [])) (refusedLine (c .refusal) (c .line) (c .column))
+
+-- for what deciding answers: outcome and policy, or the refusal, which has no place
+unfoldable pub decidedLine : DeskDecision → List ℕ
+decidedLine d = cond (eqb (d .refusal) 0) (decidedWord ++ numbersLine (d .outcome ∷ d .policy ∷ [])) (refusedLine (d .refusal) 0 0)
+
+-- for a case: what the desk decides
+abbrev pub caseLine : List ℕ → List ℕ → Case → List ℕ
+caseLine text table c = decidedLine (decideSays text table (c .bag) (request (c .subject) (c .action) (c .resource)))
+
+-- for cases, one after the other
+unfoldable pub caseLines : List ℕ → List ℕ → List Case → List ℕ
+caseLines text table [] = []
+caseLines text table (c ∷ cs) = caseLine text table c ++ caseLines text table cs
+
+-- the lines of the cases from a place of cases.bin on
+abbrev pub linesFrom : List ℕ → List ℕ → List ℕ → ℕ → List ℕ
+linesFrom text table s at = caseLines text table (casesOf (drop at s))
+
+-- how many cases there are from a place on
+abbrev pub casesFrom : List ℕ → ℕ → ℕ
+casesFrom s at = length (casesOf (drop at s))
+
+-- one case more is answered: its line stands behind those before it, and the next case begins where it ends
+pub record CaseAnswered (text table s : List ℕ) (at : ℕ) (old : List ℕ) (filled : ℕ) (new : List ℕ) (step : Step) : Type 0 where
+  pub line : Added old filled (caseLine text table (caseOf (drop at s))) new (step .filled)
+  pub rest : drop (step .next) s ≡ pastCase (drop at s)
+  pub low : at < step .next
+  pub high : step .next ≤ length s
+  pub short : step .filled ≤ filled + 71
+
+-- so many cases are answered: their lines, and those of the cases from the next on, are the lines of all from `at` on
+pub record CasesAnswered (text table s : List ℕ) (at : ℕ) (new : List ℕ) (answered : ℕ) (step : Step) : Type 0 where
+  pub lines : linesFrom text table s at ≡ take (step .filled) new ++ linesFrom text table s (step .next)
+  pub counted : casesFrom s at ≡ answered + casesFrom s (step .next)
+  pub high : step .next ≤ length s
+  pub inside : step .filled ≤ length new
+  pub few : at + answered ≤ step .next
+
+-- how many cases are answered: all; none where the text is refused
+unfoldable pub answeredFor : List ℕ → List ℕ → List ℕ → ℕ
+answeredFor text table s = cond (eqb (compileSays text table .refusal) 0) (casesFrom s 0) 0

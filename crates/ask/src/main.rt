@@ -1,0 +1,193 @@
+// The ask program, run in a folder with one word. `check`: whether policy.txt compiles. `decide`: what the desk answers to each case of cases.bin. All it says is what the desk's calls say.
+ghost use mathlib.Core.Bool.{true};
+ghost use mathlib.Core.Path.{_≡_};
+ghost use Prim.Native.Nat.{_+_, _≤_, _<_};
+ghost use lib.ListN.{length, take};
+ghost use Rattle.desk.specs.Answers.{compileSays, beginsSays};
+ghost use Rattle.folder.specs.Added.{Added};
+ghost use Rattle.ask.specs.Lines.{compiledLine, decidedLine, casesFrom, answeredFor, CaseAnswered, CasesAnswered};
+use desk::DeskCompiled;
+use desk::DeskDecision;
+use folder::cases::part_at;
+use folder::lines::put_refusal;
+use folder::lines::put_two;
+use folder::read_file;
+use libc::STDOUT_FILENO;
+
+// Where the next case begins, and how many bytes of the buffer are filled.
+pub struct Step {
+    pub next: usize,
+    pub filled: usize,
+}
+
+// The line for what compiling answers.
+fn put_compiled(out: &mut [u8], at: usize, c: DeskCompiled) -> usize
+    requires { ⌜ at + 71 ≤ length (now out) ⌝ }
+    ensures { λ r. ⌜ Added (now (out .entry)) at (compiledLine c) (now (out .exit)) r × (r ≤ at + 71) ⌝ }
+{
+    if 0 < c.refusal {
+        return put_refusal(out, at, c.refusal, c.line, c.column);
+    }
+    put_two(out, at, b"compiled ", c.policies, c.bytes)
+}
+
+// The line for what deciding answers.
+fn put_decided(out: &mut [u8], at: usize, d: DeskDecision) -> usize
+    requires { ⌜ at + 71 ≤ length (now out) ⌝ }
+    ensures { λ r. ⌜ Added (now (out .entry)) at (decidedLine d) (now (out .exit)) r × (r ≤ at + 71) ⌝ }
+{
+    if 0 < d.refusal {
+        return put_refusal(out, at, d.refusal, 0, 0);
+    }
+    put_two(out, at, b"decided ", d.outcome as usize, d.policy)
+}
+
+// Answers the case at a place, with its line behind those that the buffer holds.
+fn answer_case<'a>(
+    text: &'a [u8],
+    table: &[u8],
+    cases: &'a [u8],
+    at: usize,
+    out: &mut [u8],
+    filled: usize,
+) -> Step
+    requires { ⌜ (at < length (now cases)) × (filled + 71 ≤ length (now out)) ⌝ }
+    ensures { λ r. ⌜ CaseAnswered (now (text .entry)) (now (table .entry)) (now (cases .entry)) at (now (out .entry)) filled (now (out .exit)) r ⌝ }
+{
+    let subject = part_at(cases, at);
+    let a = subject.start;
+    let b = subject.end;
+    let action = part_at(cases, b);
+    let c = action.start;
+    let d = action.end;
+    let resource = part_at(cases, d);
+    let e = resource.start;
+    let f = resource.end;
+    let bag = part_at(cases, f);
+    let g = bag.start;
+    let h = bag.end;
+    let answer = desk::desk_decide(
+        text,
+        table,
+        &cases[g..h],
+        &cases[a..b],
+        &cases[c..d],
+        &cases[e..f],
+    );
+    let line = put_decided(out, filled, answer);
+    Step {
+        next: h,
+        filled: line,
+    }
+}
+
+// How many cases are answered, and how far.
+pub struct Answered {
+    pub cases: usize,
+    pub step: Step,
+}
+
+// Answers cases from a place on, as many as the buffer has room for.
+fn answer_cases<'a>(
+    text: &'a [u8],
+    table: &[u8],
+    cases: &'a [u8],
+    at: usize,
+    out: &mut [u8],
+) -> Answered
+    requires { ⌜ (at < length (now cases)) × (71 ≤ length (now out)) ⌝ }
+    ensures { λ r. ⌜ CasesAnswered (now (text .entry)) (now (table .entry)) (now (cases .entry)) at (now (out .exit)) (r .cases) (r .step)
+        × (at < r .step .next) ⌝ }
+{
+    let mut next = at;
+    let mut filled = 0;
+    let mut answered = 0;
+    while next < cases.len() {
+        if out.len() - filled < 71 {
+            return Answered {
+                cases: answered,
+                step: Step { next, filled },
+            };
+        }
+        let step = answer_case(text, table, cases, next, out, filled);
+        next = step.next;
+        filled = step.filled;
+        answered += 1;
+    }
+    Answered {
+        cases: answered,
+        step: Step { next, filled },
+    }
+}
+
+// Answers all cases, a buffer of lines at a time, and gives how many there are.
+fn print_cases<'a>(text: &'a [u8], table: &[u8], cases: &'a [u8]) -> usize
+    requires { ⌜ beginsSays (now text) (now table) ≡ true ⌝ }
+    ensures { λ r. ⌜ r ≡ casesFrom (now (cases .entry)) 0 ⌝ }
+{
+    let mut out = [0u8; 65536];
+    let mut next = 0;
+    let mut answered = 0;
+    while next < cases.len() {
+        let some = answer_cases(text, table, cases, next, &mut out);
+        let filled = some.step.filled;
+        io::write_all(STDOUT_FILENO, &out[..filled]);
+        next = some.step.next;
+        answered += some.cases;
+    }
+    answered
+}
+
+// Prints the line for what compiling answers.
+fn print_compiled(c: DeskCompiled) {
+    let mut out = [0u8; 71];
+    let n = put_compiled(&mut out, 0, c);
+    io::write_all(STDOUT_FILENO, &out[..n]);
+}
+
+// What is printed for a text and cases: how many cases are answered; or only the text's refusal.
+fn print_answers<'a>(text: &'a [u8], table: &mut [u8], cases: &'a [u8]) -> usize
+    ensures { λ r. ⌜ r ≡ answeredFor (now (text .entry)) (now (table .entry)) (now (cases .entry)) ⌝ }
+{
+    let c = desk::desk_compile(text, table);
+    if 0 < c.refusal {
+        print_compiled(c);
+        return 0;
+    }
+    print_cases(text, table, cases)
+}
+
+// A file is read with room for one byte more than its limit, so that what is too long is refused and not cut.
+fn check() {
+    let mut text = [0u8; 8193];
+    let mut table = [0u8; 65544];
+    let n = read_file(b"policy.txt", &mut text);
+    print_compiled(desk::desk_compile(&text[..n], &mut table));
+}
+
+// Cases are read as a whole, up to 131,072 bytes; of more none is answered.
+fn decide() {
+    let mut text = [0u8; 8193];
+    let mut table = [0u8; 65544];
+    let mut cases = [0u8; 131073];
+    let n = read_file(b"policy.txt", &mut text);
+    let m = read_file(b"cases.bin", &mut cases);
+    if 131072 < m {
+        io::write_all(STDOUT_FILENO, b"cases too long\n");
+        return;
+    }
+    print_answers(&text[..n], &mut table, &cases[..m]);
+}
+
+fn main() {
+    let mut word = [0u8; 8];
+    let n = os::arg(1, &mut word);
+    let single = os::arg_count() == 2;
+    if single & slices::same(&word[..n], b"check") {
+        check();
+    } else if single & slices::same(&word[..n], b"decide") {
+        decide();
+    } else {
+        io::write_all(STDOUT_FILENO, b"usage check decide\n");
+    }
+}

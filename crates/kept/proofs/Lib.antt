@@ -1,0 +1,5 @@
+pub mod Agreeing
+pub mod Naming
+pub mod Depth
+pub mod Numbering
+pub mod Noting

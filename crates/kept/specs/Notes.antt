@@ -1,0 +1,104 @@
+-- Notes of policies, kept from row to row: what a note says of a policy, and which of a row's choices can matter to it. Definitions only.
+use mathlib.Core.Path.{_≡_}
+use mathlib.Core.Bool.{Bool}
+use mathlib.Core.List.{List}
+use Prim.Native.Nat.{ℕ, _+_, _-_, _*_, _≤_, _<_}
+use lib.Dec.{eqb}
+use lib.ListN.{length, getD, set}
+use Rattle.grammar.specs.Policies.{Policy}
+use Rattle.bags.specs.declared.sections.Sections.{Sections}
+use Rattle.questions.specs.Questions.{cell}
+use Rattle.views.specs.Rows.{rowView}
+use Rattle.placing.specs.Said.{policyWords, wordsOf}
+use Rattle.meaning.specs.Targets.{Request}
+use Rattle.meaning.specs.Decisions.{targetMatches, satisfied, Numbered, policiesDecide}
+use Rattle.meaning.specs.declared.Decision.{Decision}
+use Rattle.kept.specs.declared.Walk.{Walk}
+
+-- ---- which choices matter
+
+-- two rows choose alike in the columns before number `low`
+pub record Alike (low : ℕ) (u v : List ℕ) : Type 0 where
+  pub alike : (j : ℕ) → j < low → getD u j 0 ≡ getD v j 0
+
+-- only the columns before number `low`, and this column, matter to the policy
+pub record Steady (t s : List ℕ) (n : ℕ) (heads : List ℕ) (policy : Policy) (column low : ℕ) : Type 0 where
+  pub same : (p : Sections) (q : Request) (u v : List ℕ) → Alike low u v → getD u column 0 ≡ getD v column 0
+      → satisfied (rowView s p n heads u) q (policyWords t policy) ≡ satisfied (rowView s p n heads v) q (policyWords t policy)
+
+-- What is found of each policy, in three parts of 64 numbers: its own column, from 0 on; a number such that beside it only the columns before that number
+-- can matter; and 1 where its target matches.
+abbrev pub ownOf : List ℕ → ℕ → ℕ
+ownOf looks number = getD looks (number - 1) 0
+
+abbrev pub otherOf : List ℕ → ℕ → ℕ
+otherOf looks number = getD looks (64 + (number - 1)) 0
+
+abbrev pub aimOf : List ℕ → ℕ → Bool
+aimOf looks number = eqb (getD looks (128 + (number - 1)) 0) 1
+
+-- so it is for each policy: its own column matters, and those before the number that stands for it in the second part
+pub record Depths (t s : List ℕ) (n : ℕ) (heads : List ℕ) (ps : List Policy) (looks : List ℕ) : Type 0 where
+  pub few : (i : ℕ) → i < 64 → getD looks i 0 < 6
+  pub steady : (number : ℕ) (policy : Policy) → Numbered number policy ps → Steady t s n heads policy (ownOf looks number) (otherOf looks number)
+
+-- the targets that match a request
+pub record Aims (t : List ℕ) (q : Request) (ps : List Policy) (looks : List ℕ) : Type 0 where
+  pub aimed : (number : ℕ) (policy : Policy) → Numbered number policy ps → aimOf looks number ≡ targetMatches q (policyWords t policy)
+
+-- ---- notes
+
+-- the note 0 says nothing, 2 says yes and any other no
+pub record NoteSays (note : ℕ) (b : Bool) : Type 0 where
+  pub told : (note ≡ 0 → ⊥) → eqb note 2 ≡ b
+
+-- A policy has eight notes, one for each choice in its own column: row i of them says what is so by choice.
+pub record RowSays (notes : List ℕ) (i : ℕ) (sat : ℕ → Bool) : Type 0 where
+  pub says : (c : ℕ) → c < 8 → NoteSays (getD notes (8 * i + c) 0) (sat c)
+
+-- whether a policy is satisfied in the row with these values, but with choice c in its own column
+unfoldable pub satBy : List ℕ → List ℕ → Sections → ℕ → List ℕ → Request → List ℕ → ℕ → Policy → ℕ → Bool
+satBy t s p n heads q values column policy c = satisfied (rowView s p n heads (set values column (cell s (p .end + 1) n column c))) q (policyWords t policy)
+
+-- the notes of the policies above number `low` and up to number `high` are right for these values
+pub record Noted (t s : List ℕ) (p : Sections) (n : ℕ) (heads : List ℕ) (q : Request) (ps : List Policy) (looks values : List ℕ)
+    (low high : ℕ) (notes : List ℕ) : Type 0 where
+  pub right : (number : ℕ) (policy : Policy) → Numbered number policy ps → low < number → number ≤ high
+      → RowSays notes (number - 1) (satBy t s p n heads q values (ownOf looks number) policy)
+
+-- the notes of the policies up to number `high` are right for some row that chooses alike in the columns before number `from`
+pub record Carried (t s : List ℕ) (p : Sections) (n : ℕ) (heads : List ℕ) (q : Request) (ps : List Policy) (looks values : List ℕ)
+    (from high : ℕ) (notes : List ℕ) : Type 0 where
+  pub before : List ℕ
+  pub six : length before ≡ 6
+  pub alike : Alike from before values
+  pub noted : Noted t s p n heads q ps looks before 0 high notes
+  pub long : length notes ≡ 512
+
+-- the row's choices are among eight, and its values stand at their places in the question's columns, which begin behind the sections
+pub record ChosenThere (s : List ℕ) (p : Sections) (n : ℕ) (choices values : List ℕ) : Type 0 where
+  pub small : (i : ℕ) → i < 6 → getD choices i 0 < 8
+  pub six : length values ≡ 6
+  pub picked : (i : ℕ) → i < 6 → getD values i 0 ≡ cell s (p .end + 1) n i (getD choices i 0)
+
+-- What is kept from row to row of a walk, for a request: which targets match, and notes that are right for a row that chooses alike in the columns before
+-- number `from`.
+pub record Kept (t s : List ℕ) (w : Walk) (heads : List ℕ) (q : Request) (ps : List Policy) (looks values : List ℕ) (from : ℕ) (notes : List ℕ) : Type 0 where
+  pub aims : Aims t q ps looks
+  pub carried : Carried t s (w .p) (w .n) heads q ps looks values from (w .policies) notes
+
+-- ---- what the calls do
+
+-- Of a policy that is satisfied by choice as `sat` says: the answer for this choice, the policy's notes right, and all others as before.
+pub record Met (sat : ℕ → Bool) (i choice : ℕ) (before : List ℕ) (r : Bool) (after : List ℕ) : Type 0 where
+  pub is : r ≡ sat choice
+  pub says : RowSays after i sat
+  pub others : (i′ c : ℕ) → (i′ ≡ i → ⊥) → c < 8 → getD after (8 * i′ + c) 0 ≡ getD before (8 * i′ + c) 0
+  pub long : length after ≡ 512
+
+-- what the policies decide in the row, with all notes right for it
+pub record DecidedFrom (t s : List ℕ) (p : Sections) (n : ℕ) (heads : List ℕ) (q : Request) (ps : List Policy) (looks values : List ℕ)
+    (d : Decision) (notes : List ℕ) : Type 0 where
+  pub is : d ≡ policiesDecide (rowView s p n heads values) q (wordsOf t ps)
+  pub noted : Noted t s p n heads q ps looks values 0 (length ps) notes
+  pub long : length notes ≡ 512

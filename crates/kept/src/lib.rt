@@ -1,0 +1,218 @@
+// Which policies are satisfied in a row, kept from row to row: a policy is met anew only where a choice that its condition may look at has no note yet.
+pub mod depths;
+
+ghost use mathlib.Core.Path.{_≡_};
+ghost use mathlib.Core.Bool.{Bool, false, cond, _&&_};
+ghost use Prim.Native.Nat.{ℕ, _+_, _-_, _≤_, _<_};
+ghost use lib.Dec.{leb, ltb};
+ghost use lib.ListN.{length, getD};
+ghost use Rattle.stored.specs.ReadBack.{policyOf, policiesAt};
+ghost use Rattle.stored.specs.Ready.{ReadyPolicies, Last};
+ghost use Rattle.views.specs.Rows.{rowView, RowStands};
+ghost use Rattle.placing.specs.Said.{policyWords};
+ghost use Rattle.meaning.specs.Values.{withAction};
+ghost use Rattle.meaning.specs.Targets.{Request};
+ghost use Rattle.meaning.specs.Decisions.{conditionHolds};
+ghost use Rattle.kept.specs.Notes.{Depths, RowSays, ChosenThere, Met, Kept, DecidedFrom};
+use bags::sections::Sections;
+use deciding::row::by_numbers;
+use deciding::row::condition_holds;
+use deciding::row::number_if;
+use meaning::Decision;
+use table::Entry;
+use table::entries;
+use table::entry_at;
+
+// A walk over the rows of a question, in numbers: whose rows they are, how many policies and entries the table holds, the sections of the base, how many
+// columns there are, and the first column in which the row may choose otherwise than the row before.
+pub struct Walk {
+    pub system: bool,
+    pub policies: usize,
+    pub entries: usize,
+    pub p: Sections,
+    pub n: usize,
+    pub from: usize,
+}
+
+// The note that is asked for: of which policy, from 0 on, for which choice in its own column; whether the policy's notes are stale, and whether its
+// target matches.
+pub struct Note {
+    pub i: usize,
+    pub choice: u8,
+    pub stale: bool,
+    pub aimed: bool,
+}
+
+// Sets the eight notes from `at` on to 0, where `stale`.
+fn forget(stale: bool, notes: &mut [u8; 512], at: usize)
+    requires { ⌜ at + 8 ≤ 512 ⌝ }
+    requires { ⌜ length (now notes) ≡ 512 ⌝ }
+    ensures { λ _. ⌜ ((j : ℕ) → getD (now (notes .exit)) j 0 ≡ cond (stale && (leb at j && ltb j (at + 8))) 0 (getD (now (notes .entry)) j 0)) ⌝ }
+    ensures { λ _. ⌜ length (now (notes .exit)) ≡ 512 ⌝ }
+{
+    if stale {
+        let mut c = 0;
+        while c < 8 {
+            notes[at + c] = 0;
+            c += 1;
+        }
+    }
+}
+
+// A byte as a number that indexes.
+fn wide(column: u8) -> usize
+    ensures { λ r. ⌜ r ≡ column ⌝ }
+{
+    column as usize
+}
+
+// The note that says yes, and the one that says no.
+fn note_of(hit: bool) -> u8
+    ensures { λ r. ⌜ r ≡ cond hit 2 1 ⌝ }
+{
+    if hit { 2 } else { 1 }
+}
+
+// Whether the policy of which x is the last entry, number end - 1, is satisfied in the row, where it is known whether its target matches.
+fn satisfied_where<'a>(
+    aimed: bool,
+    text: &'a [u8],
+    table: &[u8],
+    end: usize,
+    x: Entry,
+    s: &'a [u8],
+    p: Sections,
+    n: usize,
+    heads: &[usize; 6],
+    values: &[usize; 6],
+    action: &'a [u8],
+) -> bool
+    requires { ⌜ Last (now text) (now table) end x ⌝ }
+    requires { ⌜ RowStands (now s) p n (now heads) (now values) ⌝ }
+    ensures { λ r. ⌜ r ≡ aimed && conditionHolds (withAction (now (action .entry)) (rowView (now (s .entry)) p n (now (heads .entry)) (now (values .entry))))
+        (policyWords (now (text .entry)) (policyOf (now (table .entry)) end x) .condition) ⌝ }
+{
+    if !aimed {
+        return false;
+    }
+    condition_holds(text, table, end, x, s, p, n, heads, values, action)
+}
+
+// Whether the policy of which x is the last entry, number end - 1, is satisfied in the row: as its note for this choice says; where it says nothing, or is
+// stale, the policy is met and noted.
+fn met<'a>(
+    note: Note,
+    notes: &mut [u8; 512],
+    text: &'a [u8],
+    table: &[u8],
+    end: usize,
+    x: Entry,
+    s: &'a [u8],
+    p: Sections,
+    n: usize,
+    heads: &[usize; 6],
+    values: &[usize; 6],
+    action: &'a [u8],
+) -> bool
+    requires { ⌜ (note .i < 64) × (note .choice < 8) × (length (now notes) ≡ 512) ⌝ }
+    requires { ⌜ Last (now text) (now table) end x ⌝ }
+    requires { ⌜ RowStands (now s) p n (now heads) (now values) ⌝ }
+    ensures { λ r. ⌜ ((sat : ℕ → Bool) → sat (note .choice) ≡ note .aimed
+        && conditionHolds (withAction (now (action .entry)) (rowView (now (s .entry)) p n (now (heads .entry)) (now (values .entry))))
+        (policyWords (now (text .entry)) (policyOf (now (table .entry)) end x) .condition)
+        → (note .stale ≡ false → RowSays (now (notes .entry)) (note .i) sat) → Met sat (note .i) (note .choice) (now (notes .entry)) r (now (notes .exit))) ⌝ }
+    ensures { λ _. ⌜ length (now (notes .exit)) ≡ 512 ⌝ }
+{
+    let row = 8 * note.i;
+    forget(note.stale, notes, row);
+    let at = row + note.choice as usize;
+    let said = notes[at];
+    if said != 0 {
+        return said == 2;
+    }
+    let hit = satisfied_where(
+        note.aimed,
+        text,
+        table,
+        end,
+        x,
+        s,
+        p,
+        n,
+        heads,
+        values,
+        action,
+    );
+    notes[at] = note_of(hit);
+    hit
+}
+
+// What the policies decide in the row. The notes are those of a row that chooses alike in the columns before number `from` of the walk, and are then this
+// row's; `looks` has what each policy looks at. The policies are met from the last to the first.
+pub fn decision_from<'a>(
+    walk: Walk,
+    looks: &[u8; 192],
+    notes: &mut [u8; 512],
+    choices: &[u8; 6],
+    text: &'a [u8],
+    table: &[u8],
+    s: &'a [u8],
+    heads: &[usize; 6],
+    values: &[usize; 6],
+    action: &'a [u8],
+) -> Decision
+    requires { ⌜ ReadyPolicies (now text) (now table) (walk .entries) ⌝ }
+    requires { ⌜ walk .policies ≡ length (policiesAt (now table) (walk .entries)) ⌝ }
+    requires { ⌜ walk .policies ≤ 64 ⌝ }
+    requires { ⌜ RowStands (now s) (walk .p) (walk .n) (now heads) (now values) ⌝ }
+    requires { ⌜ ChosenThere (now s) (walk .p) (walk .n) (now choices) (now values) ⌝ }
+    requires { ⌜ Depths (now text) (now s) (walk .n) (now heads) (policiesAt (now table) (walk .entries)) (now looks) ⌝ }
+    requires { ⌜ length (now notes) ≡ 512 ⌝ }
+    ensures { λ r. ⌜ ((q : Request) → q .action ≡ now (action .entry)
+        → Kept (now (text .entry)) (now (s .entry)) walk (now (heads .entry)) q (policiesAt (now (table .entry)) (walk .entries)) (now (looks .entry))
+        (now (values .entry)) (walk .from) (now (notes .entry))
+        → DecidedFrom (now (text .entry)) (now (s .entry)) (walk .p) (walk .n) (now (heads .entry)) q (policiesAt (now (table .entry)) (walk .entries))
+        (now (looks .entry)) (now (values .entry)) r (now (notes .exit))) ⌝ }
+{
+    let p = walk.p;
+    let n = walk.n;
+    let from = walk.from;
+    let mut end = walk.entries;
+    let mut number = walk.policies;
+    let mut forbid = 0;
+    let mut permit = 0;
+    while 0 < end {
+        let x = entry_at(table, end - 1);
+        let i = number - 1;
+        let column = wide(looks[i]);
+        let choice = choices[column];
+        let other = wide(looks[64 + i]);
+        let aim = looks[128 + i];
+        let note = Note {
+            i: i,
+            choice: choice,
+            stale: from < other,
+            aimed: aim == 1,
+        };
+        let satisfied = met(
+            note,
+            notes,
+            text,
+            table,
+            end,
+            x,
+            s,
+            p,
+            n,
+            heads,
+            values,
+            action,
+        );
+        let permits = x.kind == entries::PERMIT;
+        forbid = number_if(satisfied & !permits, number, forbid);
+        permit = number_if(satisfied & permits, number, permit);
+        end = x.first;
+        number = i;
+    }
+    by_numbers(forbid, permit)
+}

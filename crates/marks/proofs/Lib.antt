@@ -1,5 +1,0 @@
-pub mod Agreeing
-pub mod Naming
-pub mod Depth
-pub mod Numbering
-pub mod Marking

@@ -1,0 +1,70 @@
+// The row's turn in a walk over the rows of a question: the row is decided, and the walk goes on to the next. Whoever goes over the rows calls it for each.
+ghost use mathlib.Core.Path.{_≡_};
+ghost use mathlib.Core.Bool.{cond};
+ghost use Prim.Native.Nat.{ℕ, _<_};
+ghost use lib.ListN.{length};
+ghost use Rattle.meaning.specs.Targets.{Request};
+ghost use Rattle.meaning.specs.declared.Decision.the-variants.{System};
+ghost use Rattle.turns.specs.Rows.{rowsIn};
+ghost use Rattle.turns.specs.Turns.{Walked, Somewhere, AtRow, Turned};
+use kept::Walk;
+use kept::decision_from;
+use meaning::Decision;
+use pages::rows::step;
+
+// What a turn gives: the row's decision, and the first column in which the next row may choose otherwise.
+pub struct Turn {
+    pub d: Decision,
+    pub from: usize,
+}
+
+// The system may do all.
+fn unless_system(system: bool, d: Decision) -> Decision
+    ensures { λ r. ⌜ r ≡ cond system System d ⌝ }
+{
+    if system {
+        return Decision::System;
+    }
+    d
+}
+
+// A row's turn. `looks` has what each policy looks at, `notes` what is kept of the rows before; `choices` and `values` are the row's, and then the next row's.
+pub fn take_turn<'a>(
+    walk: Walk,
+    looks: &[u8; 192],
+    notes: &mut [u8; 512],
+    choices: &mut [u8; 6],
+    values: &mut [usize; 6],
+    grid: &[[usize; 8]; 6],
+    ends: &[u8; 6],
+    text: &'a [u8],
+    table: &[u8],
+    s: &'a [u8],
+    starts: &[usize; 6],
+    action: &'a [u8],
+) -> Turn
+    requires { ⌜ Walked (now text) (now table) (now s) walk (now starts) (now grid) (now ends) (now looks) ⌝ }
+    requires { ⌜ Somewhere (now s) (walk .p) (now grid) (now ends) (now choices) (now values) ⌝ }
+    requires { ⌜ length (now notes) ≡ 512 ⌝ }
+    ensures { λ r. ⌜ ((q : Request) (row : ℕ) → row < rowsIn (now (s .entry)) (walk .p)
+        → AtRow (now (text .entry)) (now (table .entry)) (now (s .entry)) walk (now (starts .entry)) (now (grid .entry)) (now (ends .entry))
+        (now (looks .entry)) (now (action .entry)) q row (now (choices .entry)) (now (values .entry)) (walk .from) (now (notes .entry))
+        → Turned (now (text .entry)) (now (table .entry)) (now (s .entry)) walk (now (starts .entry)) (now (grid .entry)) (now (ends .entry))
+        (now (looks .entry)) (now (action .entry)) q row r (now (choices .exit)) (now (values .exit)) (now (notes .exit))) ⌝ }
+{
+    let decided = decision_from(
+        walk,
+        looks,
+        notes,
+        choices,
+        text,
+        table,
+        s,
+        starts,
+        values,
+        action,
+    );
+    let d = unless_system(walk.system, decided);
+    let from = step(grid, ends, choices, values);
+    Turn { d: d, from: from }
+}

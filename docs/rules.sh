@@ -1,0 +1,85 @@
+#!/bin/sh
+# Runs the examples of docs/RULES.md and docs/BAGS.md through the proved desk: docs/rules.sh [ARCHIVE]
+# Without an archive the desk is proved and built first. embed/rules.c asks the desk; what is asked is taken from the tables and the indented lines here:
+#   indented lines           `permit ..` a text that is allowed by policy 1 with the bag of the page; `principal.grade = 3` an attribute of that bag
+#   `true`, `false` columns  conditions that are so with that bag; in a column `is` the row says it
+#   outcome, policy          what a text decides
+#   wrong, refused at, right a text that is refused with the row's number at that place, and one that is not. A text is its code in turn, with `N times` before what is repeated,
+#                            and P at the start of a piece stands for permit(principal,action,resource)
+#   Reserved, so no names    each word that follows is refused as a name
+#   at, bytes                the bytes of a bag or question, from top to bottom, named by the heading above
+#   root, path, kind, ..     what is looked up in that bag;  no bag, no question: bytes that are none
+set -eu
+cd "$(dirname "$0")/.."
+. tools/x86.sh
+work=$(mktemp -d)
+trap 'rm -rf "$work"' EXIT
+archive=${1-}
+if [ -z "$archive" ]; then
+    rt staticlib desk >"$work/said" 2>&1 || { cat "$work/said" >&2; exit 1; }
+    archive=target/staticlib/libdesk.a
+fi
+
+awk '
+BEGIN { P = "permit(principal,action,resource)"; OFS = "\t" }
+function say(line) { said[++lines] = line }
+function code(words) { gsub(/`/, "", words); gsub("\001", "|", words); return words }
+# The text that a cell says: pieces of code, each once or `N times`.
+function pieces(words, out, piece, times) {
+    out = ""
+    while (match(words, /([0-9][0-9,]* times )?`[^`]*`/)) {
+        piece = substr(words, RSTART, RLENGTH); words = substr(words, RSTART + RLENGTH)
+        times = 1
+        if (piece ~ / times `/) { times = piece; sub(/ times .*/, "", times); gsub(/,/, "", times) }
+        sub(/^[^`]*`/, "", piece); sub(/^P/, P, piece)
+        for (piece = code(piece); times > 0; times--) out = out piece
+    }
+    return out
+}
+# A line for each piece of code of a cell.
+function each(what, words) {
+    for (; match(words, /`[^`]*`/); words = substr(words, RSTART + RLENGTH)) say(what "\t" code(substr(words, RSTART, RLENGTH)))
+}
+function text_ends() { if (text != "") say("decided\tallowed\t1\t" text); text = "" }
+# Bytes more, which stand where the row says.
+function add_bytes(at, more) {
+    if (at != split(bytes, each_byte, " ")) { print FILENAME ", line " FNR ": these bytes do not stand at " at > "/dev/stderr"; bad = 1 }
+    bytes = bytes (bytes == "" ? "" : " ") more
+}
+function bytes_end() { if (bytes != "") say(form "\t" bytes); bytes = "" }
+/^Reserved, so no names/ { listing = 1 }
+listing {
+    words = $0; last = sub(/`\..*/, "`", words)
+    for (; match(words, /`[^`]*`/); words = substr(words, RSTART + RLENGTH)) say("refused\t7\t1, 49\t" P "when{principal." code(substr(words, RSTART, RLENGTH)) "==1};")
+    listing = !last
+    next
+}
+/^## / { form = /question/ ? "question" : "bag" }
+/^    (permit|forbid)|^      when/ { sub(/^ +/, ""); text = text (text == "" ? "" : " ") $0; next }
+/^    [a-z]+\.[a-z]+ = / { sub(/^ +/, ""); set[++sets] = $0; next }
+!/^\|/ { text_ends(); bytes_end(); columns = 0; next }
+{
+    line = $0; gsub(/\\\|/, "\001", line)
+    n = split(line, cell, / *\| */)
+    if (!columns) { columns = n; for (i = 2; i < n; i++) head[i] = cell[i]; getline; next }
+    for (i = 2; i < n; i++) {
+        if (head[i] == "true") each("true", cell[i])
+        if (head[i] ~ /^false/) each("false", cell[i])
+        if (head[i] == "is") each(cell[i], cell[i - 1])
+        if (head[i] == "outcome") say("decided\t" cell[i] "\t" cell[i + 1] "\t" code(cell[i - 1]))
+        if (head[i] == "wrong") say("refused\t" cell[2] "\t" cell[i + 1] "\t" pieces(cell[i]))
+        if (head[i] == "right") say("accepted\t" pieces(cell[i]))
+        if (head[i] == "bytes") add_bytes(cell[i - 1], code(cell[i]))
+        if (head[i] ~ /^no (bag|question)$/) say(head[i] "\t" code(cell[i]))
+        if (head[i] == "rows") say("rows\t" cell[i])
+    }
+    if (head[2] == "root") say("look\t" cell[2] "\t" code(cell[3]) "\t" cell[4] "\t" cell[5] "\t" cell[6] "\t" cell[7])
+}
+END {
+    for (i = 1; i <= sets; i++) print "set\t" set[i]
+    for (i = 1; i <= lines; i++) print said[i]
+    exit bad
+}
+' docs/RULES.md docs/BAGS.md >"$work/asked"
+$compiler -std=c11 -O2 -Wall -Wextra -Werror -static -Iembed -o "$work/rules" embed/rules.c embed/desk_bags.c "$archive"
+$run "$work/rules" <"$work/asked"

@@ -1,0 +1,58 @@
+/* What stands beside the archive and is optional: a sentence for each refusal (desk_messages.c), a writer of bags and a reader of lists (desk_bags.c). Like the desk they need no
+   heap, no globals and of a C library memcpy alone. They are ordinary C, not proved; embed/run tests them. */
+#ifndef DESK_MORE_H
+#define DESK_MORE_H
+#include "desk_slices.h"
+#ifdef __cplusplus
+extern "C" {
+#endif
+
+/* ---- desk_messages.c */
+
+/* What a refusal says, as a sentence in English. */
+const char *desk_message(uint32_t refusal);
+
+/* ---- desk_bags.c */
+
+/* A bag that is being written into memory that the caller lends. Between two calls, bytes and length are a bag. */
+typedef struct {
+    uint8_t *bytes;
+    size_t room;
+    size_t length;
+} DeskBagWriter;
+
+/* What a call of the writer answers. Where it is not DESK_WROTE, the bag is as it was before. */
+typedef enum {
+    DESK_WROTE,
+    DESK_WROTE_NO_ROOM, /* the lent bytes, or the most that a bag may have, are used up */
+    DESK_WROTE_MANY,    /* the section has as many entries as it may, or the list as many strings */
+    DESK_WROTE_TWICE,   /* the section has this path already; for a list, has it with no list */
+    DESK_WROTE_PATH,    /* no root, or no path of a bag: a name that is none, a reserved word, too long */
+    DESK_WROTE_VALUE    /* a string that is too long, or a number that is not finite */
+} DeskWrote;
+
+/* An empty bag, in at least 3 bytes. */
+DeskWrote desk_bag_begin(DeskBagWriter *w, void *bytes, size_t room);
+
+/* An attribute more, in any order. Each is looked up when it is written, so a path that the desk does not know never gets into the bag. Path and string lie outside the lent bytes. */
+DeskWrote desk_bag_string(DeskBagWriter *w, uint8_t root, DeskPath path, const void *string, size_t length);
+DeskWrote desk_bag_number(DeskBagWriter *w, uint8_t root, DeskPath path, double number);
+DeskWrote desk_bag_flag(DeskBagWriter *w, uint8_t root, DeskPath path, bool flag);
+
+/* A list without strings; then a string more at the end of a list that was begun. */
+DeskWrote desk_bag_list(DeskBagWriter *w, uint8_t root, DeskPath path);
+DeskWrote desk_bag_list_string(DeskBagWriter *w, uint8_t root, DeskPath path, const void *string, size_t length);
+
+/* The bag that was written. */
+static inline DeskBag desk_bag_written(const DeskBagWriter *w) { return desk_bag(w->bytes, w->length); }
+
+/* How many strings an attribute's list has; 0 for what is no list, and where the bytes are no bag. */
+size_t desk_list_length(DeskBag bag, uint8_t root, DeskPath path);
+
+/* Where a string of an attribute's list lies in the bag, the first at index 0; 0 and 0 where there is none. */
+DeskString desk_list_string(DeskBag bag, uint8_t root, DeskPath path, size_t index);
+
+#ifdef __cplusplus
+}
+#endif
+#endif

@@ -1,0 +1,36 @@
+//! The desk in a Rust program: what example.c does, over the declarations of desk.rs. It prints example.out. Built by embed/run, with libdesk.a, where rustc makes x86-64 programs.
+mod desk;
+
+const RULES: &[u8] = b"permit(principal is person, action, resource is shaft)\n  when { principal.grade >= 3 };\nforbid(principal, action in [\"teach\"], resource)\n  when { principal.hired != \"own\" };\n";
+const BAG: &[u8] = b"\x02\x05grade\x02\0\0\0\0\0\0\x08\x40\x05hired\x01\x03own\0\0";
+const QUESTION: &[u8] = b"\0\0\0\x02\x01\x05grade\x03\0\x02\0\0\0\0\0\0\x08\x40\x02\0\0\0\0\0\0\x04\x40\x01\x05hired\x03\0\x01\x03own\x01\x04loan";
+
+fn main() {
+    let mut table = [0u8; desk::TABLE_FOR_A_BYTE * RULES.len()];
+    let c = desk::compile(RULES, &mut table);
+    println!("compile: refusal {}, line {}, column {}, policies {}, bytes {}", c.refusal, c.line, c.column, c.policies, c.bytes);
+    let table = &table[..c.bytes];
+    println!("begins: {}", desk::begins(RULES, table) as u8);
+
+    let d = desk::decide(RULES, table, BAG, b"person:K7", b"teach", b"shaft:A");
+    println!("decide: refusal {}, outcome {}, policy {}", d.refusal, d.outcome, d.policy);
+    let v = desk::lookup(BAG, desk::ROOT_PRINCIPAL, b"grade");
+    println!("principal.grade: refusal {}, kind {}, number {}, place {}", v.refusal, v.kind, v.number, v.place);
+    let s = desk::string(BAG, desk::ROOT_PRINCIPAL, b"hired");
+    println!("principal.hired: \"{}\"", String::from_utf8_lossy(&BAG[s.start..s.start + s.length]));
+
+    let (rows, mut start, mut listed, mut pages) = (desk::rows(QUESTION), 0, 0, 0);
+    println!("rows {}", rows);
+    while start < rows {
+        let mut page = [0u8; desk::ROW_BYTES];
+        let p = desk::sheet(RULES, table, QUESTION, b"person:K7", b"teach", b"shaft:A", start, &mut page, 0);
+        assert_eq!(p.refusal, 0);
+        for row in page.chunks(desk::ROW_BYTES).take(p.written) {
+            println!("{} {} {}", u32::from_le_bytes([row[0], row[1], row[2], row[3]]), row[4], row[5]);
+        }
+        listed += p.written;
+        pages += 1;
+        start = p.next;
+    }
+    println!("allowed {} ({} pages)", listed, pages);
+}

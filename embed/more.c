@@ -1,0 +1,121 @@
+// What stands beside the archive, tried: the writer of bags, the reader of lists, the sentences. Prints how many checks were made; a check that fails is printed and ends it with
+// status 1. embed/run builds it also with the compiler's checks for memory and arithmetic.
+#include "desk_more.h"
+#include <stdio.h>
+#include <string.h>
+
+static int made, failed;
+static uint8_t room[5000];
+static DeskBagWriter w;
+
+static void check(int holds, const char *what) {
+    made++;
+    if (holds) return;
+    printf("FAILED: %s\n", what);
+    failed++;
+}
+#define CHECK(holds) check(holds, #holds)
+#define PATH(s) desk_path(DESK_WORDS(s))
+#define IS(literal) (w.length == sizeof(literal) - 1 && memcmp(w.bytes, literal, w.length) == 0)
+
+// Written in another order than they stand in the bag; docs/BAGS.md has these bytes.
+static void in_any_order(void) {
+    CHECK(desk_bag_begin(&w, room, sizeof room) == DESK_WROTE);
+    CHECK(IS("\0\0\0"));
+    CHECK(desk_bag_number(&w, DESK_ROOT_ENV, PATH("hour"), 7.5) == DESK_WROTE);
+    CHECK(desk_bag_list(&w, DESK_ROOT_PRINCIPAL, PATH("trained")) == DESK_WROTE);
+    CHECK(desk_bag_flag(&w, DESK_ROOT_PRINCIPAL, PATH("lead"), true) == DESK_WROTE);
+    CHECK(desk_bag_list_string(&w, DESK_ROOT_PRINCIPAL, PATH("trained"), DESK_WORDS("car")) == DESK_WROTE);
+    CHECK(desk_bag_string(&w, DESK_ROOT_PRINCIPAL, PATH("hired"), DESK_WORDS("own")) == DESK_WROTE);
+    CHECK(desk_bag_list_string(&w, DESK_ROOT_PRINCIPAL, PATH("trained"), DESK_WORDS("door")) == DESK_WROTE);
+    CHECK(desk_bag_number(&w, DESK_ROOT_PRINCIPAL, PATH("grade"), 3) == DESK_WROTE);
+    CHECK(IS("\4\5grade\2\0\0\0\0\0\0\x08\x40\5hired\1\3own\4lead\3\1\7trained\4\2\3car\4door\0\1\4hour\2\0\0\0\0\0\0\x1E\x40"));
+}
+
+static void lists(void) {
+    DeskBag bag = desk_bag_written(&w);
+    CHECK(desk_list_length(bag, DESK_ROOT_PRINCIPAL, PATH("trained")) == 2);
+    DeskString s = desk_list_string(bag, DESK_ROOT_PRINCIPAL, PATH("trained"), 1);
+    CHECK(s.length == 4 && memcmp(bag.bytes + s.start, "door", 4) == 0);
+    s = desk_list_string(bag, DESK_ROOT_PRINCIPAL, PATH("trained"), 0);
+    CHECK(s.length == 3 && memcmp(bag.bytes + s.start, "car", 3) == 0);
+    s = desk_list_string(bag, DESK_ROOT_PRINCIPAL, PATH("trained"), 2);
+    CHECK(s.start == 0 && s.length == 0);
+    CHECK(desk_list_length(bag, DESK_ROOT_PRINCIPAL, PATH("hired")) == 0);
+    CHECK(desk_list_length(bag, DESK_ROOT_PRINCIPAL, PATH("none")) == 0);
+    CHECK(desk_list_length(desk_bag(DESK_WORDS("\1")), DESK_ROOT_PRINCIPAL, PATH("trained")) == 0);
+    CHECK(desk_list_string(bag, DESK_ROOT_PRINCIPAL, PATH("hired"), 0).start == 0);
+}
+
+// What the writer refuses, and that the bag stays as it was.
+static void refused(void) {
+    static uint8_t before[sizeof room];
+    static const char long_string[DESK_MOST_STRING + 1];
+    size_t length = w.length;
+    memcpy(before, w.bytes, sizeof before);
+    double infinite = 1e308;
+    infinite *= 10;
+    CHECK(desk_bag_flag(&w, DESK_ROOT_PRINCIPAL, PATH("lead"), false) == DESK_WROTE_TWICE);
+    CHECK(desk_bag_list_string(&w, DESK_ROOT_PRINCIPAL, PATH("lead"), DESK_WORDS("x")) == DESK_WROTE_TWICE);
+    CHECK(desk_bag_list_string(&w, DESK_ROOT_PRINCIPAL, PATH("none"), DESK_WORDS("x")) == DESK_WROTE_PATH);
+    CHECK(desk_bag_flag(&w, 0, PATH("a"), false) == DESK_WROTE_PATH);
+    CHECK(desk_bag_flag(&w, 4, PATH("a"), false) == DESK_WROTE_PATH);
+    CHECK(desk_bag_flag(&w, DESK_ROOT_ENV, PATH(""), false) == DESK_WROTE_PATH);
+    CHECK(desk_bag_flag(&w, DESK_ROOT_RESOURCE, PATH("if"), false) == DESK_WROTE_PATH);
+    CHECK(desk_bag_flag(&w, DESK_ROOT_PRINCIPAL, PATH("a..b"), false) == DESK_WROTE_PATH);
+    CHECK(desk_bag_string(&w, DESK_ROOT_PRINCIPAL, PATH("z b"), DESK_WORDS("x")) == DESK_WROTE_PATH);
+    CHECK(desk_bag_flag(&w, DESK_ROOT_ENV, PATH("aword-that-goes-on-for-more-bytes-than-a-path-may-have-0123456789"), true) == DESK_WROTE_PATH);
+    CHECK(desk_bag_string(&w, DESK_ROOT_ENV, PATH("a"), long_string, sizeof long_string) == DESK_WROTE_VALUE);
+    CHECK(desk_bag_list_string(&w, DESK_ROOT_PRINCIPAL, PATH("trained"), long_string, sizeof long_string) == DESK_WROTE_VALUE);
+    CHECK(desk_bag_number(&w, DESK_ROOT_ENV, PATH("a"), infinite) == DESK_WROTE_VALUE);
+    CHECK(desk_bag_number(&w, DESK_ROOT_ENV, PATH("a"), infinite - infinite) == DESK_WROTE_VALUE);
+    w.room = w.length + 3;
+    CHECK(desk_bag_flag(&w, DESK_ROOT_ENV, PATH("a"), true) == DESK_WROTE_NO_ROOM);
+    CHECK(desk_bag_list_string(&w, DESK_ROOT_PRINCIPAL, PATH("trained"), DESK_WORDS("abc")) == DESK_WROTE_NO_ROOM);
+    w.room = sizeof room;
+    CHECK(w.length == length && memcmp(w.bytes, before, length) == 0);
+    CHECK(desk_bag_begin(&w, room, 2) == DESK_WROTE_NO_ROOM);
+}
+
+// Up to the sizes of a bag, in memory of just so many bytes: the last attribute that does not fit is refused.
+static void filled(void) {
+    static uint8_t most[DESK_MOST_BAG + 100];
+    char path[3] = "aa";
+    CHECK(desk_bag_begin(&w, most, sizeof most) == DESK_WROTE);
+    for (int i = 0; i < (int)DESK_MOST_ENTRIES; i++, path[1]++) {
+        if (path[1] > 'z') path[0]++, path[1] = 'a';
+        CHECK(desk_bag_string(&w, DESK_ROOT_RESOURCE, desk_path(path, 2), most, 115) == DESK_WROTE);
+    }
+    CHECK(desk_bag_flag(&w, DESK_ROOT_RESOURCE, PATH("b"), true) == DESK_WROTE_MANY);
+    CHECK(w.length == 3 + 32 * 120);
+    CHECK(desk_bag_list(&w, DESK_ROOT_ENV, PATH("l")) == DESK_WROTE);
+    for (int i = 0; i < (int)DESK_MOST_STRINGS; i++) CHECK(desk_bag_list_string(&w, DESK_ROOT_ENV, PATH("l"), most, 8) == DESK_WROTE);
+    CHECK(desk_bag_list_string(&w, DESK_ROOT_ENV, PATH("l"), most, 0) == DESK_WROTE_MANY);
+    CHECK(w.length == 3 + 32 * 120 + 5 - 1 + 16 * 9);
+    CHECK(desk_bag_string(&w, DESK_ROOT_PRINCIPAL, PATH("s"), most, DESK_MOST_BAG - w.length - 3) == DESK_WROTE_NO_ROOM);
+    CHECK(desk_bag_string(&w, DESK_ROOT_PRINCIPAL, PATH("s"), most, DESK_MOST_BAG - w.length - 4) == DESK_WROTE);
+    CHECK(w.length == DESK_MOST_BAG && desk_lookup_of(desk_bag_written(&w), DESK_ROOT_RESOURCE, PATH("aa")).kind == DESK_KIND_STRING);
+}
+
+// A sentence for each refusal, no two alike.
+static void sentences(void) {
+    int different = 0, there = 0;
+    for (unsigned r = DESK_REFUSED_LONG_TEXT; r <= DESK_REFUSED_START; r++) {
+        bool is = r <= DESK_REFUSED_LONG_PATH || r >= DESK_REFUSED_OTHER_TABLE;
+        there += is == (strcmp(desk_message(r), desk_message(99)) != 0);
+        for (unsigned s = DESK_REFUSED_LONG_TEXT; s < r; s++) different += strcmp(desk_message(r), desk_message(s)) != 0;
+    }
+    CHECK(there == 26);
+    CHECK(different == 26 * 25 / 2 - 3); // 17, 18 and 19 are no refusals
+    CHECK(strcmp(desk_message(DESK_REFUSED_COLON), "A colon stands outside a string.") == 0);
+}
+
+int main(void) {
+    in_any_order();
+    lists();
+    refused();
+    filled();
+    sentences();
+    printf("%d checks, %d failed\n", made, failed);
+    return failed != 0;
+}

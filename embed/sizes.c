@@ -1,0 +1,204 @@
+// Each constant of desk.h held to the desk: a size passes at its number and not one above, an outcome, a root and a kind are answered where they must be. Prints how many checks were
+// made; a check that fails is printed and ends it with status 1. (The refusals by their names are refused.c's; what stands in texts, embed/rules.c has.)
+#include "desk.h"
+#include <stdio.h>
+#include <string.h>
+
+#define LENT(s) (const uint8_t *)(s), sizeof(s) - 1
+#define P "permit(principal,action,resource)"
+
+static int made, failed;
+static uint8_t built[1 << 16], table[DESK_TABLE_FOR_A_BYTE * (DESK_MOST_TEXT + 1)];
+static size_t length;
+
+static void check(int holds, const char *what) {
+    made++;
+    if (holds) return;
+    printf("FAILED: %s\n", what);
+    failed++;
+}
+#define CHECK(holds) check(holds, #holds)
+
+// ---- building
+
+static void begin(void) { length = 0; }
+static void byte(unsigned b) { built[length++] = (uint8_t)b; }
+static void put(const char *s) {
+    memcpy(built + length, s, strlen(s));
+    length += strlen(s);
+}
+static void times(size_t n, const char *s) {
+    while (n-- > 0) put(s);
+}
+
+// ---- texts
+
+static unsigned compiled(void) { return desk_compile(built, length, table, sizeof table).refusal; }
+
+// The refusal of the policy whose condition is `before`, n times `part`, and `after`.
+static unsigned condition(const char *before, size_t n, const char *part, const char *after) {
+    begin();
+    put(P "when{");
+    put(before);
+    times(n, part);
+    put(after);
+    put("};");
+    return compiled();
+}
+
+static unsigned nested(size_t levels) {
+    begin();
+    put(P "when{");
+    times(levels - 1, "(");
+    put("true");
+    times(levels - 1, ")");
+    put("};");
+    return compiled();
+}
+
+static unsigned repeated(size_t n, const char *part) {
+    begin();
+    times(n, part);
+    return compiled();
+}
+
+static void texts(void) {
+    CHECK(repeated(DESK_MOST_TEXT, " ") == 0);
+    CHECK(repeated(DESK_MOST_TEXT + 1, " ") == DESK_REFUSED_LONG_TEXT);
+    CHECK(desk_compile(LENT(P ";"), table, DESK_TABLE_FOR_A_BYTE * 34).refusal == 0);
+    CHECK(desk_compile(LENT(P ";"), table, DESK_TABLE_FOR_A_BYTE * 34 - 1).refusal == DESK_REFUSED_SMALL_TABLE);
+    CHECK(repeated(DESK_MOST_POLICIES, P ";") == 0);
+    CHECK(repeated(DESK_MOST_POLICIES + 1, P ";") == DESK_REFUSED_MANY_POLICIES);
+    CHECK(condition("principal.", DESK_MOST_WORD, "a", "==1") == 0);
+    CHECK(condition("principal.", DESK_MOST_WORD + 1, "a", "==1") == DESK_REFUSED_LONG_TOKEN);
+    CHECK(condition("principal.", (DESK_MOST_PATH - 2) / 2, "a.", "aa==1") == 0);
+    CHECK(condition("principal.", (DESK_MOST_PATH - 2) / 2, "a.", "aaa==1") == DESK_REFUSED_LONG_PATH);
+    CHECK(condition("1==\"", DESK_MOST_TEXT_STRING, "a", "\"") == 0);
+    CHECK(condition("1==\"", DESK_MOST_TEXT_STRING + 1, "a", "\"") == DESK_REFUSED_LONG_TOKEN);
+    CHECK(condition("1==", DESK_MOST_DIGITS, "1", "") == 0);
+    CHECK(condition("1==", DESK_MOST_DIGITS + 1, "1", "") == DESK_REFUSED_LONG_TOKEN);
+    CHECK(condition("1 in [1", DESK_MOST_LITERALS - 1, ",1", "]") == 0);
+    CHECK(condition("1 in [1", DESK_MOST_LITERALS, ",1", "]") == DESK_REFUSED_MANY_LITERALS);
+    CHECK(condition("1 like \"", DESK_MOST_PATTERN, "a", "\"") == 0);
+    CHECK(condition("1 like \"", DESK_MOST_PATTERN + 1, "a", "\"") == DESK_REFUSED_PATTERN);
+    CHECK(condition("1 like \"", DESK_MOST_WILDCARDS, "*a", "\"") == 0);
+    CHECK(condition("1 like \"", DESK_MOST_WILDCARDS + 1, "*a", "\"") == DESK_REFUSED_PATTERN);
+    CHECK(nested(DESK_MOST_LEVELS) == 0);
+    CHECK(nested(DESK_MOST_LEVELS + 1) == DESK_REFUSED_DEPTH);
+}
+
+// ---- bags and questions
+
+static int is_bag(void) { return desk_lookup(built, length, DESK_ROOT_PRINCIPAL, NULL, 0).refusal != DESK_REFUSED_BAG; }
+
+// A bag with entries of one flag each.
+static int entries(size_t n) {
+    begin();
+    byte((unsigned)n);
+    for (size_t i = 0; i < n; i++) byte(2), byte('a' + (unsigned)i / 26), byte('a' + (unsigned)i % 26), byte(DESK_KIND_FLAG), byte(1);
+    byte(0), byte(0);
+    return is_bag();
+}
+
+// A bag with a list of so many strings, each of so many bytes.
+static int list(size_t strings, size_t bytes) {
+    begin();
+    byte(1), byte(1), byte('a'), byte(DESK_KIND_LIST), byte((unsigned)strings);
+    while (strings-- > 0) byte((unsigned)bytes), times(bytes, "x");
+    byte(0), byte(0);
+    return is_bag();
+}
+
+// Whether so many bytes are a bag: two lists of 16 strings, and a third that fills it up; -1 if there are not so many.
+static int of_bytes(size_t bytes) {
+    begin();
+    byte(3);
+    for (unsigned i = 0; i < 3; i++) {
+        size_t strings = i < 2 ? DESK_MOST_STRINGS : 1;
+        byte(1), byte('a' + i), byte(DESK_KIND_LIST);
+        size_t count = length;
+        byte((unsigned)strings);
+        if (i < 2) {
+            while (strings-- > 0) byte(120), times(120, "x");
+            continue;
+        }
+        for (built[count] = 0; length + 2 < bytes; built[count]++) {
+            size_t left = bytes - length - 3;
+            size_t some = left > DESK_MOST_STRING ? DESK_MOST_STRING - 27 : left;
+            byte((unsigned)some), times(some, "x");
+        }
+    }
+    byte(0), byte(0);
+    return length == bytes ? is_bag() : -1;
+}
+
+static size_t columns(size_t n, size_t candidates) {
+    begin();
+    byte(0), byte(0), byte(0), byte((unsigned)n);
+    for (size_t i = 0; i < n; i++) {
+        byte(DESK_ROOT_ENV), byte(1), byte('a' + (unsigned)i), byte((unsigned)candidates);
+        for (size_t c = 0; c < candidates; c++) byte(DESK_KIND_STRING), byte(1), byte('a' + (unsigned)c);
+    }
+    return desk_rows(built, length);
+}
+
+static void bags(void) {
+    CHECK(entries(DESK_MOST_ENTRIES));
+    CHECK(!entries(DESK_MOST_ENTRIES + 1));
+    CHECK(list(1, DESK_MOST_STRING));
+    CHECK(!list(1, DESK_MOST_STRING + 1));
+    CHECK(list(DESK_MOST_STRINGS, 1));
+    CHECK(!list(DESK_MOST_STRINGS + 1, 1));
+    CHECK(of_bytes(DESK_MOST_BAG) == 1);
+    CHECK(of_bytes(DESK_MOST_BAG + 1) == 0);
+    CHECK(columns(DESK_MOST_COLUMNS, 2) == 64);
+    CHECK(columns(DESK_MOST_COLUMNS + 1, 1) == 0);
+    CHECK(columns(1, DESK_MOST_CANDIDATES) == DESK_MOST_CANDIDATES);
+    CHECK(columns(1, DESK_MOST_CANDIDATES + 1) == 0);
+}
+
+// ---- requests, outcomes, roots, kinds
+
+static DeskDecision decided(const char *text, const char *subject) {
+    size_t used = desk_compile((const uint8_t *)text, strlen(text), table, sizeof table).bytes;
+    return desk_decide((const uint8_t *)text, strlen(text), table, used, LENT("\0\0\0"), (const uint8_t *)subject, strlen(subject), LENT("teach"), LENT("shaft:A"));
+}
+
+static unsigned asked_by(size_t bytes) {
+    static char subject[200];
+    memset(subject, 'x', sizeof subject);
+    memcpy(subject, "tool:", 5);
+    return desk_decide(NULL, 0, NULL, 0, LENT("\0\0\0"), (const uint8_t *)subject, bytes, LENT("teach"), LENT("shaft:A")).refusal;
+}
+
+static unsigned kind(unsigned root, const char *path) {
+    static const char bag[] = "\4\1" "a" "\1\0" "\1" "b" "\2\0\0\0\0\0\0\0\0" "\1" "c" "\3\1" "\1" "d" "\4\0" "\1\1" "e" "\3\1" "\1\1" "f" "\3\1";
+    return desk_lookup(LENT(bag), (uint8_t)root, (const uint8_t *)path, 1).kind;
+}
+
+static void answers(void) {
+    static uint8_t sheet[DESK_ROW_BYTES];
+    CHECK(decided(P ";", "tool:1").outcome == DESK_ALLOWED);
+    CHECK(decided("forbid(principal,action,resource);", "tool:1").outcome == DESK_FORBIDDEN);
+    CHECK(decided("", "tool:1").outcome == DESK_NOTHING_SATISFIED);
+    CHECK(decided("", "system").outcome == DESK_SYSTEM);
+    CHECK(asked_by(DESK_MOST_REQUEST_PART) == 0);
+    CHECK(asked_by(DESK_MOST_REQUEST_PART + 1) == DESK_REFUSED_SUBJECT);
+    CHECK(kind(DESK_ROOT_PRINCIPAL, "a") == DESK_KIND_STRING);
+    CHECK(kind(DESK_ROOT_PRINCIPAL, "b") == DESK_KIND_NUMBER);
+    CHECK(kind(DESK_ROOT_PRINCIPAL, "c") == DESK_KIND_FLAG);
+    CHECK(kind(DESK_ROOT_PRINCIPAL, "d") == DESK_KIND_LIST);
+    CHECK(kind(DESK_ROOT_PRINCIPAL, "e") == DESK_KIND_ABSENT);
+    CHECK(kind(DESK_ROOT_RESOURCE, "e") == DESK_KIND_FLAG);
+    CHECK(kind(DESK_ROOT_ENV, "f") == DESK_KIND_FLAG);
+    CHECK(desk_sheet(NULL, 0, NULL, 0, LENT("\0\0\0\0"), LENT("system"), NULL, 0, NULL, 0, 0, sheet, DESK_ROW_BYTES, 0).written == 1);
+    CHECK(desk_sheet(NULL, 0, NULL, 0, LENT("\0\0\0\0"), LENT("system"), NULL, 0, NULL, 0, 0, sheet, DESK_ROW_BYTES - 1, 0).refusal == DESK_REFUSED_SHEET_ROOM);
+}
+
+int main(void) {
+    texts();
+    bags();
+    answers();
+    printf("%d checks, %d failed\n", made, failed);
+    return failed != 0;
+}

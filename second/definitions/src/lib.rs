@@ -1,0 +1,14 @@
+//! Document 01 in ordinary Rust, written from the documents alone: what the second program and the tool for people share.
+
+pub mod asking;
+pub mod bags;
+pub mod compile;
+pub mod deciding;
+pub mod numbers;
+pub mod patterns;
+pub mod plans;
+pub mod policies;
+pub mod questions;
+pub mod sheets;
+pub mod table;
+pub mod tokens;

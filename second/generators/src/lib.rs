@@ -1,0 +1,11 @@
+//! Random inputs from a seed, valid ones and others, and the inputs that every seed has.
+
+pub mod bag_bytes;
+pub mod condition_texts;
+pub mod damaged_texts;
+pub mod examples;
+pub mod literals;
+pub mod policy_texts;
+pub mod random;
+pub mod requests;
+pub mod rich_bags;

@@ -1,0 +1,242 @@
+//! The proved programs' answers: every yes, no and refusal that is shown comes from here.
+
+use std::env;
+use std::fs;
+use std::path::PathBuf;
+use std::process::{self, Command, Stdio};
+use std::sync::atomic::{AtomicUsize, Ordering};
+
+use definitions::asking::{self, Case};
+
+use crate::command::{not_asked, Done};
+
+/// Who answers: the proved programs, or in tests a stand-in.
+pub trait Answers {
+    /// What the sheet program prints for these three files.
+    fn sheet(&self, text: &[u8], question: &[u8], request: &[u8]) -> Done<String>;
+    /// What `ask check` prints.
+    fn check(&self, text: &[u8]) -> Done<String>;
+    /// What `ask decide` prints for these cases.
+    fn decide(&self, text: &[u8], cases: &[Case]) -> Done<String>;
+}
+
+/// The variable that names the program which runs the proved programs: `./desk` sets it.
+const RUNNER: &str = "DESK_PROVED";
+
+/// The variable that names a folder for one command: `./desk` makes and removes it.
+const WORK: &str = "DESK_WORK";
+
+/// The proved programs, each run in a folder of its own that has only its files.
+pub struct Programs;
+
+impl Programs {
+    fn run(&self, words: &[&str], files: &[(&str, &[u8])]) -> Done<String> {
+        let runner = match env::var_os(RUNNER) {
+            Some(runner) => runner,
+            None => {
+                return not_asked(
+                    "no answer could be had: this program is started by ./desk, which knows the proved programs",
+                )
+            }
+        };
+        let folder = Folder::new()?;
+        for (name, bytes) in files {
+            let path = folder.0.join(name);
+            if let Err(error) = fs::write(&path, bytes) {
+                return not_asked(format!("{} cannot be written: {}", path.display(), error));
+            }
+        }
+        let run = Command::new(&runner)
+            .args(words)
+            .current_dir(&folder.0)
+            .stdin(Stdio::null())
+            .stderr(Stdio::inherit())
+            .output();
+        match run {
+            Err(error) => not_asked(format!("{} cannot be run: {}", runner.to_string_lossy(), error)),
+            Ok(output) if output.stdout.is_empty() && !output.status.success() => {
+                not_asked(format!("the proved program {} gave no answer", words[0]))
+            }
+            Ok(output) => Ok(String::from_utf8_lossy(&output.stdout).into_owned()),
+        }
+    }
+}
+
+impl Answers for Programs {
+    fn sheet(&self, text: &[u8], question: &[u8], request: &[u8]) -> Done<String> {
+        self.run(&["sheet"], &[("policy.txt", text), ("question.bin", question), ("request.txt", request)])
+    }
+
+    fn check(&self, text: &[u8]) -> Done<String> {
+        self.run(&["ask", "check"], &[("policy.txt", text)])
+    }
+
+    fn decide(&self, text: &[u8], cases: &[Case]) -> Done<String> {
+        let bytes: Vec<u8> = cases.iter().flat_map(Case::bytes).collect();
+        self.run(&["ask", "decide"], &[("policy.txt", text), ("cases.bin", &bytes)])
+    }
+}
+
+/// A folder for one run, which is removed with its files.
+struct Folder(PathBuf);
+
+impl Folder {
+    fn new() -> Done<Folder> {
+        static NEXT: AtomicUsize = AtomicUsize::new(0);
+        let name = format!("desk-{}-{}", process::id(), NEXT.fetch_add(1, Ordering::Relaxed));
+        let path = env::var_os(WORK).map_or_else(env::temp_dir, PathBuf::from).join(name);
+        match fs::create_dir(&path) {
+            Ok(()) => Ok(Folder(path)),
+            Err(error) => not_asked(format!("{} cannot be made: {}", path.display(), error)),
+        }
+    }
+}
+
+impl Drop for Folder {
+    fn drop(&mut self) {
+        let _ = fs::remove_dir_all(&self.0);
+    }
+}
+
+/// A refusal: its number, and its line and column, which are 0 where it has no place.
+#[derive(Clone, Copy, PartialEq, Eq, Debug)]
+pub struct Refused {
+    pub number: usize,
+    pub line: usize,
+    pub column: usize,
+}
+
+/// What is decided of a case.
+#[derive(Clone, Copy, PartialEq, Eq, Debug)]
+pub enum Answer {
+    Decided { outcome: usize, policy: usize },
+    Refused(Refused),
+}
+
+/// A line of numbers after a word.
+fn numbers<const N: usize>(line: &str, word: &str) -> Option<[usize; N]> {
+    let rest = line.strip_prefix(word)?.strip_prefix(' ')?;
+    let numbers: Option<Vec<usize>> = rest.split(' ').map(|number| number.parse().ok()).collect();
+    numbers?.try_into().ok()
+}
+
+/// The refusal that a line says.
+pub fn read_refused(line: &str) -> Option<Refused> {
+    numbers(line, "refused").map(|[number, line, column]| Refused { number, line, column })
+}
+
+fn read_answer(line: &str) -> Option<Answer> {
+    let decided = numbers(line, "decided").map(|[outcome, policy]| Answer::Decided { outcome, policy });
+    decided.or_else(|| read_refused(line).map(Answer::Refused))
+}
+
+/// The answers must be those that the explaining program expects: what is shown beside them is its own.
+fn hold(printed: &str, own: &str) -> Done<()> {
+    if printed == own {
+        return Ok(());
+    }
+    let first = printed.lines().zip(own.lines()).find(|(proved, own)| proved != own);
+    let (proved, own) = first.unwrap_or((printed.trim_end(), own.trim_end()));
+    not_asked(format!(
+        "the proved program answers '{}', and what explains it '{}': one of them is wrong, so nothing is shown",
+        proved, own
+    ))
+}
+
+/// How many policies a text has, or its refusal.
+pub fn check(desk: &dyn Answers, text: &[u8]) -> Done<Result<usize, Refused>> {
+    let printed = desk.check(text)?;
+    hold(&printed, &asking::printed_check(text))?;
+    let line = printed.trim_end();
+    match (numbers(line, "compiled").map(|[policies, _]| policies), read_refused(line)) {
+        (Some(policies), _) => Ok(Ok(policies)),
+        (None, Some(refused)) => Ok(Err(refused)),
+        _ => not_asked(format!("ask check printed '{}', which is no answer", line)),
+    }
+}
+
+/// The most cases that are asked at once, and their most bytes: as many as `ask` reads.
+const MOST_CASES: usize = 2_000;
+const MOST_BYTES: usize = 131_072;
+
+/// The lowest number of a refusal that is of a case and not of the text.
+const FIRST_OF_CASES: usize = 20;
+
+/// What is decided of each case, or the text's refusal.
+pub fn decide(desk: &dyn Answers, text: &[u8], cases: &[Case]) -> Done<Result<Vec<Answer>, Refused>> {
+    let mut answers = Vec::new();
+    let mut rest = cases;
+    while !rest.is_empty() {
+        let mut bytes = 0;
+        let fits = rest.iter().take(MOST_CASES).take_while(|case| {
+            bytes += case.bytes().len();
+            bytes <= MOST_BYTES
+        });
+        let (now, later) = rest.split_at(fits.count().max(1));
+        let printed = desk.decide(text, now)?;
+        hold(&printed, &asking::printed_decide(text, now))?;
+        if let Some(refused) = read_refused(printed.trim_end()).filter(|refused| refused.number < FIRST_OF_CASES) {
+            return Ok(Err(refused));
+        }
+        let read: Option<Vec<Answer>> = printed.lines().map(read_answer).collect();
+        match read {
+            Some(read) if read.len() == now.len() => answers.extend(read),
+            _ => return not_asked(format!("ask decide printed '{}', which is no answer", printed.trim_end())),
+        }
+        rest = later;
+    }
+    Ok(Ok(answers))
+}
+
+#[cfg(test)]
+pub mod tests {
+    use super::*;
+    use definitions::sheets::printed;
+
+    /// Answers as the proved programs do, by the shared definitions.
+    pub struct StandIn;
+
+    impl Answers for StandIn {
+        fn sheet(&self, text: &[u8], question: &[u8], request: &[u8]) -> Done<String> {
+            Ok(printed(text, question, request, 6_000))
+        }
+
+        fn check(&self, text: &[u8]) -> Done<String> {
+            Ok(asking::printed_check(text))
+        }
+
+        fn decide(&self, text: &[u8], cases: &[Case]) -> Done<String> {
+            Ok(asking::printed_decide(text, cases))
+        }
+    }
+
+    /// Answers always the same.
+    struct Wrong(&'static str);
+
+    impl Answers for Wrong {
+        fn sheet(&self, _: &[u8], _: &[u8], _: &[u8]) -> Done<String> {
+            Ok(self.0.to_string())
+        }
+
+        fn check(&self, _: &[u8]) -> Done<String> {
+            Ok(self.0.to_string())
+        }
+
+        fn decide(&self, _: &[u8], _: &[Case]) -> Done<String> {
+            Ok(self.0.to_string())
+        }
+    }
+
+    #[test]
+    fn a_difference_is_an_error() {
+        let text = b"permit(principal,action,resource);";
+        let case = Case { request: [b"tool:1".to_vec(), b"a".to_vec(), b"shaft:1".to_vec()], bag: vec![0, 0, 0] };
+        assert_eq!(check(&StandIn, text), Ok(Ok(1)));
+        assert_eq!(decide(&StandIn, text, &[case.clone()]), Ok(Ok(vec![Answer::Decided { outcome: 1, policy: 1 }])));
+        assert_eq!(decide(&StandIn, b":", &[case.clone()]), Ok(Err(Refused { number: 4, line: 1, column: 1 })));
+        for wrong in ["", "compiled 2 20\n", "refused 10 1 1\n", "decided 1 2\n", "decided 1 1\ndecided 1 1\n"] {
+            assert!(check(&Wrong(wrong), text).is_err(), "{}", wrong);
+            assert!(decide(&Wrong(wrong), text, &[case.clone()]).is_err(), "{}", wrong);
+        }
+    }
+}

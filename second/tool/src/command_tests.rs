@@ -1,0 +1,476 @@
+//! Tests of whole commands, answered by a stand-in: mistakes and their messages, exit statuses, what is said of the examples.
+
+use std::fs;
+use std::path::{Path, PathBuf};
+use std::sync::atomic::{AtomicUsize, Ordering};
+
+use crate::answers::tests::StandIn;
+use crate::command::Said;
+use crate::{documented, failed, run};
+
+/// A folder of its own for one test.
+struct Folder(PathBuf);
+
+impl Folder {
+    fn new(files: &[(&str, &str)]) -> Folder {
+        static NEXT: AtomicUsize = AtomicUsize::new(0);
+        let name = format!("desk-test-{}-{}", std::process::id(), NEXT.fetch_add(1, Ordering::Relaxed));
+        let path = std::env::temp_dir().join(name);
+        fs::create_dir(&path).unwrap();
+        for (name, text) in files {
+            fs::write(path.join(name), text).unwrap();
+        }
+        Folder(path)
+    }
+
+    fn path(&self, name: &str) -> String {
+        self.0.join(name).to_string_lossy().into_owned()
+    }
+
+    /// The command with the folder's files in place of words that begin with `@`; `@` alone is the folder.
+    fn says(&self, words: &[&str]) -> Said {
+        let words: Vec<String> = words
+            .iter()
+            .map(|word| match word.strip_prefix('@') {
+                Some("") => self.0.to_string_lossy().into_owned(),
+                Some(name) => self.path(name),
+                None => word.to_string(),
+            })
+            .collect();
+        let words: Vec<&str> = words.iter().map(String::as_str).collect();
+        run(&StandIn, &words).unwrap_or_else(|failure| failed(&words, failure))
+    }
+}
+
+impl Drop for Folder {
+    fn drop(&mut self) {
+        let _ = fs::remove_dir_all(&self.0);
+    }
+}
+
+const RULES: &str = "permit(principal is person, action, resource is shaft)\n  when { principal.grade >= 3 };\n\
+    forbid(principal, action in [\"teach\"], resource)\n  when { principal.hired != \"own\" };\n";
+const REQUEST: &str = "subject = \"person:K7\"\naction = \"teach\"\nresource = \"shaft:A\"\n";
+const COLUMNS: &str =
+    "column principal.grade = absent | 3 | 2.5\ncolumn principal.hired = absent | \"own\" | \"loan\"\n";
+
+fn with_question(rules: &str, question: &str) -> Folder {
+    Folder::new(&[("policy.txt", rules), ("question.txt", question)])
+}
+
+/// The folder of document 01's example.
+fn worked() -> Folder {
+    with_question(RULES, &[REQUEST, COLUMNS].concat())
+}
+
+/// All that a command says.
+fn all(said: &Said) -> String {
+    format!("{}{}", said.out, said.warnings.join("\n"))
+}
+
+#[test]
+fn every_command_has_help() {
+    let folder = worked();
+    for command in &crate::help::COMMANDS {
+        for words in [&[command.name, "--help"][..], &["help", command.name], &[command.name, "x", "-h"]] {
+            let said = folder.says(words);
+            assert_eq!(said.status, 0);
+            assert!(said.out.starts_with(&format!("usage: ./desk {} ", command.name)), "{}", said.out);
+            assert!(said.out.contains("Exit status: 0 answered; 1 refused"));
+        }
+    }
+    for words in [&["--help"][..], &["-h"], &["help"]] {
+        assert!(folder.says(words).out.contains("  explain  why a row"));
+    }
+}
+
+#[test]
+fn the_worked_example_is_answered() {
+    let folder = worked();
+    let said = folder.says(&["sheet", "@"]);
+    assert_eq!((said.out.as_str(), said.status), ("rows 9\n3 1 1\n4 1 1\nallowed 2\n", 0));
+    assert!(said.warnings.is_empty(), "{:?}", said.warnings);
+    assert_eq!(folder.says(&["sheet", "@question.txt"]).out, said.out);
+    let table = folder.says(&["sheet", "@", "--table"]).out;
+    assert!(table.contains("policy 2 in line 3 would forbid,"), "{}", table);
+    let explained = folder.says(&["explain", "@", "--row", "3"]);
+    assert!(explained.out.contains("!! disarmed: it could forbid if principal.hired were there"), "{}", explained.out);
+    assert_eq!(
+        folder.says(&["check", "@"]).out,
+        format!("{}: 2 policies, 1 permit and 1 forbid.\n", folder.path("policy.txt"))
+    );
+    let page = folder.path("page.html");
+    let said = folder.says(&["sheet", "@", "--html", "@page.html", "--forbidden"]);
+    assert_eq!((said.out.as_str(), said.status), ("", 0));
+    assert!(fs::read_to_string(page).unwrap().contains("Rows that are not allowed"));
+}
+
+#[test]
+fn wrong_words_are_said_with_the_usage() {
+    let folder = worked();
+    for (words, what) in [
+        (&[][..], "which command?\nusage: ./desk COMMAND .."),
+        (&["shet", "@"], "there is no command shet\nusage: ./desk COMMAND .."),
+        (&["sheet"], "a name is missing; usage: ./desk sheet WHERE"),
+        (&["sheet", "@", "@"], "too many names; usage: ./desk sheet"),
+        (&["sheet", "@", "--tabel"], "unknown option --tabel; usage: ./desk sheet"),
+        (&["sheet", "@", "--html"], "--html needs the name of the file to write"),
+        (&["sheet", "@", "--rules"], "--rules needs the name of a rule text"),
+        (&["explain", "@", "--row", "three"], "--row needs the number of a row, from 0"),
+        (&["diff", "@policy.txt", "@"], "a name is missing; usage: ./desk diff BEFORE AFTER WHERE"),
+        (&["check", "@", "--table"], "unknown option --table; usage: ./desk check RULES"),
+    ] {
+        let said = folder.says(words);
+        assert_eq!(said.status, 2, "{:?}", words);
+        assert!(all(&said).contains(what), "{}", all(&said));
+    }
+}
+
+#[test]
+fn files_that_are_not_as_they_must_be() {
+    let question = [REQUEST, COLUMNS].concat();
+    let folder = Folder::new(&[("question.txt", &question)]);
+    let said = folder.says(&["sheet", "@"]);
+    assert_eq!(said.status, 2);
+    assert!(
+        all(&said).ends_with("policy.txt: the rules are read from it, or from the file after --rules"),
+        "{}",
+        all(&said)
+    );
+    // A folder in a file's place.
+    fs::create_dir(folder.path("policy.txt")).unwrap();
+    assert!(all(&folder.says(&["sheet", "@"])).ends_with("policy.txt is a folder; a file is needed here"));
+    for (files, words, what) in [
+        (&[("policy.txt", RULES)][..], &["sheet", "@"][..], "write the question as text into"),
+        (&[("policy.txt", RULES)], &["sheet", "@no.txt"], "there is no"),
+        (
+            &[("policy.txt", RULES), ("question.txt", COLUMNS)],
+            &["sheet", "@"],
+            "request.txt: say subject = \"..\", action",
+        ),
+        (
+            &[("policy.txt", RULES), ("question.txt", "subject = \"tool:1\"")],
+            &["sheet", "@"],
+            "says no action: a line action = \"..\" is missing",
+        ),
+        (
+            &[("policy.txt", RULES), ("question.txt", "env.a: 3")],
+            &["sheet", "@"],
+            "question.txt:1:6: expected = and a value after the attribute\n    env.a: 3\n         ^",
+        ),
+        (
+            &[("policy.txt", RULES), ("question.bin", "x")],
+            &["sheet", "@"],
+            "question.bin: byte 0: the count of the section principal is 120",
+        ),
+        (&[], &["sheet", "@nowhere"], "there is no folder or file"),
+        (
+            &[("policy.txt", RULES)],
+            &["sheet", "@policy.txt"],
+            "policy.txt:1:1: this is a rule text: expected a question",
+        ),
+        (&[], &["check", "@"], "there is no file"),
+        (&[], &["read", "@"], "is a folder; a file is needed here"),
+        (&[], &["test", "@tests.txt"], "there is no file"),
+        (&[("tests.txt", "test \"a\"\nexpect system\nsubject = \"system\"")], &["test", "@tests.txt"], "policy.txt"),
+        (
+            &[("policy.txt", RULES), ("b.txt", "bag\nsubject = \"tool:1\"\naction = \"a\"\nresource = \"shaft:1\"")],
+            &["sheet", "@b.txt"],
+            "is a bag and has no rows: ./desk decide",
+        ),
+    ] {
+        let said = Folder::new(files).says(words);
+        assert_eq!(said.status, 2, "{}", what);
+        assert!(said.out.is_empty() && all(&said).contains(what), "{}\n{}", what, all(&said));
+    }
+    let said = worked().says(&["sheet", "@", "--html", "/no such folder/page.html"]);
+    assert!(said.status == 2 && all(&said).contains("cannot be written"), "{}", all(&said));
+}
+
+#[test]
+fn what_was_made_of_the_text_must_be_what_it_says() {
+    let folder = worked();
+    assert_eq!(folder.says(&["write", "@"]).status, 0);
+    assert_eq!(fs::read_to_string(folder.path("request.txt")).unwrap(), "person:K7\nteach\nshaft:A\n");
+    assert_eq!(folder.says(&["sheet", "@"]).status, 0);
+    assert!(folder.says(&["read", "@question.bin"]).out.contains("column principal.grade = absent | 3 | 2.5"));
+    fs::write(folder.path("request.txt"), "person:K8\nteach\nshaft:A\n").unwrap();
+    for command in ["sheet", "decide", "explain"] {
+        let said = folder.says(&[command, "@"]);
+        assert_eq!(said.status, 2);
+        assert!(all(&said).contains("request.txt has the subject \"person:K8\", and"), "{}", all(&said));
+    }
+    fs::remove_file(folder.path("request.txt")).unwrap();
+    fs::write(folder.path("question.bin"), [0, 0, 0, 0]).unwrap();
+    let said = folder.says(&["sheet", "@", "--missing-is-empty"]);
+    assert_eq!(said.status, 2);
+    assert!(all(&said).contains("question.bin is not what"), "{}", all(&said));
+    // Without the text the bytes are what is asked.
+    fs::remove_file(folder.path("question.txt")).unwrap();
+    fs::write(folder.path("request.txt"), "system").unwrap();
+    assert_eq!(folder.says(&["sheet", "@"]).out, "rows 1\n0 4 0\nallowed 1\n");
+}
+
+#[test]
+fn a_missing_file_is_empty_for_the_sheet_program_alone() {
+    let folder = Folder::new(&[]);
+    let said = folder.says(&["sheet", "@", "--missing-is-empty"]);
+    assert_eq!((said.out.as_str(), said.status), ("refused 24 0 0\n", 1));
+    for name in ["policy.txt", "question.bin", "request.txt"] {
+        assert!(all(&said).contains(&format!("{}: it is taken as empty", name)), "{}", all(&said));
+    }
+    assert!(
+        all(&said).contains("refused: The question's bytes are no question. Byte 0: the file ends here"),
+        "{}",
+        all(&said)
+    );
+}
+
+/// What was hardly meant: rules, question, and the warning.
+const DOUBTFUL: [(&str, &str, &str); 21] = [
+    (RULES, "subject = \"person:K7 \"\naction = \"teach\"\nresource = \"shaft:A\"\nprincipal.grade = 3\nprincipal.hired = \"own\"", "the subject begins or ends with a blank, \"person:K7 \": it is compared with it"),
+    (RULES, "subject = \"person:K7\"\naction = \"teach\\r\"\nresource = \"shaft:A\"\nprincipal.grade = 3\nprincipal.hired = \"own\"", "the action ends with a carriage return, \"teach\\r\": save request.txt with plain line feeds"),
+    (RULES, "subject = \"person:K7\"\naction = \" teach\"\nresource = \"shaft:A\"\nprincipal.grade = 3\nprincipal.hired = \"own\"", "the action begins or ends with a blank"),
+    (RULES, "subject = \"person:K7\"\naction = \"teech\"\nresource = \"shaft:A\"\nprincipal.grade = 3\nprincipal.hired = \"own\"", "no policy names the action \"teech\": did you mean teach?"),
+    (RULES, "subject = \"person:K7\"\naction = \"move\"\nresource = \"shaft:A\"\nprincipal.grade = 3\nprincipal.hired = \"own\"", "no policy names the action \"move\""),
+    ("permit(principal is person,action,resource);", "subject = \"tool:1\"\naction = \"a\"\nresource = \"shaft:A\"", "no policy is about such a subject as \"tool:1\": all are about another type"),
+    ("permit(principal,action,resource is shaft);permit(principal,action,resource==\"record:2\");", "subject = \"tool:1\"\naction = \"a\"\nresource = \"record:1\"", "no policy is about such a resource as \"record:1\""),
+    ("permit(principal is tool,action,resource is shaft);permit(principal is person,action,resource is record);", "subject = \"tool:1\"\naction = \"a\"\nresource = \"record:1\"", "no permit's target matches this request, so nothing can be allowed"),
+    (RULES, "subject = \"person:K7\"\naction = \"teach\"\nresource = \"shaft:A\"\nprincipal.grad = 3\nprincipal.hired = \"own\"", "no policy asks for principal.grad: did you mean principal.grade?"),
+    (RULES, "subject = \"person:K7\"\naction = \"teach\"\nresource = \"shaft:A\"\nprincipal.grade = 3\ncolumn principal.hird = \"own\" | \"loan\"", "no policy asks for the column principal.hird, so it changes nothing: did you mean principal.hired?"),
+    (RULES, "subject = \"person:K7\"\naction = \"teach\"\nresource = \"shaft:A\"\nprincipal.grade = 3\nenv.grade = 3\nprincipal.hired = \"own\"", "no policy asks for env.grade"),
+    (RULES, "subject = \"person:K7\"\naction = \"teach\"\nresource = \"shaft:A\"\nprincipal.grade = 3", "policy 2 asks for principal.hired, which is given nowhere: it is absent in every row"),
+    (RULES, "subject = \"person:K7\"\naction = \"teach\"\nresource = \"shaft:A\"\nprincipal.grade = \"3\"\nprincipal.hired = \"own\"", "policy 1 has principal.grade >= 3, but principal.grade is never a number in this question: the comparison is always false"),
+    (RULES, "subject = \"person:K7\"\naction = \"teach\"\nresource = \"shaft:A\"\nprincipal.grade = 3\ncolumn principal.hired = absent | true | false", "policy 2 has principal.hired != \"own\", but principal.hired is never a string in this question"),
+    ("permit(principal,action,resource)when{env.a like \"x*\"};", "subject = \"tool:1\"\naction = \"a\"\nresource = \"shaft:A\"\nenv.a = [\"x\"]", "env.a is never a string in this question"),
+    ("permit(principal,action,resource)when{\"x\" in env.a};", "subject = \"tool:1\"\naction = \"a\"\nresource = \"shaft:A\"\nenv.a = \"x\"", "env.a is never a list in this question"),
+    ("permit(principal,action,resource)when{env.a.containsAny([\"x\"])};", "subject = \"tool:1\"\naction = \"a\"\nresource = \"shaft:A\"\nenv.a = \"x\"", "env.a is never a list in this question"),
+    ("permit(principal,action,resource)when{env.a in [1, 2]};", "subject = \"tool:1\"\naction = \"a\"\nresource = \"shaft:A\"\nenv.a = \"1\"", "env.a is never a number in this question"),
+    ("permit(principal,action,resource)when{true == env.a};", "subject = \"tool:1\"\naction = \"a\"\nresource = \"shaft:A\"\nenv.a = \"true\"", "env.a is never true or false in this question"),
+    ("", "subject = \"tool:1\"\naction = \"a\"\nresource = \"shaft:A\"", "policy.txt has no policy: nothing is allowed"),
+    (RULES, "subject = \"system\"", "the subject is system: the answer is yes without a look at the rules"),
+];
+
+#[test]
+fn what_was_hardly_meant_is_warned_of() {
+    for (rules, question, what) in DOUBTFUL {
+        let folder = with_question(rules, question);
+        let said = folder.says(&["sheet", "@"]);
+        assert_eq!(said.status, 0, "{}", all(&said));
+        assert!(said.warnings.iter().any(|warning| warning.contains(what)), "{}\n{:?}", what, said.warnings);
+        assert!(said.out.starts_with("rows "), "the answer stays");
+        // The table and the page have it too.
+        let table = folder.says(&["sheet", "@", "--table"]).out.replace('\n', " ");
+        assert!(table.contains("Warning: "), "{}", table);
+        assert_eq!(folder.says(&["sheet", "@", "--html", "@page.html"]).status, 0);
+        assert!(fs::read_to_string(folder.path("page.html")).unwrap().contains("<b>Warning:</b>"));
+        assert_eq!(folder.says(&["explain", "@", "--row", "0"]).warnings, said.warnings);
+    }
+}
+
+// Warnings of which docs/QUESTIONS.md has an example.
+#[test]
+fn warnings_are_documented() {
+    for (_, _, what) in [
+        DOUBTFUL[0], DOUBTFUL[1], DOUBTFUL[3], DOUBTFUL[5], DOUBTFUL[6], DOUBTFUL[7], DOUBTFUL[8], DOUBTFUL[9],
+        DOUBTFUL[11], DOUBTFUL[12], DOUBTFUL[19], DOUBTFUL[20],
+    ] {
+        assert!(documented(what), "{}", what);
+    }
+}
+
+#[test]
+fn a_request_of_more_lines_is_warned_of() {
+    let files = [
+        ("policy.txt", RULES),
+        ("question.txt", COLUMNS),
+        ("request.txt", "person:K7\r\nteach\r\nshaft:A\r\nmore\r\n"),
+    ];
+    let said = Folder::new(&files).says(&["sheet", "@"]);
+    assert_eq!(said.out, "rows 9\n3 1 1\n4 1 1\n5 1 1\nallowed 3\n");
+    let text = all(&said);
+    assert!(
+        text.contains("request.txt has more than three lines: only subject, action and resource are read"),
+        "{}",
+        text
+    );
+    for part in ["subject", "action", "resource"] {
+        assert!(text.contains(&format!("the {} ends with a carriage return", part)), "{}", text);
+    }
+}
+
+/// Rule texts that are refused, and what is said of them.
+const REFUSED: [(&str, &str); 24] = [
+    (
+        "permit(principal,action,resource)\npermit(principal,action,resource);",
+        "This may not stand here: expected `when` or `;` after the policy that begins in line 1.",
+    ),
+    (
+        "permit(principal,action,resource)when{true}",
+        "The rules end inside a policy: expected `;` after the policy that begins in line 1.",
+    ),
+    (
+        "# people\npermit(principal,action,resource);",
+        "A byte stands here that may not: `#`: rule texts have no comments.",
+    ),
+    ("// people", "`/`: rule texts have no comments."),
+    ("permit(principal,action,resource)when{env.a=='x'};", "a string stands in straight double quotes"),
+    ("permit(principal,action,resource)when{env.a==\u{201C}x\u{201D}};", "a curved quote"),
+    ("\u{FEFF}permit(principal,action,resource);", "a byte order mark: save the file without one"),
+    ("permit(principal,action,resource)when{env.a => 3};", "at least is written >="),
+    ("permit(principal,action,resource)when{env.a = 3};", "equality is written =="),
+    ("permit(principal,action,resource)when{true & true};", "and is written &&"),
+    ("permit(principal,action,resource)when{true | true};", "or is written ||"),
+    (
+        "permit(principal,action,resource)when{env.if == 3};",
+        "This is a reserved word, and a name of a path must stand here. Reserved are: permit, forbid, when,",
+    ),
+    ("permit(principal,action,resource)when{env.a};", "The attribute before this place stands alone"),
+    ("permit(principal is shaft,action,resource);", "This is no type. Principals are person or tool"),
+    (
+        "permit(person:K7,action,resource);",
+        "This may not stand here: expected `principal` in the policy that begins in line 1.",
+    ),
+    ("permit(principal is person:K7,action,resource);", "A colon stands outside a string"),
+    ("permit(principal,action,resource)when{env.a == \"x};", "A string begins here and has no closing quote."),
+    (
+        "permit(principal,action==\"teach\",resource);",
+        "This may not stand here: expected `in` or `,` in the policy that begins in line 1.",
+    ),
+    ("permit(principal,action,resource)when{action.kind == 1};", "After action only name may stand"),
+    ("permit(principal,action,resource)when{env.a like \"**\"};", "A pattern has at most 100 bytes and 5 wildcards"),
+    ("permit(principal,action,resource)when{env.a == 1234567890123456};", "Too long: a word has at most 64 bytes"),
+    ("permit(principal,action,resource)when{};", "expected a condition (an attribute, a literal, `!`, `(` or `if`)"),
+    (
+        "allow(principal,action,resource);",
+        "This may not stand here: expected `permit` or `forbid` at the beginning of a policy.",
+    ),
+    ("permit(principal,action,resource);;", "This may not stand here: expected `permit` or `forbid`."),
+];
+
+#[test]
+fn refusals_of_rules_say_what_is_expected() {
+    for (rules, what) in REFUSED {
+        let folder = with_question(rules, &[REQUEST, COLUMNS].concat());
+        for words in [
+            &["check", "@"][..],
+            &["sheet", "@", "--table"],
+            &["explain", "@", "--row", "0"],
+            &["diff", "@policy.txt", "@policy.txt", "@"],
+        ] {
+            let said = folder.says(words);
+            assert_eq!(said.status, 1, "{:?}", words);
+            let unwrapped = said.out.replace('\n', " ");
+            assert!(unwrapped.starts_with("Refused, number ") && unwrapped.contains(what), "{}\n{}", what, said.out);
+            assert!(said.out.ends_with("^\n"), "{}", said.out);
+        }
+        let plain = folder.says(&["sheet", "@"]);
+        assert!(plain.status == 1 && plain.out.starts_with("refused "), "{}", plain.out);
+        let hint =
+            format!("refused: ./desk check {} shows the place and what is expected there", folder.path("policy.txt"));
+        assert_eq!(plain.warnings.last(), Some(&hint));
+    }
+}
+
+#[test]
+fn refusals_of_requests_are_said() {
+    for (request, number, what) in [
+        ("subject = \"dog:1\"\naction = \"a\"\nresource = \"shaft:A\"", 21, "The subject is not as it must be: system, or person: or tool: and an id, at most 100 bytes. Found: \"dog:1\", 5 bytes."),
+        ("subject = \"person:\"\naction = \"a\"\nresource = \"shaft:A\"", 21, "Found: \"person:\", 7 bytes."),
+        ("subject = \"tool:1\"\naction = \"\"\nresource = \"shaft:A\"", 22, "The action must have 1 to 100 bytes. Found: \"\", 0 bytes."),
+        ("subject = \"tool:1\"\naction = \"a\"\nresource = \"shaft\"", 23, "The resource is not as it must be: controller:, shaft:, parameter: or record: and an id"),
+        ("subject = \"System\"\naction = \"a\"\nresource = \"shaft:1\"", 21, "Found: \"System\", 6 bytes."),
+    ] {
+        let folder = with_question(RULES, request);
+        for words in [&["decide", "@"][..], &["sheet", "@", "--table"], &["explain", "@"]] {
+            let said = folder.says(words);
+            assert_eq!(said.status, 1);
+            let unwrapped = said.out.replace('\n', " ");
+            assert!(unwrapped.contains(&format!("Refused, number {}.", number)) && unwrapped.contains(what), "{}", said.out);
+        }
+    }
+    let said =
+        with_question(RULES, "subject = \"tool:1\\n\"\naction = \"a\"\nresource = \"shaft:1\"").says(&["sheet", "@"]);
+    assert!(
+        said.status == 2
+            && all(&said).contains("the subject has a line feed in it: \"tool:1\\n\"; it must be one line"),
+        "{}",
+        all(&said)
+    );
+}
+
+#[test]
+fn one_request_is_decided() {
+    let bag = "bag\nsubject = \"person:K7\"\naction = \"teach\"\nresource = \"shaft:A\"\nprincipal.grade = 4\nprincipal.hired = ";
+    for (hired, what) in [
+        ("\"own\"", "Allowed by policy 1 in line 1: no forbid is satisfied, and it is the first permit that is.\n    permit(principal is person"),
+        ("\"loan\"", "Forbidden by policy 2 in line 3: it is the first forbid that is satisfied.\n    forbid(principal, action"),
+    ] {
+        let text = [bag, hired].concat();
+        let folder = Folder::new(&[("policy.txt", RULES), ("k7.txt", &text)]);
+        let said = folder.says(&["decide", "@k7.txt"]);
+        assert!(said.status == 0 && said.out.starts_with(what), "{}", said.out);
+        assert_eq!(folder.says(&["decide", "@k7.txt", "--rules", "@policy.txt"]).out, said.out);
+        assert!(folder.says(&["explain", "@k7.txt"]).out.contains(what.lines().next().unwrap()));
+    }
+    let said = worked().says(&["decide", "@"]);
+    assert!(said.status == 2 && all(&said).contains("has 9 rows: ./desk sheet shows them all"), "{}", all(&said));
+    let said = worked().says(&["explain", "@", "--row", "9"]);
+    assert!(said.status == 2 && all(&said).contains("there is no row 9"), "{}", all(&said));
+}
+
+#[test]
+fn tests_pass_or_fail() {
+    let tests = |expect: &str| {
+        format!("{}principal.grade = 3\ntest \"own\"\nprincipal.hired = \"own\"\nexpect {}\ntest \"system\"\nsubject = \"system\"\nexpect system\n", REQUEST, expect)
+    };
+    let folder =
+        Folder::new(&[("policy.txt", RULES), ("good.txt", &tests("allowed by 1")), ("bad.txt", &tests("forbidden"))]);
+    let said = folder.says(&["test", "@good.txt"]);
+    assert_eq!(
+        (said.out.as_str(), said.status),
+        ("ok    own: allowed by policy 1\nok    system: system\n2 tests, 0 failed\n", 0)
+    );
+    let said = folder.says(&["test", "@good.txt", "@bad.txt"]);
+    assert_eq!(said.status, 1);
+    assert!(said.out.contains("line 5): expected forbidden, but it is allowed by policy 1\n"), "{}", said.out);
+    assert!(said.out.ends_with("4 tests, 1 failed\n"));
+    let broken = Folder::new(&[("policy.txt", "permit"), ("good.txt", &tests("allowed"))]);
+    let said = broken.says(&["test", "@good.txt"]);
+    assert!(said.status == 1 && said.out.starts_with("Refused, number 10."), "{}", said.out);
+}
+
+#[test]
+fn two_rule_texts_are_compared() {
+    let closed = RULES.replace("principal.hired != \"own\"", "!(principal.hired == \"own\")");
+    let folder =
+        Folder::new(&[("policy.txt", RULES), ("after.txt", &closed), ("question.txt", &[REQUEST, COLUMNS].concat())]);
+    let said = folder.says(&["diff", "@policy.txt", "@after.txt", "@"]);
+    assert_eq!(said.status, 0);
+    assert!(said.out.contains("9 rows: 0 opened, 1 closed, 0 decided by another policy, 8 as before."), "{}", said.out);
+    assert!(said.out.contains("  row 3  principal.grade = 3, principal.hired = absent\n      before: allowed by policy 1\n      after:  forbidden by policy 2\n"), "{}", said.out);
+    let said = folder.says(&["diff", "@after.txt", "@policy.txt", "@question.txt"]);
+    assert!(said.out.contains("1 opened, 0 closed"), "{}", said.out);
+    // The same policies in another order are the same policies.
+    let moved = ["forbid(principal is tool,action,resource);\n", RULES].concat();
+    let folder =
+        Folder::new(&[("policy.txt", RULES), ("after.txt", &moved), ("question.txt", &[REQUEST, COLUMNS].concat())]);
+    let said = folder.says(&["diff", "@policy.txt", "@after.txt", "@"]);
+    assert!(said.out.contains("0 opened, 0 closed, 0 decided by another policy, 9 as before."), "{}", said.out);
+    let other = ["permit(principal,action,resource) when { principal.grade > 2 };\n", RULES].concat();
+    let folder =
+        Folder::new(&[("policy.txt", RULES), ("after.txt", &other), ("question.txt", &[REQUEST, COLUMNS].concat())]);
+    let said = folder.says(&["diff", "@policy.txt", "@after.txt", "@"]);
+    assert!(said.out.contains("0 closed, 2 decided by another policy"), "{}", said.out);
+}
+
+// The examples say what their pages say.
+#[test]
+fn the_examples_have_no_stale_files() {
+    let examples = Path::new(env!("CARGO_MANIFEST_DIR")).join("../../examples");
+    for name in ["worked", "crew", "crew/night", "crew/records"] {
+        let path = examples.join(name).to_string_lossy().into_owned();
+        let said = run(&StandIn, &["sheet", &path]).unwrap_or_else(|failure| failed(&[], failure));
+        assert_eq!(said.status, 0, "{}", all(&said));
+    }
+}

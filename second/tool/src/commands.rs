@@ -1,0 +1,318 @@
+//! The commands: each reads its files, asks the proved programs, and says what they answered.
+
+use std::fs;
+use std::path::Path;
+
+use definitions::compile::policies_of;
+use definitions::policies::{Effect, Policy};
+
+use crate::answers::{self, Answer, Answers, Refused};
+use crate::asked::{file_name, read_asked, write_made, Asked, RULES};
+use crate::bytes::read_bytes;
+use crate::command::{not_asked, read_file, Done, Said, Words};
+use crate::diffing::{diff, diff_text};
+use crate::doubts::doubts;
+use crate::explaining::{conclusion, explained};
+use crate::page;
+use crate::places::wrong_in_text;
+use crate::plain;
+use crate::printed::{check_belongs, read_printed, Listed, Printed};
+use crate::record::record_of;
+use crate::refusals::{Files, RefusalShown};
+use crate::report::report;
+use crate::rules::{condition_lines, policy_texts};
+use crate::testing::{answer_text, read_tests};
+use crate::words::count_of;
+use crate::writing::text_of;
+
+/// `sheet`: plain lines, a table or a page.
+pub fn sheet(desk: &dyn Answers, words: &[&str]) -> Done<Said> {
+    let options = ["--rules", "--table", "--html", "--forbidden", "--missing-is-empty"];
+    let words = Words::read(words, &options, 1..=1)?;
+    let mut asked = read_asked(&words.names[0], words.rules.as_deref(), words.missing_is_empty)?;
+    if asked.is_bag() && !words.missing_is_empty {
+        return not_asked(format!("{} is a bag and has no rows: ./desk decide {} decides it", asked.name, asked.name));
+    }
+    let printed = desk.sheet(&asked.rules, &asked.sent, &asked.request_bytes())?;
+    let listed = match read_sheet(&asked, &printed)? {
+        Ok(listed) => listed,
+        Err(refused) => return refused_sheet(&asked, &words, &printed, refused),
+    };
+    add_doubts(&mut asked);
+    if !words.table && words.html.is_none() {
+        let mut said = Said::answered(printed);
+        said.warnings = asked.warnings;
+        return Ok(said);
+    }
+    let report = report(desk, &asked, &listed, words.forbidden)?;
+    let mut said = Said::default();
+    if let Some(name) = &words.html {
+        put_page(name, &page::sheet_page(&report, &record_of(&recorded(&asked))))?;
+        said.warnings = asked.warnings.clone();
+    }
+    if words.table {
+        said.out = plain::sheet_text(&report);
+    }
+    Ok(said)
+}
+
+/// A refusal of the sheet program, as it is shown.
+fn refused_sheet(asked: &Asked, words: &Words, printed: &str, refused: Refused) -> Done<Said> {
+    let shown = refusal_shown(asked, refused)?;
+    let mut said = Said::refused(printed.to_string());
+    said.warnings = asked.warnings.clone();
+    if let Some(name) = &words.html {
+        put_page(name, &page::refusal_page(&shown, &asked.rules_name, &asked.warnings, &record_of(&recorded(asked))))?;
+        said.out.clear();
+    }
+    if words.table {
+        said.out = shown.text(&asked.rules_name);
+    } else if words.html.is_none() {
+        let hint = match shown.place {
+            Some(_) => format!("refused: ./desk check {} shows the place and what is expected there", asked.rules_name),
+            None => format!("refused: {}", shown.meaning),
+        };
+        said.warnings.push(hint.trim_end_matches('.').to_string());
+    }
+    Ok(said)
+}
+
+/// The files whose sums stand on the page: the rules, the question, and the request where it is a file of its own.
+pub fn recorded(asked: &Asked) -> Vec<(String, Vec<u8>)> {
+    let mut files =
+        vec![(file_name(&asked.rules_name), asked.rules.clone()), (file_name(&asked.name), asked.file.clone())];
+    files.extend(asked.request_file.iter().map(|(name, bytes)| (file_name(name), bytes.clone())));
+    files
+}
+
+fn put_page(name: &str, page: &str) -> Done<()> {
+    fs::write(name, page).or_else(|error| not_asked(format!("{} cannot be written: {}", name, error)))
+}
+
+/// The listed rows that the sheet program printed, or its refusal; what does not belong to the files is an error.
+fn read_sheet(asked: &Asked, printed: &str) -> Done<Result<Vec<Listed>, Refused>> {
+    let read = read_printed(printed.as_bytes()).or_else(not_asked)?;
+    match read {
+        Printed::Refused { number, line, column } => Ok(Err(Refused { number, line, column })),
+        Printed::Sheet { ref listed, .. } => {
+            let listed = listed.clone();
+            check_belongs(&read, asked.question()?.rows(), policy_texts(&asked.rules).len()).or_else(not_asked)?;
+            Ok(Ok(listed))
+        }
+    }
+}
+
+/// A refusal in words. One with a place must be where what explains it finds it.
+fn refusal_shown(asked: &Asked, refused: Refused) -> Done<RefusalShown> {
+    let own = policies_of(&asked.rules).err().map(|own| (usize::from(own.number), own.line, own.column));
+    let Refused { number, line, column } = refused;
+    if line > 0 && own != Some((number, line, column)) {
+        return not_asked(format!(
+            "the proved program refuses with {} at {}:{}, and what explains it does not: one of them is wrong, so nothing is shown",
+            number, line, column
+        ));
+    }
+    let files = Files { text: &asked.rules, question: &asked.sent, request: asked.request() };
+    RefusalShown::new(&files, refused).or_else(not_asked)
+}
+
+/// The warnings about rules that compile.
+fn add_doubts(asked: &mut Asked) -> Vec<Policy> {
+    let policies = policies_of(&asked.rules).unwrap_or_default();
+    let doubts = doubts(asked, &policies);
+    asked.warnings.extend(doubts);
+    policies
+}
+
+/// `check`: whether a rule text compiles.
+pub fn check(desk: &dyn Answers, words: &[&str]) -> Done<Said> {
+    let words = Words::read(words, &[], 1..=1)?;
+    let mut name = words.names[0].clone();
+    if Path::new(&name).is_dir() {
+        name = Path::new(&name).join(RULES).to_string_lossy().into_owned();
+    }
+    let text = read_file(&name)?;
+    match answers::check(desk, &text)? {
+        Ok(policies) => {
+            let permits =
+                policies_of(&text).unwrap_or_default().iter().filter(|one| one.effect == Effect::Permit).count();
+            let (permit, forbid) =
+                (count_of(permits, "permit", "permits"), count_of(policies - permits, "forbid", "forbids"));
+            Ok(Said::answered(format!(
+                "{}: {}, {} and {}.\n",
+                name,
+                count_of(policies, "policy", "policies"),
+                permit,
+                forbid
+            )))
+        }
+        Err(refused) => Ok(Said::refused(refused_rules(&name, &text, refused)?)),
+    }
+}
+
+/// A refusal of rules, with its place and what is expected there.
+fn refused_rules(name: &str, text: &[u8], refused: Refused) -> Done<String> {
+    let files = Files {
+        text,
+        question: &[],
+        request: definitions::deciding::Request { subject: b"", action: b"", resource: b"" },
+    };
+    Ok(RefusalShown::new(&files, refused).or_else(not_asked)?.text(name))
+}
+
+/// The one case that is asked, and its answer; a text that is refused says so.
+fn one_case(
+    desk: &dyn Answers,
+    asked: &Asked,
+    row: Option<usize>,
+) -> Done<Result<(definitions::asking::Case, Answer), Refused>> {
+    let question = asked.question()?;
+    let rows = question.rows();
+    let row = match row {
+        Some(row) if row >= rows => {
+            return not_asked(format!("there is no row {}: {} has rows 0 to {}", row, asked.name, rows - 1))
+        }
+        Some(row) => row,
+        None if rows == 1 => 0,
+        None => {
+            return not_asked(format!(
+                "{} has {}: ./desk sheet shows them all, ./desk explain with --row 0 to {} one of them",
+                asked.name,
+                count_of(rows, "row", "rows"),
+                rows - 1
+            ))
+        }
+    };
+    let case = match asked.case_of(&question.choices_of(row)) {
+        Some(case) => case,
+        None => {
+            return not_asked(format!(
+                "row {} has more attributes than a bag can hold, so it cannot be asked alone",
+                row
+            ))
+        }
+    };
+    Ok(answers::decide(desk, &asked.rules, &[case.clone()])?.map(|answers| (case, answers[0])))
+}
+
+/// `decide`: one request over a bag.
+pub fn decide(desk: &dyn Answers, words: &[&str]) -> Done<Said> {
+    let words = Words::read(words, &["--rules"], 1..=1)?;
+    let mut asked = read_asked(&words.names[0], words.rules.as_deref(), false)?;
+    let answer = match one_case(desk, &asked, None)? {
+        Ok((_, answer)) => answer,
+        Err(refused) => return Ok(Said::refused(refused_rules(&asked.rules_name, &asked.rules, refused)?)),
+    };
+    let mut said = match answer {
+        Answer::Refused(refused) => Said::refused(refusal_shown(&asked, refused)?.text(&asked.rules_name)),
+        Answer::Decided { policy, .. } => {
+            let texts = policy_texts(&asked.rules);
+            let mut lines = conclusion(answer, &texts);
+            lines.extend(texts.iter().filter(|text| text.number == policy).flat_map(|text| condition_lines(text)));
+            Said::answered(lines.join("\n") + "\n")
+        }
+    };
+    add_doubts(&mut asked);
+    said.warnings = asked.warnings;
+    Ok(said)
+}
+
+/// `explain`: why a row, or one request, is decided as it is.
+pub fn explain(desk: &dyn Answers, words: &[&str]) -> Done<Said> {
+    let words = Words::read(words, &["--rules", "--row"], 1..=1)?;
+    let mut asked = read_asked(&words.names[0], words.rules.as_deref(), false)?;
+    let (case, answer) = match one_case(desk, &asked, words.row)? {
+        Ok(answered) => answered,
+        Err(refused) => return Ok(Said::refused(refused_rules(&asked.rules_name, &asked.rules, refused)?)),
+    };
+    if let Answer::Refused(refused) = answer {
+        return Ok(Said::refused(refusal_shown(&asked, refused)?.text(&asked.rules_name)));
+    }
+    let policies = add_doubts(&mut asked);
+    let lines = explained(&asked.rules, &policies, &policy_texts(&asked.rules), &case, answer);
+    let mut said = Said::answered(lines.join("\n") + "\n");
+    said.warnings = asked.warnings;
+    Ok(said)
+}
+
+/// `test`: requests with expected outcomes.
+pub fn test(desk: &dyn Answers, words: &[&str]) -> Done<Said> {
+    let words = Words::read(words, &["--rules"], 1..=usize::MAX)?;
+    let mut said = Said::default();
+    let (mut all, mut failed) = (0, 0);
+    for name in &words.names {
+        let text = read_file(name)?;
+        let tests = read_tests(&text).or_else(|wrong| not_asked(wrong_in_text(name, &text, &wrong)))?;
+        let beside = Path::new(name).with_file_name(RULES).to_string_lossy().into_owned();
+        let rules_name = words.rules.clone().unwrap_or(beside);
+        let rules = read_file(&rules_name)?;
+        let cases: Vec<_> = tests.iter().map(|test| test.case.clone()).collect();
+        let answers = match answers::decide(desk, &rules, &cases)? {
+            Ok(answers) => answers,
+            Err(refused) => return Ok(Said::refused(refused_rules(&rules_name, &rules, refused)?)),
+        };
+        for (test, answer) in tests.iter().zip(answers) {
+            all += 1;
+            if test.expected.is_met_by(answer) {
+                said.out += &format!("ok    {}: {}\n", test.name, answer_text(answer));
+            } else {
+                failed += 1;
+                said.out += &format!(
+                    "FAIL  {} ({}, line {}): expected {}, but it is {}\n",
+                    test.name,
+                    name,
+                    test.line,
+                    test.expected.text(),
+                    answer_text(answer)
+                );
+            }
+        }
+    }
+    said.out += &format!("{}, {} failed\n", count_of(all, "test", "tests"), failed);
+    said.status = i32::from(failed > 0);
+    Ok(said)
+}
+
+/// `diff`: two rule texts, one question.
+pub fn difference(desk: &dyn Answers, words: &[&str]) -> Done<Said> {
+    let words = Words::read(words, &[], 3..=3)?;
+    let [before, after] =
+        [0, 1].map(|side: usize| read_asked(&words.names[2], Some(words.names[side].as_str()), false));
+    let (mut before, mut after) = (before?, after?);
+    let mut sheets = Vec::new();
+    for asked in [&before, &after] {
+        let printed = desk.sheet(&asked.rules, &asked.question_bytes(), &asked.request_bytes())?;
+        match read_sheet(asked, &printed)? {
+            Ok(listed) => sheets.push(listed),
+            Err(refused) => return Ok(Said::refused(refusal_shown(asked, refused)?.text(&asked.rules_name))),
+        }
+    }
+    let found = diff(desk, &before, &after, [&sheets[0], &sheets[1]])?;
+    let mut said = Said::answered(diff_text(&found, &before, &after)?);
+    for asked in [&mut before, &mut after] {
+        add_doubts(asked);
+        for warning in &asked.warnings {
+            let warning = format!("{}: {}", asked.rules_name, warning);
+            if !said.warnings.contains(&warning) {
+                said.warnings.push(warning);
+            }
+        }
+    }
+    Ok(said)
+}
+
+/// `write`: what the sheet program reads, made of a question's text.
+pub fn write(words: &[&str]) -> Done<Said> {
+    let words = Words::read(words, &[], 1..=1)?;
+    write_made(&words.names[0]).map(Said::answered)
+}
+
+/// `read`: bytes as text.
+pub fn read(words: &[&str]) -> Done<Said> {
+    let words = Words::read(words, &[], 1..=1)?;
+    let name = &words.names[0];
+    match read_bytes(&read_file(name)?) {
+        Ok(form) => Ok(Said::answered(text_of(&form))),
+        Err(bad) => not_asked(format!("{}: byte {}: {}", name, bad.at, bad.what)),
+    }
+}

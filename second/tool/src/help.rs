@@ -1,0 +1,99 @@
+//! The help of each command.
+
+/// A command: its name, its usage after the name, one line, and the rest of its help.
+pub struct Help {
+    pub name: &'static str,
+    pub usage: &'static str,
+    pub line: &'static str,
+    pub more: &'static str,
+}
+
+pub const COMMANDS: [Help; 8] = [
+    Help {
+        name: "sheet",
+        usage: "WHERE [--rules FILE] [--table | --html FILE] [--forbidden]",
+        line: "which rows of a question are allowed",
+        more: "\
+WHERE is a folder with policy.txt and question.txt, or a question's text file with policy.txt beside it.
+  --rules FILE   take the rules from FILE
+  --table        a table with the attributes' values, marks and holes, instead of plain lines
+  --html FILE    a page for paper, written to FILE: with the rules, the day, the sums of the files and a line to sign
+  --forbidden    with --table or --html, the rows that are not allowed too, and what decides them",
+    },
+    Help {
+        name: "check",
+        usage: "RULES",
+        line: "whether a rule text compiles; if not, where and what is expected",
+        more: "RULES is a rule text, or a folder with policy.txt. No question is needed.",
+    },
+    Help {
+        name: "decide",
+        usage: "WHERE [--rules FILE]",
+        line: "what is decided of one request over a bag",
+        more: "\
+WHERE is a text file that begins with bag, says subject, action and resource, and has attributes; or a folder whose question
+has no columns. The rules are policy.txt beside it, or FILE.",
+    },
+    Help {
+        name: "explain",
+        usage: "WHERE [--row N] [--rules FILE]",
+        line: "why a row, or one request, is decided as it is",
+        more: "\
+Each policy whose target matches, with the parts of its condition, the values met, what is absent, and which forbid an
+absence disarms. N is a row's number as the sheet has it, from 0; a question without columns, or a bag, needs none.",
+    },
+    Help {
+        name: "test",
+        usage: "TESTS.. [--rules FILE]",
+        line: "requests with expected outcomes; exit status 1 if one is not met",
+        more: "\
+TESTS are text files: attributes, subject, action and resource that hold for all tests, and then tests:
+    test \"nobody noted who hired K7\"
+    principal.hired = absent
+    expect forbidden by 2
+expect has allowed, forbidden, not permitted, system, or refused and a number; after the first two maybe by and a policy's
+number. The rules are policy.txt beside the tests, or FILE.",
+    },
+    Help {
+        name: "diff",
+        usage: "BEFORE AFTER WHERE",
+        line: "two rule texts, one question: rows opened, closed, decided by another policy",
+        more: "BEFORE and AFTER are rule texts, WHERE is a folder with question.txt or a question's text file.",
+    },
+    Help {
+        name: "write",
+        usage: "WHERE",
+        line: "make question.bin and request.txt of a question's text",
+        more: "They are what the sheet program and a program in C read. Made of QUESTION.txt they are QUESTION.bin and QUESTION.request.",
+    },
+    Help {
+        name: "read",
+        usage: "BYTES",
+        line: "print the question or bag in a file of bytes as text",
+        more: "Writing that text gives the same bytes again.",
+    },
+];
+
+const STATUS: &str =
+    "Exit status: 0 answered; 1 refused, or a test failed; 2 nothing was asked: the words, a file or a text is wrong.";
+
+/// The help of the whole tool.
+pub fn overview() -> String {
+    let mut text = "usage: ./desk COMMAND ..\n\n".to_string();
+    for command in &COMMANDS {
+        text += &format!("  {:<8} {}\n", command.name, command.line);
+    }
+    text + &format!(
+        "\n./desk COMMAND --help tells more. docs/QUESTIONS.md has the form of questions, bags and tests.\n{}\n",
+        STATUS
+    )
+}
+
+/// The help of one command.
+pub fn help_of(command: &Help) -> String {
+    format!("usage: ./desk {} {}\n\n{}.\n{}\n\n{}\n", command.name, command.usage, command.line, command.more, STATUS)
+}
+
+pub fn command_named(name: &str) -> Option<&'static Help> {
+    COMMANDS.iter().find(|command| command.name == name)
+}

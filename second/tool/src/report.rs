@@ -1,0 +1,488 @@
+//! What the printed sheet says, apart from how it looks: the rows with their values, the marks, the holes and the sums.
+
+use std::collections::BTreeMap;
+
+use definitions::bags::Value;
+use definitions::questions::Question;
+
+use crate::answers::{decide, Answer, Answers};
+use crate::asked::{file_name, Asked};
+use crate::command::{not_asked, Done};
+use crate::form::attribute;
+use crate::holes::{Grid, Hole};
+use crate::printed::Listed;
+use crate::rules::{policy_texts, PolicyText};
+use crate::words::grouped;
+use crate::writing::{shown, value_text};
+
+/// What is to be shown of a sheet.
+pub struct Report {
+    /// The question's first comment, or whose sheet it is.
+    pub title: String,
+    pub request: [String; 3],
+    pub rules_name: String,
+    /// The base's attributes and values, which are the same for all rows.
+    pub base: Vec<(String, String)>,
+    pub columns: Vec<ColumnShown>,
+    pub rows: usize,
+    pub listed: Vec<RowShown>,
+    /// The rows that are not allowed, if they are wanted.
+    pub others: Option<Vec<RowShown>>,
+    /// All policies, in their order.
+    pub policies: Vec<PolicyShown>,
+    pub holes: Vec<HoleShown>,
+    /// The lines of the rules.
+    pub rules: Vec<String>,
+    pub warnings: Vec<String>,
+}
+
+/// A column: its attribute, the candidates' texts (nothing is absent), and its sums over the listed rows.
+pub struct ColumnShown {
+    pub name: String,
+    pub candidates: Vec<Option<String>>,
+    pub sums: Sums,
+}
+
+/// Listed rows, those of them with an absent attribute, and those with a hole.
+#[derive(Clone, Copy, PartialEq, Debug, Default)]
+pub struct Sums {
+    pub listed: usize,
+    pub absent: usize,
+    pub holes: usize,
+}
+
+/// A row: its number, its choices, what is decided, and what each column's attribute is marked with.
+#[derive(PartialEq, Debug)]
+pub struct RowShown {
+    pub number: usize,
+    pub choices: Vec<usize>,
+    pub outcome: &'static str,
+    /// 0 if no policy decides.
+    pub policy: usize,
+    pub marks: Vec<Mark>,
+}
+
+impl RowShown {
+    /// What the row is marked with: the greatest of its attributes' marks.
+    pub fn mark(&self) -> Mark {
+        self.marks.iter().copied().max().unwrap_or(Mark::None)
+    }
+}
+
+/// What an attribute of a listed row is marked with.
+#[derive(Clone, Copy, PartialEq, Eq, PartialOrd, Ord, Debug)]
+pub enum Mark {
+    /// It is there.
+    None,
+    /// It is absent, and no hole.
+    Absent,
+    /// It is absent, and with some candidates in place of it, and maybe of others, the row would not be allowed.
+    Hole,
+}
+
+impl Mark {
+    pub fn text(self) -> &'static str {
+        match self {
+            Mark::None => "",
+            Mark::Absent => "!",
+            Mark::Hole => "!!",
+        }
+    }
+}
+
+/// A policy, and the rows that it decides.
+pub struct PolicyShown {
+    pub text: PolicyText,
+    pub sums: Sums,
+    /// Whether it would close a hole.
+    pub is_disarmed: bool,
+}
+
+/// Holes of one sort: which attributes are absent, what would take the yes away, how many rows, and one of them.
+#[derive(PartialEq, Debug)]
+pub struct HoleShown {
+    pub attributes: Vec<String>,
+    /// The policy that would forbid; 0 if no permit would be satisfied; nothing if it is not known.
+    pub policy: Option<usize>,
+    pub rows: usize,
+    pub example: usize,
+    /// The values that would take the yes away from the example.
+    pub values: Vec<String>,
+}
+
+/// The words for an outcome.
+pub fn outcome_text(outcome: usize) -> &'static str {
+    match outcome {
+        1 => "allowed",
+        2 => "forbidden",
+        3 => "not permitted",
+        _ => "system",
+    }
+}
+
+/// The report on a sheet. The other rows' decisions are asked for too, if they are wanted.
+pub fn report(desk: &dyn Answers, asked: &Asked, listed: &[Listed], with_others: bool) -> Done<Report> {
+    let question = asked.question()?;
+    let mut report = empty(asked, &question);
+    let mut is_listed = vec![false; report.rows];
+    listed.iter().for_each(|listed| is_listed[listed.row] = true);
+    let grid = Grid::new(&question);
+    let mut holes: Vec<(usize, Hole)> = Vec::new();
+    for listed in listed {
+        let choices = question.choices_of(listed.row);
+        let found = grid.holes(listed.row, &choices, &is_listed);
+        report.add(listed, choices, &found);
+        holes.extend(found.into_iter().map(|hole| (listed.row, hole)));
+    }
+    let mut closed: Vec<usize> = holes.iter().flat_map(|(_, hole)| hole.closed.clone()).collect();
+    if with_others {
+        closed = (0..report.rows).filter(|row| !is_listed[*row]).collect();
+    }
+    closed.sort_unstable();
+    closed.dedup();
+    let decided = decisions(desk, asked, &question, &closed)?;
+    report.add_holes(&question, &holes, &decided);
+    if with_others {
+        report.others = Some(others(&question, &closed, &decided));
+    }
+    Ok(report)
+}
+
+/// A report without rows.
+fn empty(asked: &Asked, question: &Question) -> Report {
+    let request = [0, 1, 2].map(|part| shown(&asked.request[part]));
+    Report {
+        title: asked.title.clone().unwrap_or_else(|| title_of(&request)),
+        request,
+        rules_name: file_name(&asked.rules_name),
+        base: base_of(question),
+        columns: columns_of(question),
+        rows: question.rows(),
+        listed: Vec::new(),
+        others: None,
+        policies: policy_texts(&asked.rules)
+            .into_iter()
+            .map(|text| PolicyShown { text, sums: Sums::default(), is_disarmed: false })
+            .collect(),
+        holes: Vec::new(),
+        rules: lines_of(&asked.rules),
+        warnings: asked.warnings.clone(),
+    }
+}
+
+/// What is decided of rows that are not allowed; nothing where a row's attributes do not fit a bag.
+fn decisions(
+    desk: &dyn Answers,
+    asked: &Asked,
+    question: &Question,
+    rows: &[usize],
+) -> Done<BTreeMap<usize, (usize, usize)>> {
+    let mut cases = Vec::new();
+    let mut numbers = Vec::new();
+    for row in rows {
+        if let Some(case) = asked.case_of(&question.choices_of(*row)) {
+            cases.push(case);
+            numbers.push(*row);
+        }
+    }
+    let answers = match decide(desk, &asked.rules, &cases)? {
+        Ok(answers) => answers,
+        Err(_) => {
+            return not_asked("the sheet has rows, but the rules are refused: one of the proved programs is wrong")
+        }
+    };
+    let mut decided = BTreeMap::new();
+    for (row, answer) in numbers.into_iter().zip(answers) {
+        match answer {
+            Answer::Decided { outcome: outcome @ (2 | 3), policy } => decided.insert(row, (outcome, policy)),
+            _ => {
+                return not_asked(format!(
+                    "row {} is not on the sheet, but asked alone it is not a no: one of the proved programs is wrong",
+                    row
+                ))
+            }
+        };
+    }
+    Ok(decided)
+}
+
+fn others(question: &Question, rows: &[usize], decided: &BTreeMap<usize, (usize, usize)>) -> Vec<RowShown> {
+    let row = |number: &usize| {
+        let choices = question.choices_of(*number);
+        let (outcome, policy) =
+            decided.get(number).map_or(("not allowed", 0), |(outcome, policy)| (outcome_text(*outcome), *policy));
+        RowShown { number: *number, marks: vec![Mark::None; choices.len()], choices, outcome, policy }
+    };
+    rows.iter().map(row).collect()
+}
+
+impl Report {
+    /// Add a listed row, and count it.
+    fn add(&mut self, listed: &Listed, choices: Vec<usize>, holes: &[Hole]) {
+        let mut marks = Vec::new();
+        for (index, (column, choice)) in self.columns.iter_mut().zip(&choices).enumerate() {
+            let mark = if column.candidates[*choice].is_some() {
+                Mark::None
+            } else if holes.iter().any(|hole| hole.columns.contains(&index)) {
+                Mark::Hole
+            } else {
+                Mark::Absent
+            };
+            column.sums.count(mark);
+            marks.push(mark);
+        }
+        let row = RowShown {
+            number: listed.row,
+            choices,
+            outcome: outcome_text(listed.outcome),
+            policy: listed.policy,
+            marks,
+        };
+        if let Some(index) = listed.policy.checked_sub(1) {
+            self.policies[index].sums.count(row.mark());
+        }
+        self.listed.push(row);
+    }
+
+    /// Add the holes by their sorts: the same attributes, and the same policy that would forbid.
+    fn add_holes(&mut self, question: &Question, holes: &[(usize, Hole)], decided: &BTreeMap<usize, (usize, usize)>) {
+        let mut sorts: BTreeMap<(Option<usize>, &[usize]), (usize, usize, usize)> = BTreeMap::new();
+        for (row, hole) in holes {
+            let mut seen = Vec::new();
+            for closed in &hole.closed {
+                let policy = decided.get(closed).map(|(_, policy)| *policy);
+                if !seen.contains(&policy) {
+                    seen.push(policy);
+                    sorts.entry((policy, &hole.columns)).or_insert((0, *row, *closed)).0 += 1;
+                }
+            }
+        }
+        for ((policy, columns), (rows, example, closed)) in sorts {
+            let choices = question.choices_of(closed);
+            let value = |column: &usize| self.columns[*column].candidates[choices[*column]].clone().unwrap_or_default();
+            let values = columns.iter().map(value).collect();
+            let attributes = columns.iter().map(|column| self.columns[*column].name.clone()).collect();
+            if let Some(shown) = policy.and_then(|policy| policy.checked_sub(1)) {
+                self.policies[shown].is_disarmed = true;
+            }
+            self.holes.push(HoleShown { attributes, policy, rows, example, values });
+        }
+    }
+
+    /// The sums over all listed rows.
+    pub fn sums(&self) -> Sums {
+        let mut sums = Sums::default();
+        self.listed.iter().for_each(|row| sums.count(row.mark()));
+        sums
+    }
+
+    /// The policies that decide some listed row.
+    pub fn deciding(&self) -> impl Iterator<Item = &PolicyShown> {
+        self.policies.iter().filter(|policy| policy.sums.listed > 0)
+    }
+
+    /// The policy of this number.
+    pub fn policy(&self, number: usize) -> Option<&PolicyShown> {
+        self.policies.get(number.checked_sub(1)?)
+    }
+
+    /// Rows in groups with the same choice of the first column; without columns one group.
+    pub fn groups<'a>(&self, rows: &'a [RowShown]) -> Vec<&'a [RowShown]> {
+        let mut groups = Vec::new();
+        let mut rest = rows;
+        while let Some(first) = rest.first() {
+            let same = |row: &RowShown| row.choices.first() == first.choices.first();
+            let length = rest.iter().position(|row| !same(row)).unwrap_or(rest.len());
+            let (group, after) = rest.split_at(length);
+            groups.push(group);
+            rest = after;
+        }
+        groups
+    }
+}
+
+impl HoleShown {
+    /// How many rows, what is absent in them, and what would take the yes away.
+    pub fn sentence(&self, line_of: impl Fn(usize) -> usize) -> String {
+        let (rows, are) = if self.rows == 1 { ("row", "is") } else { ("rows", "are") };
+        let what = match self.policy {
+            Some(0) => "no permit would be satisfied".to_string(),
+            Some(policy) => format!("policy {} in line {} would forbid", policy, line_of(policy)),
+            None => "it would not be allowed".to_string(),
+        };
+        let given: Vec<String> =
+            self.attributes.iter().zip(&self.values).map(|(name, value)| format!("{} = {}", name, value)).collect();
+        format!(
+            "{} {} {} allowed because of what is absent, {}: {}, as in row {} with {}",
+            grouped(self.rows),
+            rows,
+            are,
+            self.attributes.join(" and "),
+            what,
+            self.example,
+            given.join(" and ")
+        )
+    }
+}
+
+impl Sums {
+    fn count(&mut self, mark: Mark) {
+        self.listed += 1;
+        self.absent += usize::from(mark >= Mark::Absent);
+        self.holes += usize::from(mark >= Mark::Hole);
+    }
+}
+
+/// Whose sheet it is. The parts that a request of the system leaves out are left out.
+pub fn title_of(request: &[String; 3]) -> String {
+    let parts: Vec<&str> = request.iter().map(String::as_str).filter(|part| !part.is_empty()).collect();
+    format!("Sheet for {}", parts.join(", "))
+}
+
+/// A text's lines as they are shown, without an empty last one.
+fn lines_of(text: &[u8]) -> Vec<String> {
+    let mut lines: Vec<String> =
+        text.split(|byte| *byte == b'\n').map(|line| shown(line.strip_suffix(b"\r").unwrap_or(line))).collect();
+    if lines.last().map_or(false, String::is_empty) {
+        lines.pop();
+    }
+    lines
+}
+
+fn base_of(question: &Question) -> Vec<(String, String)> {
+    let mut base = Vec::new();
+    for (root, section) in question.base.sections.iter().enumerate() {
+        for (path, value) in section {
+            base.push((attribute(root, path), value_text(&value.content)));
+        }
+    }
+    base
+}
+
+fn columns_of(question: &Question) -> Vec<ColumnShown> {
+    let text = |value: &Option<Value>| value.as_ref().map(|value| value_text(&value.content));
+    let shown = question.columns.iter().map(|column| ColumnShown {
+        name: attribute(usize::from(column.root) - 1, &column.path),
+        candidates: column.candidates.iter().map(|candidate| text(&candidate.value)).collect(),
+        sums: Sums::default(),
+    });
+    shown.collect()
+}
+
+#[cfg(test)]
+pub mod tests {
+    use super::*;
+    use crate::answers::tests::StandIn;
+    use crate::printed::{read_printed, Printed};
+    use crate::reading::{first_comment, read_text};
+    use definitions::sheets::{printed, read_request};
+
+    pub const EXAMPLE: &str =
+        "permit(principal is person, action, resource is shaft)\n  when { principal.grade >= 3 };\n\
+        forbid(principal, action in [\"teach\"], resource)\n  when { principal.hired != \"own\" };\n";
+    pub const QUESTION: &str =
+        "column principal.grade = absent | 3 | 2.5\ncolumn principal.hired = absent | \"own\" | \"loan\"";
+    pub const REQUEST: &str = "person:K7\nteach\nshaft:A\n";
+
+    /// What is asked by a text, a question as text, and a request.
+    pub fn asked(text: &str, question: &str, request: &str) -> Asked {
+        let request = read_request(request.as_bytes());
+        Asked {
+            rules_name: "policy.txt".to_string(),
+            rules: text.as_bytes().to_vec(),
+            name: "question.txt".to_string(),
+            file: question.as_bytes().to_vec(),
+            form: read_text(question.as_bytes()).unwrap(),
+            sent: read_text(question.as_bytes()).unwrap().bytes(),
+            request: [request.subject, request.action, request.resource].map(<[u8]>::to_vec),
+            request_file: None,
+            title: first_comment(question.as_bytes()),
+            warnings: Vec::new(),
+        }
+    }
+
+    /// The report on what is asked, by the stand-in.
+    pub fn report_on(asked: &Asked, with_others: bool) -> Report {
+        let lines = printed(&asked.rules, &asked.question_bytes(), &asked.request_bytes(), 600);
+        match read_printed(lines.as_bytes()).unwrap() {
+            Printed::Sheet { listed, .. } => report(&StandIn, asked, &listed, with_others).unwrap(),
+            Printed::Refused { .. } => panic!("{}", lines),
+        }
+    }
+
+    fn of(text: &str, question: &str, request: &str) -> Report {
+        report_on(&asked(text, question, request), false)
+    }
+
+    #[test]
+    fn the_worked_example_has_one_hole() {
+        let report = of(EXAMPLE, QUESTION, REQUEST);
+        assert_eq!(report.request, ["person:K7", "teach", "shaft:A"]);
+        assert_eq!(report.rows, 9);
+        assert_eq!(report.sums(), Sums { listed: 2, absent: 1, holes: 1 });
+        let marks: Vec<(usize, Mark)> = report.listed.iter().map(|row| (row.number, row.mark())).collect();
+        assert_eq!(marks, [(3, Mark::Hole), (4, Mark::None)]);
+        assert_eq!(report.columns[0].sums, Sums { listed: 2, absent: 0, holes: 0 });
+        assert_eq!(report.columns[1].sums, Sums { listed: 2, absent: 1, holes: 1 });
+        let deciding: Vec<usize> = report.deciding().map(|policy| policy.text.number).collect();
+        assert_eq!(deciding, [1]);
+        assert_eq!(report.policies[0].sums, Sums { listed: 2, absent: 1, holes: 1 });
+        assert!(!report.policies[0].is_disarmed && report.policies[1].is_disarmed);
+        assert_eq!(
+            report.holes[0].sentence(|_| 3),
+            "1 row is allowed because of what is absent, principal.hired: policy 2 in line 3 would forbid, as in row 3 with \
+             principal.hired = \"loan\""
+        );
+    }
+
+    // An attribute that no candidate of which makes a difference is absent, and no hole.
+    #[test]
+    fn absence_that_makes_no_difference_is_no_hole() {
+        let text = "permit(principal,action,resource)when{!(env.a==1)};";
+        let report = of(text, "column env.b = absent | 1\ncolumn env.a = absent | 1 | 2", REQUEST);
+        let marks: Vec<(usize, Mark)> = report.listed.iter().map(|row| (row.number, row.mark())).collect();
+        assert_eq!(marks, [(0, Mark::Hole), (2, Mark::Absent), (3, Mark::Hole), (5, Mark::None)]);
+        assert_eq!(report.groups(&report.listed).iter().map(|group| group.len()).collect::<Vec<_>>(), [2, 2]);
+        assert_eq!(report.holes.len(), 1);
+        assert!(report.holes[0].sentence(|_| 1).contains("no permit would be satisfied"));
+    }
+
+    // A forbid that asks for two attributes is disarmed by either absence; with both absent, by both at once.
+    #[test]
+    fn a_hole_of_two_absences() {
+        let text = "permit(principal,action,resource);forbid(principal,action,resource)when{env.a==1&&env.b==1};";
+        let report = of(text, "column env.a = absent | 1\ncolumn env.b = absent | 1", REQUEST);
+        let marks: Vec<(usize, Vec<Mark>)> = report.listed.iter().map(|row| (row.number, row.marks.clone())).collect();
+        let hole = Mark::Hole;
+        assert_eq!(marks, [(0, vec![hole, hole]), (1, vec![hole, Mark::None]), (2, vec![Mark::None, hole])]);
+        let sentences: Vec<String> = report.holes.iter().map(|hole| hole.sentence(|_| 1)).collect();
+        assert!(
+            sentences[1].starts_with("1 row is allowed because of what is absent, env.a and env.b: policy 2 in line 1")
+        );
+    }
+
+    #[test]
+    fn rows_of_the_system_name_no_policy() {
+        let report = of(EXAMPLE, "column env.a = absent | 1", "system");
+        assert!(report.listed.iter().all(|row| row.outcome == "system" && row.policy == 0));
+        assert_eq!(report.title, "Sheet for system");
+        assert_eq!(report.sums(), Sums { listed: 2, absent: 1, holes: 0 });
+        assert_eq!(report.deciding().count(), 0);
+    }
+
+    #[test]
+    fn the_title_is_the_first_comment() {
+        let report = of(EXAMPLE, "# May K7 teach?\ncolumn env.a = absent | 1", REQUEST);
+        assert_eq!(report.title, "May K7 teach?");
+    }
+
+    #[test]
+    fn other_rows_have_their_decisions() {
+        let report = report_on(&asked(EXAMPLE, QUESTION, REQUEST), true);
+        let others: Vec<(usize, &str, usize)> =
+            report.others.unwrap().iter().map(|row| (row.number, row.outcome, row.policy)).collect();
+        assert_eq!(others[0], (0, "not permitted", 0));
+        assert_eq!(others[2], (2, "forbidden", 2));
+        assert_eq!(others.len(), 7);
+    }
+}

@@ -1,0 +1,175 @@
+#!/usr/bin/env bash
+# Tries the desk for people as people use it, answered by the proved programs: right questions, mistakes and their messages, two at once. After
+# rt check sheet ask, from anywhere:
+#
+#   second/try.sh
+#
+# It takes some seconds; its last line is 'N passed, 0 failed'. DESK_PROVED=second/standin.sh tries it without the proved programs.
+set -euo pipefail
+
+root=$(cd "$(dirname "$(readlink -f "${BASH_SOURCE[0]}")")/.." && pwd -P)
+work=$(mktemp -d)
+trap 'rm -rf "$work"' EXIT
+passed=0 failed=0
+
+"$root/desk" --help >"$work/help"
+desk=${CARGO_TARGET_DIR:-$root/second/target}/release/desk
+DESK_PROVED=$(readlink -f "${DESK_PROVED:-$root/second/proved.sh}")
+DESK_WORK=$work/desk
+export DESK_PROVED DESK_WORK
+mkdir "$DESK_WORK"
+
+# tried STATUS WORDS COMMAND..: the command ends with this status and says these words.
+tried() {
+    local status=$1 words=$2 got=0
+    shift 2
+    "$@" >"$work/said" 2>&1 || got=$?
+    if [ "$got" = "$status" ] && [[ $(tr '\n' ' ' <"$work/said") == *"$words"* ]]; then
+        passed=$((passed + 1))
+    else
+        failed=$((failed + 1))
+        echo "FAIL: $*: expected status $status and '$words'; status $got and:"
+        cat "$work/said"
+    fi
+}
+
+# asked RULES QUESTION: a folder that asks so.
+asked() {
+    rm -rf "$work/f"
+    mkdir "$work/f"
+    printf '%s' "$1" >"$work/f/policy.txt"
+    printf '%s\n' "$2" >"$work/f/question.txt"
+}
+
+rules='permit(principal is person, action, resource is shaft)
+  when { principal.grade >= 3 };
+forbid(principal, action in ["teach"], resource)
+  when { principal.hired != "own" };
+'
+request='subject = "person:K7"
+action = "teach"
+resource = "shaft:A"
+'
+columns='column principal.grade = absent | 3 | 2.5
+column principal.hired = absent | "own" | "loan"'
+any='permit(principal, action, resource)'
+
+# What is right.
+tried 0 'usage: ./desk COMMAND' "$desk" --help
+tried 0 'usage: ./desk sheet WHERE' "$desk" sheet --help
+tried 0 'rows 9 3 1 1 4 1 1 allowed 2' "$desk" sheet "$root/examples/worked"
+tried 0 'policy 2 in line 3 would forbid' "$desk" sheet "$root/examples/worked" --table
+tried 0 'Rows that are not allowed' "$desk" sheet "$root/examples/worked" --table --forbidden
+tried 0 '162 rows, 32 are allowed' "$desk" sheet "$root/examples/crew" --table
+tried 0 '' "$desk" sheet "$root/examples/crew" --html "$work/page.html" --forbidden
+tried 0 'looked through by' cat "$work/page.html"
+tried 0 '32 policies, 17 permits and 15 forbids' "$desk" check "$root/examples/crew"
+tried 0 '!! disarmed: it could forbid if principal.hired were there' "$desk" explain "$root/examples/worked" --row 3
+tried 0 'Forbidden by policy 2 in line 3' "$desk" explain "$root/examples/worked" --row 5
+tried 0 'Not permitted: no policy is satisfied' "$desk" explain "$root/examples/worked" --row 0
+tried 0 ', 0 failed' "$desk" test "$root/examples/worked/tests.txt"
+tried 0 '1 closed, 0 decided by another policy, 8 as before' "$desk" diff "$root/examples/worked/policy.txt" "$root/examples/worked/closed.txt" "$root/examples/worked"
+tried 0 'Allowed by policy 1 in line 1' "$desk" decide "$root/examples/worked/k7.txt"
+
+# The words of the command.
+tried 2 'which command?' "$desk"
+tried 2 'there is no command shet' "$desk" shet
+tried 2 'a name is missing' "$desk" sheet
+tried 2 'unknown option --tabel' "$desk" sheet "$root/examples/worked" --tabel
+tried 2 'there is no row 9' "$desk" explain "$root/examples/worked" --row 9
+tried 2 'has 9 rows: ./desk sheet shows them all' "$desk" decide "$root/examples/worked"
+
+# Files that are missing, no files, or stale.
+asked "$rules" "$request$columns"
+tried 0 'allowed 2' "$desk" sheet "$work/f"
+rm "$work/f/policy.txt"
+tried 2 'policy.txt: the rules are read from it' "$desk" sheet "$work/f"
+mkdir "$work/f/policy.txt"
+tried 2 'policy.txt is a folder; a file is needed here' "$desk" sheet "$work/f"
+asked "$rules" "$columns"
+tried 2 'request.txt: say subject = ".."' "$desk" sheet "$work/f"
+printf 'person:K7\r\nteach\r\nshaft:A\r\nand more\r\n' >"$work/f/request.txt"
+tried 0 'the action ends with a carriage return, "teach\r": save request.txt with plain line feeds' "$desk" sheet "$work/f"
+tried 0 'has more than three lines: only subject, action and resource are read' "$desk" sheet "$work/f"
+tried 0 'Warning: the action ends with a carriage return' "$desk" sheet "$work/f" --table
+printf 'person:K7\nteach \nshaft:A\n' >"$work/f/request.txt"
+tried 0 'the action begins or ends with a blank, "teach "' "$desk" sheet "$work/f"
+asked "$rules" "$request$columns"
+printf 'person:K8\nteach\nshaft:A\n' >"$work/f/request.txt"
+tried 2 'request.txt has the subject "person:K8"' "$desk" sheet "$work/f"
+tried 0 'wrote' "$desk" write "$work/f"
+tried 0 'allowed 2' "$desk" sheet "$work/f"
+printf 'column env.a = 1\n%s' "$request" >"$work/f/question.txt"
+tried 2 'question.bin is not what' "$desk" sheet "$work/f"
+rm "$work/f/question.txt"
+tried 0 'allowed 2' "$desk" sheet "$work/f"
+rm "$work/f/request.txt"
+tried 1 'request.txt: it is taken as empty' "$desk" sheet "$work/f" --missing-is-empty
+asked "$rules" "${request}principal.grade: 3"
+tried 2 'question.txt:4:16: expected = and a value after the attribute' "$desk" sheet "$work/f"
+
+# What was hardly meant.
+while IFS='|' read -r old new words; do
+    asked "$rules" "$(printf '%s%s' "$request" "$columns" | sed "s/$old/$new/")"
+    tried 0 "$words" "$desk" sheet "$work/f"
+done <<'CASES'
+"teach"|"teech"|no policy names the action "teech": did you mean teach?
+person:K7|tool:1|no permit's target matches this request, so nothing can be allowed
+principal.grade|principal.grad|no policy asks for the column principal.grad, so it changes nothing: did you mean principal.grade?
+principal.grade|principal.grad|policy 1 asks for principal.grade, which is given nowhere: it is absent in every row
+absent . 3 . 2.5|"3"|principal.grade is never a number in this question: the comparison is always false
+"own" . "loan"|true|principal.hired is never a string in this question: the comparison is always false
+person:K7|system|the subject is system: the answer is yes without a look at the rules
+CASES
+asked "" "$request"
+tried 0 'has no policy: nothing is allowed' "$desk" sheet "$work/f"
+asked 'permit(principal, action, resource is record);' "$request"
+tried 0 'no policy is about such a resource as "shaft:A"' "$desk" sheet "$work/f"
+asked 'permit(principal is tool, action, resource);' "$request"
+tried 0 'no policy is about such a subject as "person:K7"' "$desk" sheet "$work/f"
+
+# Rules that are refused: the place, and what is expected there.
+while IFS='|' read -r text words; do
+    asked "$(printf '%b' "${text//ANY/$any}")" "$request$columns"
+    tried 1 "$words" "$desk" check "$work/f"
+    tried 1 "./desk check $work/f/policy.txt shows the place" "$desk" sheet "$work/f"
+    tried 1 'Refused, number ' "$desk" test "$root/examples/worked/tests.txt" --rules "$work/f/policy.txt"
+done <<'CASES'
+ANY\nANY;|expected `when` or `;` after the policy that begins in line 1
+ANY when { true }|The rules end inside a policy: expected `;`
+# rules\nANY;|`#`: rule texts have no comments
+ANY when { env.a == 'x' };|a string stands in straight double quotes
+ANY when { env.a => 3 };|at least is written >=
+ANY when { env.a = 3 };|equality is written ==
+ANY when { env.if == 3 };|Reserved are: permit, forbid, when,
+ANY when { env.a };|The attribute before this place stands alone
+permit(principal is shaft, action, resource);|This is no type. Principals are person or tool
+permit(principal is person:K7, action, resource);|A colon stands outside a string
+permit(principal, action == "teach", resource);|expected `in` or `,` in the policy that begins in line 1
+\0357\0273\0277ANY;|a byte order mark: save the file without one
+ANY when { env.a == "x };|A string begins here and has no closing quote
+CASES
+
+# Requests that are refused.
+asked "$rules" "${request/person:K7/dog:1}$columns"
+tried 1 'The subject is not as it must be' "$desk" sheet "$work/f" --table
+asked "$rules" "${request/shaft:A/shaft}"
+tried 1 'Refused, number 23.' "$desk" decide "$work/f"
+
+# Tests that fail, and tests that are none.
+printf '%stest "own"\nprincipal.hired = "own"\nexpect forbidden\n' "$request" >"$work/tests.txt"
+tried 1 'expected forbidden, but it is not permitted' "$desk" test "$work/tests.txt" --rules "$root/examples/worked/policy.txt"
+printf 'test "own"\n' >"$work/tests.txt"
+tried 2 'tests.txt:1:1: this test has no expect' "$desk" test "$work/tests.txt"
+
+# Two at once, as they are called: each with a folder of its own, so that each proves what is missing, one after the other.
+unset DESK_WORK
+"$root/sheet" "$root/examples/worked" >"$work/one" 2>&1 &
+"$root/desk" sheet "$root/examples/worked" >"$work/two" 2>&1 || true
+wait
+tried 0 'rows 9 3 1 1 4 1 1 allowed 2' cat "$work/one"
+tried 0 'rows 9 3 1 1 4 1 1 allowed 2' cat "$work/two"
+tried 2 'unknown option -x' "$root/sheet" "$root/examples/worked" -x
+
+echo "$passed passed, $failed failed"
+[ "$failed" = 0 ]

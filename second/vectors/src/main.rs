@@ -1,0 +1,165 @@
+//! The command line of Pennivaster's second program, an independent reading of document 01.
+
+mod bags_vectors;
+mod begins_vectors;
+mod command;
+mod compile_vectors;
+mod decide_vectors;
+mod explain;
+mod folders;
+mod number_vectors;
+mod packing;
+mod pattern_vectors;
+mod questions_vectors;
+mod sheet_vectors;
+mod token_vectors;
+mod vector;
+mod vectors;
+mod views_vectors;
+
+use std::fs;
+use std::io;
+use std::path::Path;
+
+use definitions::{asking, compile, deciding, sheets};
+
+use command::{failed, print, standard_input, Failure};
+use vector::Vector;
+use vectors::{Sort, SORTS, STANDARD_SEED};
+
+const USAGE: &str = "usage:
+  second vectors DIR [--seed N] [--scale K]  write the test vectors and their answers (K from 1 to 1000)
+  second explain SORT                        explain the input on standard input
+  second explain SORT --vector N             explain vector N (from 1) of the vectors on standard input
+  second folders DIR                         write folders for the sheet program, with what it has to print
+  second sheet DIR                           print what the sheet program prints for the files in DIR
+  second decide DIR                          decide policy.txt, bag.bin and request.txt in DIR
+  second ask check DIR                       print what `ask check` prints for policy.txt in DIR
+  second ask decide DIR                      print what `ask decide` prints for policy.txt and cases.bin in DIR
+SORT is tokens, number, like, compile, begins, bag, question, view, decide or sheet; README.md says what the input of
+each is";
+
+/// The bytes of the sheets that `second sheet` lends.
+const PAGE_BYTES: usize = 6_000;
+
+fn main() {
+    command::start(USAGE, run);
+}
+
+fn run(words: &[&str]) -> Result<(), Failure> {
+    match words {
+        ["vectors", directory, options @ ..] => {
+            let (seed, scale) = seed_and_scale(options).ok_or(Failure::Usage)?;
+            vectors::write_all(Path::new(directory), seed, scale).map_err(|error| failed(directory, error))
+        }
+        ["explain", word] => {
+            let sort = sort_named(word)?;
+            let typed = standard_input()?;
+            let vector = (sort.read_typed)(&typed).ok_or_else(|| Failure::Other("not such an input".to_string()))?;
+            print_explained(sort, &vector)
+        }
+        ["explain", word, "--vector", number] => {
+            let sort = sort_named(word)?;
+            let number: usize = number.parse().map_err(|_| Failure::Usage)?;
+            let vectors = vectors::decode(sort, &standard_input()?)
+                .ok_or_else(|| Failure::Other("not a file of such vectors".to_string()))?;
+            let vector = number
+                .checked_sub(1)
+                .and_then(|index| vectors.get(index))
+                .ok_or_else(|| Failure::Other(format!("vectors are numbered 1 to {}", vectors.len())))?;
+            print_explained(sort, vector)
+        }
+        ["folders", directory] => folders::write_all(Path::new(directory)).map_err(|error| failed(directory, error)),
+        ["sheet", directory] => {
+            let [text, question, request] = files(directory, ["policy.txt", "question.bin", "request.txt"])?;
+            print(&sheets::printed(&text, &question, &request, PAGE_BYTES))
+        }
+        ["decide", directory] => {
+            let [text, bag, request] = files(directory, ["policy.txt", "bag.bin", "request.txt"])?;
+            print(&decided(&text, &bag, &request))
+        }
+        ["ask", word @ ("check" | "decide"), directory] => ask(word, directory),
+        _ => Err(Failure::Usage),
+    }
+}
+
+/// What the program `ask` prints for the files of a folder.
+fn ask(word: &str, directory: &str) -> Result<(), Failure> {
+    let [text, cases, _] = files(directory, ["policy.txt", "cases.bin", "request.txt"])?;
+    if word == "check" {
+        return print(&asking::printed_check(&text));
+    }
+    let cases = asking::read_cases(&cases).ok_or_else(|| Failure::Other("cases.bin has no such form".to_string()))?;
+    print(&asking::printed_decide(&text, &cases))
+}
+
+/// The files' bytes; a missing file is empty.
+fn files(directory: &str, names: [&str; 3]) -> Result<[Vec<u8>; 3], Failure> {
+    let mut all = [Vec::new(), Vec::new(), Vec::new()];
+    for (bytes, name) in all.iter_mut().zip(names) {
+        let path = Path::new(directory).join(name);
+        match fs::read(&path) {
+            Ok(read) => *bytes = read,
+            Err(error) if error.kind() == io::ErrorKind::NotFound => {}
+            Err(error) => return Err(failed(&path.to_string_lossy(), error)),
+        }
+    }
+    Ok(all)
+}
+
+/// The decision as a line: outcome and policy; or `refused`, number, line, column.
+fn decided(text: &[u8], bag: &[u8], request: &[u8]) -> String {
+    match compile::compile(text, compile::ROOM_FOR_EACH_BYTE * text.len()) {
+        Err(refusal) => format!("refused {} {} {}\n", refusal.number, refusal.line, refusal.column),
+        Ok(compiled) => match deciding::decide(text, &compiled.table, bag, sheets::read_request(request)) {
+            Err(number) => format!("refused {} 0 0\n", number),
+            Ok(decision) => format!("{} {}\n", decision.outcome, decision.policy),
+        },
+    }
+}
+
+/// The seed and the scale that the options give.
+fn seed_and_scale(options: &[&str]) -> Option<(u64, usize)> {
+    let mut seed = STANDARD_SEED;
+    let mut scale = 1;
+    for option in options.chunks(2) {
+        match option {
+            ["--seed", number] => seed = number.parse().ok()?,
+            ["--scale", number] => scale = number.parse::<usize>().ok().filter(|scale| (1..=1_000).contains(scale))?,
+            _ => return None,
+        }
+    }
+    Some((seed, scale))
+}
+
+fn sort_named(word: &str) -> Result<&'static Sort, Failure> {
+    SORTS.iter().find(|sort| sort.explain_word == word).ok_or(Failure::Usage)
+}
+
+fn print_explained(sort: &Sort, vector: &Vector) -> Result<(), Failure> {
+    print(&(sort.explain)(vector))
+}
+
+#[cfg(test)]
+mod tests {
+    use super::*;
+
+    #[test]
+    fn options_come_in_any_order() {
+        assert_eq!(seed_and_scale(&[]), Some((STANDARD_SEED, 1)));
+        assert_eq!(seed_and_scale(&["--scale", "3", "--seed", "9"]), Some((9, 3)));
+        assert_eq!(seed_and_scale(&["--seed"]), None);
+        assert_eq!(seed_and_scale(&["--seed", "x"]), None);
+        assert_eq!(seed_and_scale(&["--scale", "0"]), None);
+        assert_eq!(seed_and_scale(&["--sede", "1"]), None);
+    }
+
+    #[test]
+    fn unknown_words_are_a_usage_failure() {
+        for words in
+            [&[][..], &["vector", "d"], &["vectors"], &["explain"], &["explain", "numbers"], &["explain", "like", "x"]]
+        {
+            assert!(matches!(run(words), Err(Failure::Usage)));
+        }
+    }
+}

@@ -1,0 +1,307 @@
+//! Test vectors: the list of their sorts, their format, and the files that hold them.
+
+use std::fs;
+use std::io;
+use std::path::Path;
+
+use generators::random::Random;
+
+use crate::bags_vectors;
+use crate::begins_vectors;
+use crate::compile_vectors;
+use crate::decide_vectors;
+use crate::explain;
+use crate::number_vectors;
+use crate::packing::{Packer, Unpacker};
+use crate::pattern_vectors;
+use crate::questions_vectors;
+use crate::sheet_vectors;
+use crate::token_vectors;
+use crate::vector::{add_part, read_parts, take_part, take_parts, Vector};
+use crate::views_vectors;
+
+/// The seed of the stored vectors.
+pub const STANDARD_SEED: u64 = 1;
+
+/// One sort of vectors.
+pub struct Sort {
+    /// Its files are `NAME_vectors/stdin` and `NAME_vectors/stdout`.
+    pub name: &'static str,
+    /// The word for it after `explain`.
+    pub explain_word: &'static str,
+    /// How many parts a vector has.
+    pub parts: usize,
+    /// Whether they stand packed in `stdin`.
+    pub packed: bool,
+    /// How many vectors there are at scale 1.
+    pub count: usize,
+    /// The vectors that are the same for every seed.
+    pub fixed: fn() -> Vec<Vector>,
+    /// A random vector.
+    pub random: fn(&mut Random) -> Vector,
+    /// The answer to a vector: one line, without its line feed.
+    pub answer: fn(&Vector) -> String,
+    /// A vector out of what a person typed.
+    pub read_typed: fn(&[u8]) -> Option<Vector>,
+    /// The answer to a vector in full.
+    pub explain: fn(&Vector) -> String,
+}
+
+/// All sorts of vectors.
+pub static SORTS: [Sort; 10] = [
+    Sort {
+        name: "tokens",
+        explain_word: "tokens",
+        parts: 1,
+        packed: false,
+        count: 21_000,
+        fixed: token_vectors::fixed,
+        random: token_vectors::random,
+        answer: token_vectors::answer,
+        read_typed: explain::read_text,
+        explain: explain::tokens,
+    },
+    Sort {
+        name: "numbers",
+        explain_word: "number",
+        parts: 2,
+        packed: false,
+        count: 6_000,
+        fixed: number_vectors::fixed,
+        random: number_vectors::random,
+        answer: number_vectors::answer,
+        read_typed: explain::read_number,
+        explain: explain::number,
+    },
+    Sort {
+        name: "patterns",
+        explain_word: "like",
+        parts: 2,
+        packed: false,
+        count: 21_000,
+        fixed: pattern_vectors::fixed,
+        random: pattern_vectors::random,
+        answer: pattern_vectors::answer,
+        read_typed: explain::read_two_lines,
+        explain: explain::like,
+    },
+    Sort {
+        name: "compile",
+        explain_word: "compile",
+        parts: 2,
+        packed: true,
+        count: 35_000,
+        fixed: compile_vectors::fixed,
+        random: compile_vectors::random,
+        answer: compile_vectors::answer,
+        read_typed: explain::read_rule_text,
+        explain: explain::compile,
+    },
+    Sort {
+        name: "begins",
+        explain_word: "begins",
+        parts: 2,
+        packed: false,
+        count: 6_000,
+        fixed: begins_vectors::fixed,
+        random: begins_vectors::random,
+        answer: begins_vectors::answer,
+        read_typed: explain::read_text_and_table,
+        explain: explain::begins,
+    },
+    Sort {
+        name: "bags",
+        explain_word: "bag",
+        parts: 3,
+        packed: false,
+        count: 10_000,
+        fixed: bags_vectors::fixed,
+        random: bags_vectors::random,
+        answer: bags_vectors::answer,
+        read_typed: explain::read_look_up,
+        explain: explain::bag,
+    },
+    Sort {
+        name: "questions",
+        explain_word: "question",
+        parts: 1,
+        packed: false,
+        count: 7_000,
+        fixed: questions_vectors::fixed,
+        random: questions_vectors::random,
+        answer: questions_vectors::answer,
+        read_typed: explain::read_text,
+        explain: explain::question,
+    },
+    Sort {
+        name: "views",
+        explain_word: "view",
+        parts: 4,
+        packed: false,
+        count: 8_000,
+        fixed: views_vectors::fixed,
+        random: views_vectors::random,
+        answer: views_vectors::answer,
+        read_typed: explain::read_view,
+        explain: explain::view,
+    },
+    Sort {
+        name: "decide",
+        explain_word: "decide",
+        parts: 6,
+        packed: true,
+        count: 32_000,
+        fixed: decide_vectors::fixed,
+        random: decide_vectors::random,
+        answer: decide_vectors::answer,
+        read_typed: explain::read_decide,
+        explain: explain::decide,
+    },
+    Sort {
+        name: "sheet",
+        explain_word: "sheet",
+        parts: 9,
+        packed: true,
+        count: 6_000,
+        fixed: sheet_vectors::fixed,
+        random: sheet_vectors::random,
+        answer: sheet_vectors::answer,
+        read_typed: explain::read_sheet,
+        explain: explain::sheet,
+    },
+];
+
+/// The vectors of one sort: the fixed ones, then random ones up to the count.
+pub fn make(sort: &Sort, seed: u64, scale: usize) -> Vec<Vector> {
+    let mut vectors = (sort.fixed)();
+    let mut random = Random::new(seed_of(sort, seed));
+    while vectors.len() < sort.count * scale {
+        vectors.push((sort.random)(&mut random));
+    }
+    vectors
+}
+
+/// Each sort has a seed of its own, so that a new sort leaves the others as they are.
+fn seed_of(sort: &Sort, seed: u64) -> u64 {
+    let mut own = seed;
+    for byte in sort.name.bytes() {
+        own = Random::new(own ^ u64::from(byte)).bits();
+    }
+    own
+}
+
+/// The bytes of `stdin`: the number of vectors in 4 bytes, then the parts, each after its length in 2 bytes; where the vectors are
+/// packed, the packed bytes of each, after their length in 2 bytes.
+pub fn encode(sort: &Sort, vectors: &[Vector]) -> Vec<u8> {
+    let mut packer = Packer::new();
+    let mut bytes = (vectors.len() as u32).to_le_bytes().to_vec();
+    for vector in vectors {
+        let mut parts = Vec::new();
+        for part in vector {
+            add_part(&mut parts, part);
+        }
+        if sort.packed {
+            add_part(&mut bytes, &packer.pack(&parts));
+        } else {
+            bytes.extend_from_slice(&parts);
+        }
+    }
+    bytes
+}
+
+/// The vectors in the bytes of a `stdin`, or nothing if these have another form.
+pub fn decode(sort: &Sort, bytes: &[u8]) -> Option<Vec<Vector>> {
+    let mut unpacker = Unpacker::new();
+    let mut rest = bytes.get(4..)?;
+    let count = u32::from_le_bytes([bytes[0], bytes[1], bytes[2], bytes[3]]);
+    let mut vectors = Vec::new();
+    for _ in 0..count {
+        vectors.push(if sort.packed {
+            read_parts(unpacker.unpack(&take_part(&mut rest)?)?, sort.parts)?
+        } else {
+            take_parts(&mut rest, sort.parts)?
+        });
+    }
+    if rest.is_empty() {
+        Some(vectors)
+    } else {
+        None
+    }
+}
+
+/// The bytes of `stdout`: one line for each vector.
+pub fn answers(sort: &Sort, vectors: &[Vector]) -> String {
+    let mut lines = String::new();
+    for vector in vectors {
+        lines.push_str(&(sort.answer)(vector));
+        lines.push('\n');
+    }
+    lines
+}
+
+/// Write `stdin` and `stdout` of every sort below the directory.
+pub fn write_all(directory: &Path, seed: u64, scale: usize) -> io::Result<()> {
+    for sort in &SORTS {
+        let vectors = make(sort, seed, scale);
+        let folder = directory.join(format!("{}_vectors", sort.name));
+        fs::create_dir_all(&folder)?;
+        fs::write(folder.join("stdin"), encode(sort, &vectors))?;
+        fs::write(folder.join("stdout"), answers(sort, &vectors))?;
+    }
+    Ok(())
+}
+
+#[cfg(test)]
+mod tests {
+    use super::*;
+
+    fn sort_named(name: &str) -> &'static Sort {
+        SORTS.iter().find(|sort| sort.name == name).unwrap()
+    }
+
+    #[test]
+    fn the_format_is_as_said() {
+        let vectors = vec![vec![b"ab".to_vec(), Vec::new()], vec![vec![b'x'; 258], b"\0".to_vec()]];
+        let (sort, one_part) = (sort_named("begins"), sort_named("tokens"));
+        let bytes = encode(sort, &vectors);
+        assert_eq!(&bytes[..10], b"\x02\0\0\0\x02\0ab\0\0");
+        assert_eq!(&bytes[10..13], b"\x02\x01x");
+        assert_eq!(decode(sort, &bytes), Some(vectors));
+        assert_eq!(decode(one_part, &bytes), None);
+        assert_eq!(decode(sort, &bytes[..bytes.len() - 1]), None);
+        assert_eq!(decode(sort, b"\0\0"), None);
+        assert_eq!(read_parts(b"\x02\0ab\0\0", 2), Some(vec![b"ab".to_vec(), Vec::new()]));
+        assert_eq!(read_parts(b"\x02\0ab\0\0x", 2), None);
+    }
+
+    #[test]
+    fn the_packed_format_is_as_said() {
+        let vectors = vec![vec![b"permit".to_vec(), Vec::new()], vec![b"permit".to_vec(), b"x".to_vec()]];
+        let sort = sort_named("compile");
+        let bytes = encode(sort, &vectors);
+        assert_eq!(bytes, b"\x02\0\0\0\x0b\0\x09\x06\0permit\0\0\x07\0\x84\0\0\x02\x01\0x");
+        assert_eq!(decode(sort, &bytes), Some(vectors));
+        assert_eq!(decode(sort, &bytes[..bytes.len() - 1]), None);
+    }
+
+    #[test]
+    fn the_counts_are_met_and_the_files_stay_small() {
+        for sort in &SORTS {
+            let vectors = make(sort, STANDARD_SEED, 1);
+            assert_eq!(vectors.len(), sort.count);
+            let bytes = encode(sort, &vectors);
+            assert!(bytes.len() <= 2_200_000, "{}", bytes.len());
+            assert!(decode(sort, &bytes) == Some(vectors.clone()));
+            assert_eq!(answers(sort, &vectors).lines().count(), sort.count);
+        }
+    }
+
+    #[test]
+    fn the_seed_decides() {
+        for sort in &SORTS {
+            let vectors = make(sort, 7, 1);
+            assert!(vectors == make(sort, 7, 1));
+            assert!(vectors != make(sort, 8, 1));
+        }
+    }
+}
