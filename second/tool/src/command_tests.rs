@@ -101,7 +101,7 @@ fn the_worked_example_is_answered() {
     );
     let page = folder.path("page.html");
     let said = folder.says(&["sheet", "@", "--html", "@page.html", "--forbidden"]);
-    assert_eq!((said.out.as_str(), said.status), ("", 0));
+    assert_eq!((said.out, said.status), (format!("wrote {}\n", page), 0));
     assert!(fs::read_to_string(page).unwrap().contains("Rows that are not allowed"));
 }
 

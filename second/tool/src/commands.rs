@@ -49,6 +49,7 @@ pub fn sheet(desk: &dyn Answers, words: &[&str]) -> Done<Said> {
     if let Some(name) = &words.html {
         put_page(name, &page::sheet_page(&report, &record_of(&recorded(&asked))))?;
         said.warnings = asked.warnings.clone();
+        said.out = format!("wrote {}\n", name);
     }
     if words.table {
         said.out = plain::sheet_text(&report);
@@ -67,7 +68,7 @@ fn refused_sheet(asked: &Asked, words: &Words, printed: &str, refused: Refused) 
     }
     if words.table {
         said.out = shown.text(&asked.rules_name);
-    } else if words.html.is_none() {
+    } else {
         let hint = match shown.place {
             Some(_) => format!("refused: ./desk check {} shows the place and what is expected there", asked.rules_name),
             None => format!("refused: {}", shown.meaning),
