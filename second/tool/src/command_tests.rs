@@ -187,6 +187,18 @@ fn files_that_are_not_as_they_must_be() {
     assert!(said.status == 2 && all(&said).contains("cannot be written"), "{}", all(&said));
 }
 
+/// A link to itself stands for it: not even root can read that.
+#[test]
+fn a_file_that_cannot_be_read_is_an_error() {
+    let folder = Folder::new(&[("question.txt", &format!("question\n{}{}", REQUEST, COLUMNS))]);
+    std::os::unix::fs::symlink("policy.txt", folder.path("policy.txt")).unwrap();
+    for words in [&["sheet", "@"][..], &["check", "@policy.txt"]] {
+        let said = folder.says(words);
+        assert_eq!((said.out.as_str(), said.status), ("", 2));
+        assert!(all(&said).contains("policy.txt cannot be read: "), "{}", all(&said));
+    }
+}
+
 #[test]
 fn what_was_made_of_the_text_must_be_what_it_says() {
     let folder = worked();
