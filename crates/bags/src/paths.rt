@@ -9,6 +9,7 @@ use tokens::classes::Sort;
 use tokens::classes::is_of;
 use tokens::kinds;
 use tokens::runs::run_end;
+use tokens::sizes::MOST_PATH_BYTES;
 use tokens::words::word_kind;
 
 // Whether a run of word bytes is a name.
@@ -28,7 +29,7 @@ pub fn is_path(classes: &[u8; 256], path: &[u8]) -> bool
     requires { ⌜ now classes ≡ classTable ⌝ }
     ensures { λ r. ⌜ r ≡ isPath (now (path .entry)) ⌝ }
 {
-    if 64 < path.len() {
+    if MOST_PATH_BYTES < path.len() {
         return false;
     }
     let mut at = 0;

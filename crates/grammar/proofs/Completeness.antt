@@ -11,16 +11,17 @@ use lib.ListN.{length}
 use borrow.Author.Tests.{eqb-true, eq-eqb, ne-eqb, leb-true}
 use Rattle.tokens.specs.Kinds as kinds
 use Rattle.tokens.proofs.TokenLaws.{never, and-left, and-right, or-cases}
+use Rattle.tokens.specs.Sizes.{mostPolicies, mostInside}
 use Rattle.reading.specs.Lexemes.{Lexeme, is, choose}
 use Rattle.reading.specs.Reads.{Reading, Chain, Chain.alone, Chain.more, Onto, Onto.onto, Before.ended, After.begun}
 use Rattle.reading.specs.Reader.{Answer, took, Reader, refuseBy, numbered, bind, on, need, mapped, upTo, onwards}
 use Rattle.reading.proofs.Readers.{Shrinks, shrinks-onto, Without, on-without, on-token, on-other}
 use Rattle.reading.proofs.Complete.{Nearly, exact, excused, nearly-bind, nearly-on, Complete, complete-mapped, complete-before, complete-chain}
 use Rattle.grammar.specs.Policies.{Span, Root, Literal, truth, Operand, attribute, literal, Tree, within, contains, both, either, Part, typed, Actions, Policy}
-use Rattle.grammar.specs.Rules.{isEffect, isRoot, rootOf, isTruth, isLiteral, literalOf, isComparator, isContains, whichOf, deepens, principalTypes, resourceTypes, typeOf, isType, mostPolicies, mostInside}
+use Rattle.grammar.specs.Rules.{isEffect, isRoot, rootOf, isTruth, isLiteral, literalOf, isComparator, isContains, whichOf, deepens, principalTypes, resourceTypes, typeOf, isType}
 use Rattle.grammar.specs.Grammar.{Limit, a-name, a-pattern, a-literal, a-policy, limitNumber, kept, Limits, Path, spanned, FirstName, first, NextName, next, APath, rooted, AnOperand, given, Element, element, Literals, Simple, comparison, likeness, listed, held, call, having, Conjunction, Disjunction, ConditionOver, simple, negation, bracketed, conditional, Nothing, Condition, Typed, ResourceRest, ActionRest, When, PolicyRest, Policies, policy, RuleText}
 use Rattle.grammar.specs.Grammar as grammar
-use Rattle.grammar.specs.Parser.{Way, calling, noName, noLevel, noPolicy, fits, read-first-name, goesOn, read-next-name, read-way, noExit, spannedBy, read-path, read-attribute, read-operand, isElement, read-element, read-list, read-bare, read-in, isLike, read-pattern, read-operator, read-call, read-rest, read-rooted, read-simple, read-joined, read-conjunction, read-disjunction, read-negated, read-bracketed, read-conditional, read-deeper, read-condition, read-conditions, read-type, read-principal, read-action, read-resource, read-when, read-policy, mayBegin, read-next-policy, atEnd, read-text}
+use Rattle.grammar.specs.Parser.{Way, calling, noName, noLevel, noPolicy, nameFits, read-first-name, goesOn, read-next-name, read-way, noExit, spannedBy, read-path, read-attribute, read-operand, isElement, read-element, read-list, read-bare, read-in, isLike, read-pattern, read-operator, read-call, read-rest, read-rooted, read-simple, read-joined, read-conjunction, read-disjunction, read-negated, read-bracketed, read-conditional, read-deeper, read-condition, read-conditions, read-type, read-principal, read-action, read-resource, read-when, read-policy, mayBegin, read-next-policy, atEnd, read-text}
 use Rattle.grammar.specs.Parser as parser
 use Rattle.grammar.proofs.Begun.{made}
 use Rattle.grammar.proofs.Limits.{name-number, string-number, literal-number, effect-number, level-number}
@@ -122,8 +123,8 @@ module _ {L : Limits} {Z : ℕ → List Lexeme → Type 0} (ok : Excuses L Z) wh
   no-policy-there ps x r t c u = rw (effect-number x t) (ok .over (a-policy (length ps)) x r c u)
 
   fitting : {A : Type 0} {a : A} {s : List Lexeme} (root : Root) (used : ℕ) (f : Lexeme → Reader A) (x : Lexeme) (r : List Lexeme) → x .kind ≡ kinds.name → L .Asks (a-name root used x) r
-      → Nearly Z a s (f x r) → Nearly Z a s (on (fits root used) f (refuseBy (noName root)) (x ∷ r))
-  unfolding fits
+      → Nearly Z a s (f x r) → Nearly Z a s (on (nameFits root used) f (refuseBy (noName root)) (x ∷ r))
+  unfolding nameFits
   fitting root used f x r e l h = nearly-on _ _ _ x r h (λ u. rw (name-number root x e) (ok .over (a-name root used x) x r l (rw (eq-eqb _ _ e) at u)))
 
   complete-first : (root : Root) → Complete Z Any (read-first-name root) (Onto (λ p. parser.Way.plain p) (FirstName L root))

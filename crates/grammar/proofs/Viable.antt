@@ -13,15 +13,16 @@ use Rattle.slices.specs.Ascii.{bytes}
 use Rattle.slices.specs.Same.{same}
 use Rattle.tokens.specs.Kinds as kinds
 use Rattle.tokens.proofs.TokenLaws.{never, and-left, and-right}
+use Rattle.tokens.specs.Sizes.{mostLiterals, mostPolicies}
 use Rattle.reading.specs.Lexemes.{Lexeme, is}
 use Rattle.reading.specs.Reads.{Reading, Chain, Chain.alone, Chain.more, Onto, Onto.onto, Before, Before.ended, After, After.begun}
 use Rattle.reading.specs.Reader.{Answer, Reader, refuseBy, mapped, chain}
 use Rattle.reading.proofs.Readers.{Goes, good, goes-weaker, goes-below, goes-ten, goes-bind, goes-on, goes-need, goes-need-bind, goes-onwards}
 use Rattle.grammar.specs.Policies.{Span, Root, Literal, Operand, attribute, literal, Tree, compare, among, within, contains, has, choice, both, either, Part, Actions, oneOf, Policy}
-use Rattle.grammar.specs.Rules.{inside, isEffect, isRoot, rootOf, isLiteral, literalOf, isComparator, comparatorOf, isContains, whichOf, deepens, principalTypes, resourceTypes, typeAmong, isType, admitted, mostLiterals, mostPolicies, isPattern}
+use Rattle.grammar.specs.Rules.{inside, isEffect, isRoot, rootOf, isLiteral, literalOf, isComparator, comparatorOf, isContains, whichOf, deepens, principalTypes, resourceTypes, typeAmong, isType, admitted, isPattern}
 use Rattle.grammar.specs.Grammar.{a-policy, Limits, pathNumber, Path, firstPath, spanned, first, NextName, next, APath, Attribute, rooted, AnOperand, given, Element, element, Literals, Listing, Simple, comparison, likeness, listed, held, call, having, Conjunction, Disjunction, ConditionOver, simple, negation, bracketed, conditional, Condition, Typed, ResourceRest, ActionRest, When, PolicyRest, Policies, policy, RuleText}
 use Rattle.grammar.specs.Grammar as grammar
-use Rattle.grammar.specs.Parser.{Way, calling, noName, noOperator, noType, noLevel, noPattern, tooMany, noPolicy, fits, read-first-name, goesOn, read-next-name, read-way, noExit, spannedBy, read-path, read-attribute, read-operand, isElement, read-element, read-list, read-bare, read-in, isLike, read-pattern, read-operator, read-call, read-rest, read-rooted, read-simple, read-joined, read-conjunction, read-disjunction, read-negated, read-bracketed, read-conditional, read-deeper, read-condition, read-conditions, read-type, read-principal, read-action, read-resource, read-when, read-policy, mayBegin, read-next-policy, atEnd, read-text}
+use Rattle.grammar.specs.Parser.{Way, calling, noName, noOperator, noType, noLevel, noPattern, tooMany, noPolicy, nameFits, read-first-name, goesOn, read-next-name, read-way, noExit, spannedBy, read-path, read-attribute, read-operand, isElement, read-element, read-list, read-bare, read-in, isLike, read-pattern, read-operator, read-call, read-rest, read-rooted, read-simple, read-joined, read-conjunction, read-disjunction, read-negated, read-bracketed, read-conditional, read-deeper, read-condition, read-conditions, read-type, read-principal, read-action, read-resource, read-when, read-policy, mayBegin, read-next-policy, atEnd, read-text}
 use Rattle.grammar.specs.Parser as parser
 use Rattle.grammar.proofs.Begun.{Family, made, Swap, here, Moved, Eases, taken, Exempt, beyond, Kept, eased, few, beyond-few, Framed, framed-onto, framed-before, framed-chain, Then, followed, Possible, possible-onto, possible-before, possible-after, possible-then, possible-chain, Begun, begun-weaker, begun-first, begun-start, begun-more, begun-next, begun-inside, begun-left, begun-right, Viable, viable-mapped, viable-before, viable-after, viable-onwards, viable-chain}
 use Rattle.grammar.proofs.Limits.{name-number, string-number, literal-number, effect-number, level-number, bare-below, type-below, name-below, pattern-below, literal-below, effect-below, level-below, Chosen, chosen-beyond, goes-limit}
@@ -94,14 +95,14 @@ module _ (extra : ℕ) where
     goes-name i f = goes-limit (noName root) (is kinds.name) (pathNumber root) (made kinds.name) refl (λ x t. name-number root x (eqb-true _ _ t)) (name-below root) i f
 
     viable-first : (exit : Lexeme → Bool) (i : List Lexeme) → Goes (λ w r. AWay (taken extra) exit root i r w) (Begun extra (λ L. APath L root) i) (read-first-name root i)
-    unfolding read-first-name fits
+    unfolding read-first-name nameFits
     viable-first exit i =
         goes-on _ _ _ _ _ i (λ x r e t. rw e (good (path (alone (first (eqb-true _ _ (and-left _ _ t)) (and-right (is kinds.name x) (admitted root 0 x) t))))))
         (goes-name i (λ n c. begun-first [] (λ w. (c .token ∷ w, _, c .kept w, alone (first (eqb-true _ _ (c .passes)) (inr (chosen-beyond c w)))))))
 
     viable-next : (exit : Lexeme → Bool) (i m : List Lexeme) (w : Way) (d : Lexeme) → AWay (taken extra) exit root i (d ∷ m) w → goesOn w d ≡ true
         → Goes (λ v r. AWay (taken extra) exit root i r v) (Begun extra (λ L. APath L root) i) (read-next-name exit root w m)
-    unfolding read-next-name fits goesOn
+    unfolding read-next-name nameFits goesOn
     viable-next exit i m (parser.Way.plain p) d (path j) e =
         goes-on _ _ _ _ _ m (λ x r e′ t. good (left (rw e′ at j) (eqb-true _ _ e) t))
         (goes-on _ _ _ _ _ m

@@ -16,7 +16,7 @@ use Rattle.grammar.specs.Policies.{Root, Literal, Operand, Tree, Part, A
 use Rattle.grammar.specs.Rules.{isEffect, isRoot, isTruth, isLiteral, isComparator, isContains, principalTypes, resourceTypes, isType}
 use Rattle.grammar.specs.Grammar.{Limits, Path, first, next, APath, Attribute, rooted, AnOperand, given, Element, element, Listing, Simple, comparison, likeness, listed, held, call, having, Joined, Disjunction, ConditionOver, simple, negation, bracketed, conditional, Condition, Typed, ResourceRest, ActionRest, When, PolicyRest, Policies, policy}
 use Rattle.grammar.specs.Grammar as grammar
-use Rattle.grammar.specs.Numbers.{behind, atName, atType, atCondition}
+use Rattle.grammar.specs.Numbers.{lastPasses, atName, atType, atCondition}
 use Rattle.grammar.proofs.Begun.{made}
 use Rattle.grammar.proofs.Completeness.{other-kind}
 use Rattle.grammar.proofs.Spots.{no-other}
@@ -33,7 +33,7 @@ pub record Plain (x : Lexeme) : Type 0 where
   bang : is kinds.bang x ≡ false
   type : is kinds.isWord x ≡ false
 
--- The tokens behind c, whose last comes first, up to the end of the text: a name stands where a path goes on or is a type behind `is`, `!` stands where a condition begins, and behind `is` stands a type.
+-- The tokens lastPasses c, whose last comes first, up to the end of the text: a name stands where a path goes on or is a type lastPasses `is`, `!` stands where a condition begins, and lastPasses `is` stands a type.
 pub data Walks : List Lexeme → List Lexeme → Type 0 where
   done : {c : List Lexeme} → Walks c []
   step : {x : Lexeme} {c i : List Lexeme} → Plain x → Walks (x ∷ c) i → Walks c (x ∷ i)
@@ -63,16 +63,16 @@ Ends r = (d : List Lexeme) → Walks d r
 past : (k : ℕ) → (eqb k kinds.name ≡ false) × (eqb k kinds.bang ≡ false) × (eqb k kinds.isWord ≡ false) → {x : Lexeme} {r : List Lexeme} → x .kind ≡ k → Ends r → Ends (x ∷ r)
 past k h e f d = step (by-kind k h e) (f _)
 
--- behind a dot and behind `has` stands a name
+-- lastPasses a dot and lastPasses `has` stands a name
 behind-dot : (x : Lexeme) (d : List Lexeme) → x .kind ≡ kinds.dot → atName (x ∷ d) ≡ true
-unfolding behind
+unfolding lastPasses
 behind-dot x d e = rw e
 
 behind-has : (x : Lexeme) (d : List Lexeme) → x .kind ≡ kinds.hasWord → atName (x ∷ d) ≡ true
-unfolding behind
+unfolding lastPasses
 behind-has x d e = rw e
 
--- behind a token of the kind k, which is no name, no `!` and no `is`, a condition begins
+-- lastPasses a token of the kind k, which is no name, no `!` and no `is`, a condition begins
 record Opens (k : ℕ) : Type 0 where
   plain : (eqb k kinds.name ≡ false) × (eqb k kinds.bang ≡ false) × (eqb k kinds.isWord ≡ false)
   begins : (x : Lexeme) (d : List Lexeme) → x .kind ≡ k → atCondition (x ∷ d) ≡ true
@@ -209,7 +209,7 @@ module _ (L : Limits) where
 -- where a name stands
 pub name-place : (y : Lexeme) (on b : List Lexeme) {c : List Lexeme} → Walks c (b ++ y ∷ on) → y .kind ≡ kinds.name
     → (atName (reverseAux b c) ≡ true) ⊎ ((atType (reverseAux b c) ≡ true) × (someType y ≡ true))
-unfolding behind
+unfolding lastPasses
 name-place y on [] (step p w) e = absurd (never (sym (rw e at (p .name))))
 name-place y on [] (named q a w) e = inl a
 name-place y on [] (negated q a w) e = absurd (let z : kinds.name ≡ kinds.bang = cc in omega arith)
@@ -242,9 +242,9 @@ bang-place y on (x ∷ z ∷ b) (typed q n t w) e = bang-place y on b w e
 pub data NameFirst : List Lexeme → Type 0 where
   name-first : {y : Lexeme} {on : List Lexeme} → y .kind ≡ kinds.name → NameFirst (y ∷ on)
 
--- behind `is` stand such
+-- lastPasses `is` stand such
 pub type-next : (on b : List Lexeme) {c : List Lexeme} → atType c ≡ false → Walks c (b ++ on) → atType (reverseAux b c) ≡ true → NameFirst on
-unfolding behind
+unfolding lastPasses
 type-next on [] f w e = absurd (never (rw f at e))
 type-next on (x ∷ []) f (step p w) e = type-next on [] (p .type) w e
 type-next on (x ∷ []) f (named q a w) e = type-next on [] (rw q) w e

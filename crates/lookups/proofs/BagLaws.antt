@@ -18,7 +18,7 @@ use Rattle.numbers.proofs.Exponent.{finite-by-bits}
 use Rattle.bags.specs.Reading.{byte, many, each}
 use Rattle.bags.specs.Paths.{every, isPath}
 use Rattle.bags.specs.Values.{valueEnd}
-use Rattle.bags.specs.Sections.{pathAt, kindAt, entryEnd, sectionEnd, sectionsOf, Sectioned}
+use Rattle.bags.specs.Sections.{entryPath, kindAt, entryEnd, sectionEnd, sectionsOf, Sectioned}
 use Rattle.bags.specs.declared.After.the-variants.{At}
 use Rattle.bags.specs.declared.sections.Sections.{Sections}
 use Rattle.bags.specs.declared.sections.Divided.{Divided}
@@ -27,8 +27,8 @@ use Rattle.bags.proofs.ReadLaws.{First, first}
 use Rattle.bags.proofs.PathLaws.{pathByte, path-bytes, path-sized}
 use Rattle.bags.proofs.SectionLaws.{entry-at, section-at, sections-at}
 use Rattle.tokens.specs.Blanks.{unblanked}
-use Rattle.lookups.specs.Values.{nought, unit, absent, numberOf, valueAt, Valued, Whole}
-use Rattle.lookups.specs.Lookups.{lookIn, entryAt, sectionAt, baseOf, bagOf}
+use Rattle.lookups.specs.Values.{nought, unit, absent, valueNumber, valueAt, Valued, Whole}
+use Rattle.lookups.specs.Lookups.{lookIn, bagEntryAt, sectionAt, baseOf, bagOf}
 use Rattle.lookups.specs.declared.values.Value.{Value}
 use Rattle.lookups.proofs.StepLaws.{as-number, told}
 use Rattle.lookups.proofs.FindLaws.{look-done, look-here, look-on, base-none, base-cases, bag-is-base}
@@ -82,8 +82,8 @@ nought-finite = rw (finite-by-bits 0) tt
 unit-finite : T (finite unit)
 unit-finite = rw (finite-by-bits 0x3FF0000000000000) tt
 
-number-finite : (kind : ℕ) (s : List ℕ) (at e : ℕ) → valueEnd kind s at ≡ At e → T (finite (numberOf kind s at))
-unfolding numberOf
+number-finite : (kind : ℕ) (s : List ℕ) (at e : ℕ) → valueEnd kind s at ≡ At e → T (finite (valueNumber kind s at))
+unfolding valueNumber
 number-finite kind s at e h = go (eqb kind 2) (eqb kind 3 && eqb (byte s at) 1) refl
   where
     go : (a b : Bool) → eqb kind 2 ≡ a → T (finite (cond a (numberAt s at) (cond b unit nought)))
@@ -106,11 +106,11 @@ entry-valued s at e h = let w = entry-at s at e h in record { inside = w .named;
 -- ---- what each entry's value has, and an absent one, what is found has
 
 module _ (s path : List ℕ) (P : Value → Type 0) (none : P absent)
-    (some : (at e : ℕ) → entryEnd s at ≡ At e → same (pathAt s at) path ≡ true → P (valueAt s (kindAt s at))) where
+    (some : (at e : ℕ) → entryEnd s at ≡ At e → same (entryPath s at) path ≡ true → P (valueAt s (kindAt s at))) where
   -- of n entries, of a section, of the sections of bytes, and of a bag
-  entries-have : (n at e : ℕ) → many n (entryEnd s) at ≡ At e → P (lookIn absent (each n (entryEnd s) (entryAt s) at) path)
-  entries-have zero at e h = rw (← look-done absent (entryEnd s) (entryAt s) path 0 at (omega arith)) none
-  entries-have (suc n) at e h = go (same (pathAt s at) path) refl (entries-have n (f .stop) e later)
+  entries-have : (n at e : ℕ) → many n (entryEnd s) at ≡ At e → P (lookIn absent (each n (entryEnd s) (bagEntryAt s) at) path)
+  entries-have zero at e h = rw (← look-done absent (entryEnd s) (bagEntryAt s) path 0 at (omega arith)) none
+  entries-have (suc n) at e h = go (same (entryPath s at) path) refl (entries-have n (f .stop) e later)
     where
       f : First (entryEnd s) (suc n) at e
       f = first (entryEnd s) (suc n) at e (omega arith) h
@@ -121,9 +121,9 @@ module _ (s path : List ℕ) (P : Value → Type 0) (none : P absent)
       later : many n (entryEnd s) (f .stop) ≡ At e
       later = rw less at (f .later)
 
-      go : (b : Bool) → same (pathAt s at) path ≡ b → P (lookIn absent (each n (entryEnd s) (entryAt s) (f .stop)) path) → P (lookIn absent (each (suc n) (entryEnd s) (entryAt s) at) path)
-      go true q w = rw (← look-here absent (entryEnd s) (entryAt s) path (suc n) at (omega arith) (f .stop) (f .ends) q) (some at (f .stop) (f .ends) q)
-      go false q w = rw (← look-on absent (entryEnd s) (entryAt s) path (suc n) at (omega arith) (f .stop) (f .ends) q, less) w
+      go : (b : Bool) → same (entryPath s at) path ≡ b → P (lookIn absent (each n (entryEnd s) (bagEntryAt s) (f .stop)) path) → P (lookIn absent (each (suc n) (entryEnd s) (bagEntryAt s) at) path)
+      go true q w = rw (← look-here absent (entryEnd s) (bagEntryAt s) path (suc n) at (omega arith) (f .stop) (f .ends) q) (some at (f .stop) (f .ends) q)
+      go false q w = rw (← look-on absent (entryEnd s) (bagEntryAt s) path (suc n) at (omega arith) (f .stop) (f .ends) q, less) w
 
   section-has : (b e : ℕ) → sectionEnd s b ≡ At e → P (lookIn absent (sectionAt s b) path)
   unfolding sectionAt
@@ -144,11 +144,11 @@ module _ (s path : List ℕ) (P : Value → Type 0) (none : P absent)
       go Broken q = simp q none
 
 -- no entry's path is empty
-pub no-empty-path : (s path : List ℕ) (n at e : ℕ) → length path ≡ 0 → many n (entryEnd s) at ≡ At e → absent ≡ lookIn absent (each n (entryEnd s) (entryAt s) at) (unblanked path)
+pub no-empty-path : (s path : List ℕ) (n at e : ℕ) → length path ≡ 0 → many n (entryEnd s) at ≡ At e → absent ≡ lookIn absent (each n (entryEnd s) (bagEntryAt s) at) (unblanked path)
 unfolding unblanked
 no-empty-path s [] n at e h q =
     sym (entries-have s [] (λ v. v ≡ absent) refl
-    (λ at e h q. let l = path-sized (pathAt s at) (entry-at s at e h .path) .0 in let i = ap length (same-decides (pathAt s at) [] .sound q) in absurd (omega arith)) n at e q)
+    (λ at e h q. let l = path-sized (entryPath s at) (entry-at s at e h .path) .0 in let i = ap length (same-decides (entryPath s at) [] .sound q) in absurd (omega arith)) n at e q)
 no-empty-path s (b ∷ path) n at e h q = absurd (omega arith)
 
 module _ (s path : List ℕ) where
@@ -170,7 +170,7 @@ module _ (s path : List ℕ) where
   pub impossible-path : isPath path ≡ false → (root : ℕ) → lookIn absent (bagOf s root) path ≡ absent
   impossible-path p =
       bag-has s path (λ v. v ≡ absent) refl
-      (λ at e h q. absurd (false≢true (sym p ∙ ap isPath (sym (same-decides (pathAt s at) path .sound q)) ∙ entry-at s at e h .path)))
+      (λ at e h q. absurd (false≢true (sym p ∙ ap isPath (sym (same-decides (entryPath s at) path .sound q)) ∙ entry-at s at e h .path)))
 
 -- nor does a root byte other than 1 to 3
 pub impossible-root : (s path : List ℕ) (root : ℕ) → (root ≡ 1 → ⊥) → (root ≡ 2 → ⊥) → (root ≡ 3 → ⊥) → lookIn absent (bagOf s root) path ≡ absent

@@ -13,7 +13,7 @@ ghost use Rattle.bags.specs.Sections.{entryEnd, sectionEnd, Sectioned};
 ghost use Rattle.bags.specs.declared.After.the-variants.{At};
 ghost use Rattle.tokens.specs.Blanks.{unblanked};
 ghost use Rattle.lookups.specs.Values.{absent};
-ghost use Rattle.lookups.specs.Lookups.{lookIn, entryAt, sectionAt, baseOf};
+ghost use Rattle.lookups.specs.Lookups.{lookIn, bagEntryAt, sectionAt, baseOf};
 use crate::bytes::same_bytes;
 use crate::steps::value_next;
 use crate::values::Value;
@@ -74,7 +74,7 @@ fn is_named(s: &[u8], at: usize, n: usize, lead: u8, path: &[u8]) -> bool
 // Among the `n` entries from `at`, the value of the one with this path.
 fn find_in(n: usize, path: &[u8], s: &[u8], at: usize) -> Value
     requires { ⌜ ((e : ℕ) × (many n (entryEnd (now s)) at ≡ At e)) ⌝ }
-    ensures { λ r. ⌜ r ≡ lookIn absent (each n (entryEnd (now (s .entry))) (entryAt (now (s .entry))) at) (unblanked (now (path .entry))) ⌝ }
+    ensures { λ r. ⌜ r ≡ lookIn absent (each n (entryEnd (now (s .entry))) (bagEntryAt (now (s .entry))) at) (unblanked (now (path .entry))) ⌝ }
 {
     if path.len() == 0 {
         return absent_value();

@@ -12,9 +12,10 @@ use Rattle.tokens.specs.Runs.{is}
 use Rattle.tokens.specs.Words.{wordKind}
 use Rattle.tokens.specs.Forms.{All, quote}
 use Rattle.tokens.specs.declared.classes.Sort.the-variants.{Letters, WordBytes, StringBytes}
+use Rattle.tokens.specs.Sizes.{mostPathBytes, mostLiterals, mostPolicies, mostStringBytes, mostLevels}
 use Rattle.numbers.specs.Literals.{IsNumber}
 use Rattle.grammar.specs.Policies.{Span, Root, Root.Action, Comparator, Literal, text, number, truth, Operand, attribute, literal, Which, Tree, constant, compare, like, among, within, contains, has, not, brackets, both, either, choice, Part, any, typed, pinned, Actions, every, oneOf, Policy}
-use Rattle.grammar.specs.Rules.{isPattern, mostPathBytes, mostLiterals, mostPolicies}
+use Rattle.grammar.specs.Rules.{isPattern}
 
 -- ---- bytes
 
@@ -50,7 +51,7 @@ pub record Lies (t : List ℕ) (s : Span) : Type 0 where
 pub record StringPlaced (t : List ℕ) (s : Span) : Type 0 where
   pub lies : Lies t s
   pub two : s .start + 2 ≤ s .end
-  pub few : s .end ≤ s .start + 129
+  pub few : s .end ≤ s .start + (mostStringBytes + 2)
   pub opened : getD t (s .start) 0 ≡ quote
   pub inside : All StringBytes (quotedAt t s)
   pub closed : getD t (s .end - 1) 0 ≡ quote
@@ -148,7 +149,7 @@ pub data ActionsPlaced (t : List ℕ) : Actions → Type 0 where
 -- a condition, if there is one: it nests to 32 levels
 pub data ConditionPlaced (t : List ℕ) : Option Tree → Type 0 where
   no-condition : ConditionPlaced t none
-  a-condition : {c : Tree} → TreePlaced t c → depth c ≤ 32 → ConditionPlaced t (some c)
+  a-condition : {c : Tree} → TreePlaced t c → depth c ≤ mostLevels → ConditionPlaced t (some c)
 
 -- a policy: its parts and its condition
 pub record PolicyPlaced (t : List ℕ) (p : Policy) : Type 0 where

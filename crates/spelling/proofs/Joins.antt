@@ -33,7 +33,8 @@ use Rattle.tokens.proofs.FormLaws.{mark-passes}
 use Rattle.reading.specs.Lexemes.{Lexeme, lexeme, tokensOf, TokensOf, ended, goes-on}
 use Rattle.reading.proofs.Listed.{tokens-stand, tokens-are}
 use Rattle.spelling.specs.Spelling.{lexemeAt, apart, calm, closed, border}
-use Rattle.spelling.specs.Moves.{moved, further}
+use Rattle.grammar.specs.Moves.{further}
+use Rattle.spelling.specs.Moves.{movedLexeme}
 use Rattle.spelling.proofs.Apart.{form-longest, form-first, form-kind, longest-apart, calm-apart, calm-no-point, blank-calm, dot-is}
 use Rattle.spelling.proofs.Laid.{Laid, Laid.blank, Laid.before, Fine, tokens-laid, token-next, behind-token}
 
@@ -282,32 +283,32 @@ module _ (pre u : List ℕ) where
       let there = longest-token (pre ++ u) (length pre + at) (omega (arith, length-append pre u)) in
       subst (StandsAt (pre ++ u) (length pre + at)) (token-further pre u at ∙ ap (shift.further (length pre)) same) there
 
-  lexeme-further : (t : Token) → lexeme (pre ++ u) (shift.further (length pre) t) ≡ moved (further (length pre)) (lexeme u t)
+  lexeme-further : (t : Token) → lexeme (pre ++ u) (shift.further (length pre) t) ≡ movedLexeme (further (length pre)) (lexeme u t)
   unfolding shift.further
   lexeme-further t =
       let size : length pre + t .end - (length pre + t .start) ≡ t .end - t .start = omega arith in rw (size, drop-append-add pre u (t .start))
 
   list-further : {at : ℕ} {us : List Lexeme} → at ≤ length u → TokensOf u at us
-      → TokensOf (pre ++ u) (length pre + at) (map (moved (further (length pre))) us)
+      → TokensOf (pre ++ u) (length pre + at) (map (movedLexeme (further (length pre))) us)
   unfolding shift.further
   list-further h (ended {t = t} s e) = ended (stands-further h s) e
   list-further {at} h (goes-on {t = t} {ts = ts} s n k) =
       let r = reads u at h in
       let high : t .end ≤ length u = rw (one-token u at t (tokenAt u at) s (longest-token u at h)) (r .high) in
-      let all : TokensOf (pre ++ u) (length pre + at) (lexeme (pre ++ u) (shift.further (length pre) t) ∷ map (moved (further (length pre))) ts) =
+      let all : TokensOf (pre ++ u) (length pre + at) (lexeme (pre ++ u) (shift.further (length pre) t) ∷ map (movedLexeme (further (length pre))) ts) =
       goes-on (stands-further h s) n (list-further high k) in
       rw (lexeme-further t) at all
 
 -- where no token of t is a refusal and u may stand behind them: the tokens of t, and then those of u, so much further on; u may be any text
 pub tokens-join : (t u : List ℕ) → Fine (tokensOf t) → border (tokensOf t) (getD u 0 0) ≡ true
-    → tokensOf (t ++ u) ≡ tokensOf t ++ map (moved (further (length t))) (tokensOf u)
+    → tokensOf (t ++ u) ≡ tokensOf t ++ map (movedLexeme (further (length t))) (tokensOf u)
 tokens-join t u f c =
-    let behind : TokensOf (t ++ u) (0 + length t) (map (moved (further (length t))) (tokensOf u)) =
-    subst (λ (i : ℕ). TokensOf (t ++ u) i (map (moved (further (length t))) (tokensOf u))) (omega arith)
+    let behind : TokensOf (t ++ u) (0 + length t) (map (movedLexeme (further (length t))) (tokensOf u)) =
+    subst (λ (i : ℕ). TokensOf (t ++ u) i (map (movedLexeme (further (length t))) (tokensOf u))) (omega arith)
     (list-further t u {at = 0} (omega arith) (tokens-stand u)) in
     tokens-are (t ++ u) (then-list (t ++ u) [] u refl refl (tokens-laid t f) c behind)
 
 -- behind `;` always
 pub tokens-closed : (t u : List ℕ) → Fine (tokensOf t) → closed (tokensOf t) ≡ true
-    → tokensOf (t ++ u) ≡ tokensOf t ++ map (moved (further (length t))) (tokensOf u)
+    → tokensOf (t ++ u) ≡ tokensOf t ++ map (movedLexeme (further (length t))) (tokensOf u)
 tokens-closed t u f c = tokens-join t u f (closed-border (tokensOf t) (getD u 0 0) c)

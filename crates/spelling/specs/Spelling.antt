@@ -36,11 +36,11 @@ spaced at [] = []
 spaced at (x ∷ xs) = lexemeAt at (x .kind) (x .bytes) ∷ spaced (at + length (x .bytes) + 1) xs
 
 -- what a token says, apart from its place; and what a spelling does
-abbrev pub said : Lexeme → ℕ × List ℕ
-said x = (x .kind, x .bytes)
+abbrev pub lexemeSays : Lexeme → ℕ × List ℕ
+lexemeSays x = (x .kind, x .bytes)
 
-abbrev pub saidBy : Spelling → ℕ × List ℕ
-saidBy x = (x .kind, x .bytes)
+abbrev pub spellingSays : Spelling → ℕ × List ℕ
+spellingSays x = (x .kind, x .bytes)
 
 -- the byte b behind the bytes p of a token makes it no longer (0 at the text's end): no byte of words behind a word, no digit and no point behind a number,
 -- no `=` behind a mark that may have one. A number with a fraction needs no care for a point; the test asks it all the same.

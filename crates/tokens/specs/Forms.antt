@@ -13,11 +13,12 @@ use Rattle.slices.specs.Ascii.{bytes}
 use Rattle.slices.specs.Parts.{Begins}
 use Rattle.tokens.specs.Kinds as kinds
 use Rattle.tokens.specs.Runs.{is}
-use Rattle.tokens.specs.Tokens.{token, badByte}
+use Rattle.tokens.specs.Tokens.{token, badByteToken}
 use Rattle.tokens.specs.Words.{wordKind}
 use Rattle.tokens.specs.declared.classes.Sort.{Sort}
 use Rattle.tokens.specs.declared.classes.Sort.the-variants.{Blanks, Digits, Letters, WordBytes, StringBytes}
 use Rattle.tokens.specs.declared.reader.Token.{Token}
+use Rattle.tokens.specs.Sizes.{mostWordBytes, mostStringBytes, mostDigits}
 
 -- ---- the forms
 
@@ -93,7 +94,7 @@ sizeOf kind l = cond (eqb kind kinds.string) (length l - 2) (cond (eqb kind kind
 
 -- the largest size that is admitted
 abbrev pub mostOf : ℕ → ℕ
-mostOf kind = cond (eqb kind kinds.string) 127 (cond (eqb kind kinds.number) 15 64)
+mostOf kind = cond (eqb kind kinds.string) mostStringBytes (cond (eqb kind kinds.number) mostDigits mostWordBytes)
 
 -- ---- the token at a place
 
@@ -114,12 +115,12 @@ pub data Stands (start : ℕ) : List ℕ → Token → Type 0 where
   end-of-text : Stands start [] (token kinds.endOfText start start)
   a-token : {kind : ℕ} {p l : List ℕ} → Longest kind p l → sizeOf kind p ≤ mostOf kind → Stands start l (token kind start (start + length p))
   too-long : {kind : ℕ} {p l : List ℕ} → Longest kind p l → mostOf kind < sizeOf kind p → Stands start l (token kinds.tooLong start (start + length p))
-  a-colon : {l : List ℕ} → NoForm (code ":" ∷ l) → Stands start (code ":" ∷ l) (token kinds.colon start (start + 1))
-  bad-byte : {b : ℕ} {l : List ℕ} → NoForm (b ∷ l) → b ≢ code ":" → b ≢ quote → Stands start (b ∷ l) (badByte start)
+  a-colon : {l : List ℕ} → NoForm (code ":" ∷ l) → Stands start (code ":" ∷ l) (token kinds.colonOutside start (start + 1))
+  bad-byte : {b : ℕ} {l : List ℕ} → NoForm (b ∷ l) → b ≢ code ":" → b ≢ quote → Stands start (b ∷ l) (badByteToken start)
   unended : {inside : List ℕ} → NoForm (quote ∷ inside) → All StringBytes inside
       → Stands start (quote ∷ inside) (token kinds.unended start (start + 1 + length inside))
   bad-inside : {inside : List ℕ} {b : ℕ} (l : List ℕ) → NoForm (quote ∷ (inside ++ b ∷ l)) → All StringBytes inside → (b < 0x20) ⊎ (b ≡ 0x7f)
-      → Stands start (quote ∷ (inside ++ b ∷ l)) (badByte (start + 1 + length inside))
+      → Stands start (quote ∷ (inside ++ b ∷ l)) (badByteToken (start + 1 + length inside))
 
 -- the token at or after a place: the blanks there are passed, and the rest, which may be empty, begins with none
 pub record StandsAt (text : List ℕ) (at : ℕ) (t : Token) : Type 0 where

@@ -32,12 +32,12 @@ pub record StandsFor (s : List ℕ) (v : Value) (d : Datum) : Type 0 where
 -- ---- the same of entries, of the base, and of what is chosen
 
 -- an entry
-abbrev pub meant : List ℕ → Entry Value → Entry Datum
-meant s e = record { path = e .path; value = datumIn s (e .value) }
+abbrev pub entryMeant : List ℕ → Entry Value → Entry Datum
+entryMeant s e = record { path = e .path; value = datumIn s (e .value) }
 
 -- the three sections as a bag
 unfoldable pub baseBag : List ℕ → Sections → Bag
-baseBag s p root = map (meant s) (baseOf s p root)
+baseBag s p root = map (entryMeant s) (baseOf s p root)
 
 -- a column with what is chosen for it
 abbrev pub chosenMeant : List ℕ → Chosen Value → Chosen Datum
