@@ -1,4 +1,4 @@
--- Laws of paths: the dotPieces between the dots, as runs of word bytes find them. Assumes nothing.
+-- Laws of paths: the pieces between the dots, as runs of word bytes find them. Assumes nothing.
 use Prim.Native.Nat.{ℕ, suc, _+_, _-_, _<_, _≤_}
 use mathlib.Core.List.{List, [], _∷_, _++_}
 use mathlib.Core.Bool.{Bool, true, false, _&&_, _||_, cond, and-eq-true-iff, and-true, and-false, or-true}
@@ -12,12 +12,12 @@ use lib.Seq.{take-all, getD-drop, drop-drop}
 use borrow.Author.Tests.{eqb-true, eqb-false, eq-eqb, ne-eqb, le-leb, lt-leb, leb-true}
 use Rattle.tokens.specs.Bytes.{classOf}
 use Rattle.tokens.specs.Kinds.{name}
-use Rattle.tokens.specs.Runs.{is, run, runEnd}
+use Rattle.tokens.specs.Runs.{isOf, run, runEnd}
 use Rattle.tokens.specs.Words.{wordKind}
 use Rattle.tokens.specs.declared.classes.Sort.the-variants.{Letters, WordBytes}
 use Rattle.bags.specs.Paths.{every, isName, onto, dotPieces, isPath}
 
--- ---- dotPieces
+-- ---- pieces
 
 -- there is a first piece
 pub record Pieces (l : List ℕ) : Type 0 where
@@ -34,7 +34,7 @@ some-piece (b ∷ rest) = go (eqb b 46) refl (some-piece rest)
     go true e p = record { first = []; others = dotPieces rest; are = simp e }
     go false e p = record { first = b ∷ p .first; others = p .others; are = simp (e, p .are) }
 
--- dotPieces joined by dots
+-- pieces joined by dots
 unfoldable pub joined : List (List ℕ) → List ℕ
 joined [] = []
 joined (p ∷ []) = p
@@ -56,26 +56,26 @@ joined-again (b ∷ rest) = go (eqb b 46) refl (some-piece rest) (joined-again r
 
 -- ---- a run of word bytes, and the piece that starts with it
 
-pub dot-is-none : (b : ℕ) → is WordBytes b ≡ true → eqb b 46 ≡ false
+pub dot-is-none : (b : ℕ) → isOf WordBytes b ≡ true → eqb b 46 ≡ false
 unfolding classOf
 dot-is-none b h = ne-eqb b 46 (λ e. let z : false ≡ true = rw e at h in let k : _≡_ {A = ℕ} 0 1 = cc in omega arith)
 
-run-words : (l : List ℕ) → every (is WordBytes) (take (run WordBytes l) l) ≡ true
+run-words : (l : List ℕ) → every (isOf WordBytes) (take (run WordBytes l) l) ≡ true
 unfolding run every
 run-words [] = refl
-run-words (b ∷ rest) = go (is WordBytes b) refl (run-words rest)
+run-words (b ∷ rest) = go (isOf WordBytes b) refl (run-words rest)
   where
-    go : (t : Bool) → is WordBytes b ≡ t → every (is WordBytes) (take (run WordBytes rest) rest) ≡ true
-        → every (is WordBytes) (take (cond t (suc (run WordBytes rest)) 0) (b ∷ rest)) ≡ true
+    go : (t : Bool) → isOf WordBytes b ≡ t → every (isOf WordBytes) (take (run WordBytes rest) rest) ≡ true
+        → every (isOf WordBytes) (take (cond t (suc (run WordBytes rest)) 0) (b ∷ rest)) ≡ true
     go true e h = simp (e, h)
     go false e h = refl
 
 piece-last : (l : List ℕ) → run WordBytes l ≡ length l → dotPieces l ≡ l ∷ []
 unfolding run dotPieces
 piece-last [] h = refl
-piece-last (b ∷ rest) h = go (is WordBytes b) refl (piece-last rest) h
+piece-last (b ∷ rest) h = go (isOf WordBytes b) refl (piece-last rest) h
   where
-    go : (t : Bool) → is WordBytes b ≡ t → (run WordBytes rest ≡ length rest → dotPieces rest ≡ rest ∷ []) → cond t (suc (run WordBytes rest)) 0 ≡ suc (length rest)
+    go : (t : Bool) → isOf WordBytes b ≡ t → (run WordBytes rest ≡ length rest → dotPieces rest ≡ rest ∷ []) → cond t (suc (run WordBytes rest)) 0 ≡ suc (length rest)
         → cond (eqb b 46) ([] ∷ dotPieces rest) (onto b (dotPieces rest)) ≡ (b ∷ rest) ∷ []
     go true e ih k = simp (dot-is-none b e, ih (omega arith))
     go false e ih k = absurd (omega arith)
@@ -83,12 +83,12 @@ piece-last (b ∷ rest) h = go (is WordBytes b) refl (piece-last rest) h
 piece-dot : (l : List ℕ) → run WordBytes l < length l → getD l (run WordBytes l) 0 ≡ 46 → dotPieces l ≡ take (run WordBytes l) l ∷ dotPieces (drop (suc (run WordBytes l)) l)
 unfolding run dotPieces
 piece-dot [] h d = absurd (omega arith)
-piece-dot (b ∷ rest) h d = go (is WordBytes b) refl (piece-dot rest) h d
+piece-dot (b ∷ rest) h d = go (isOf WordBytes b) refl (piece-dot rest) h d
   where
     k : ℕ
     k = run WordBytes rest
 
-    go : (t : Bool) → is WordBytes b ≡ t
+    go : (t : Bool) → isOf WordBytes b ≡ t
         → (k < length rest → getD rest k 0 ≡ 46 → dotPieces rest ≡ take k rest ∷ dotPieces (drop (suc k) rest))
         → cond t (suc k) 0 < suc (length rest) → getD (b ∷ rest) (cond t (suc k) 0) 0 ≡ 46
         → cond (eqb b 46) ([] ∷ dotPieces rest) (onto b (dotPieces rest)) ≡ take (cond t (suc k) 0) (b ∷ rest) ∷ dotPieces (drop (suc (cond t (suc k) 0)) (b ∷ rest))
@@ -100,31 +100,31 @@ record Spoilt (l : List ℕ) : Type 0 where
   first : List ℕ
   others : List (List ℕ)
   are : dotPieces l ≡ first ∷ others
-  bad : every (is WordBytes) first ≡ false
+  bad : every (isOf WordBytes) first ≡ false
 
 piece-spoilt : (l : List ℕ) → run WordBytes l < length l → (getD l (run WordBytes l) 0 ≡ 46 → ⊥) → Spoilt l
 unfolding run dotPieces every
 piece-spoilt [] h d = absurd (omega arith)
-piece-spoilt (b ∷ rest) h d = go (is WordBytes b) refl (piece-spoilt rest) h d
+piece-spoilt (b ∷ rest) h d = go (isOf WordBytes b) refl (piece-spoilt rest) h d
   where
     k : ℕ
     k = run WordBytes rest
 
-    go : (t : Bool) → is WordBytes b ≡ t → (k < length rest → (getD rest k 0 ≡ 46 → ⊥) → Spoilt rest) → cond t (suc k) 0 < suc (length rest)
+    go : (t : Bool) → isOf WordBytes b ≡ t → (k < length rest → (getD rest k 0 ≡ 46 → ⊥) → Spoilt rest) → cond t (suc k) 0 < suc (length rest)
         → (getD (b ∷ rest) (cond t (suc k) 0) 0 ≡ 46 → ⊥) → Spoilt (b ∷ rest)
     go true e ih h′ d′ =
         let s = ih (omega arith) d′ in
-        record { first = b ∷ s .first; others = s .others; are = simp (dot-is-none b e, s .are); bad = rw (s .bad) (and-false (is WordBytes b)) }
+        record { first = b ∷ s .first; others = s .others; are = simp (dot-is-none b e, s .are); bad = rw (s .bad) (and-false (isOf WordBytes b)) }
     go false e ih h′ d′ =
         let p = some-piece rest in
         record { first = b ∷ p .first; others = p .others; are = simp (ne-eqb b 46 d′, p .are); bad = simp e }
 
--- ---- whether the dotPieces are names, by the first run of word bytes
+-- ---- whether the pieces are names, by the first run of word bytes
 
 -- a run of word bytes is a name if it begins with a letter and is not reserved
-pub name-run : (w : List ℕ) → every (is WordBytes) w ≡ true → (is Letters (getD w 0 0) && eqb (wordKind w) name) ≡ isName w
+pub name-run : (w : List ℕ) → every (isOf WordBytes) w ≡ true → (isOf Letters (getD w 0 0) && eqb (wordKind w) name) ≡ isName w
 unfolding isName
-name-run w h = simp (h, and-true (is Letters (getD w 0 0)))
+name-run w h = simp (h, and-true (isOf Letters (getD w 0 0)))
 
 pub no-name : (w : List ℕ) → length w ≡ 0 → false ≡ isName w
 unfolding isName classOf
@@ -143,7 +143,7 @@ module _ (l : List ℕ) where
   unfolding every isName
   spoilt h d =
       let s = piece-spoilt l h d in
-      rw (s .are, s .bad, and-false (is Letters (getD (s .first) 0 0)))
+      rw (s .are, s .bad, and-false (isOf Letters (getD (s .first) 0 0)))
 
   nameless : run WordBytes l ≤ length l → isName word ≡ false → every isName (dotPieces l) ≡ false
   unfolding every word
@@ -171,7 +171,7 @@ module _ (path : List ℕ) (at end : ℕ) (is-end : end ≡ runEnd WordBytes pat
   size : end - at ≡ run WordBytes (drop at path)
   size = omega arith
 
-  pub word-bytes-run : every (is WordBytes) (take (end - at) (drop at path)) ≡ true
+  pub word-bytes-run : every (isOf WordBytes) (take (end - at) (drop at path)) ≡ true
   word-bytes-run = rw size (run-words (drop at path))
 
   pub not-a-name : isName (take (end - at) (drop at path)) ≡ false → every isName (dotPieces (drop at path)) ≡ false
@@ -224,31 +224,31 @@ module _ (p : List ℕ) where
 
 -- ---- the bytes of a path
 
-words : (ps : List (List ℕ)) → every isName ps ≡ true → every (every (is WordBytes)) ps ≡ true
+words : (ps : List (List ℕ)) → every isName ps ≡ true → every (every (isOf WordBytes)) ps ≡ true
 unfolding every isName
 words [] h = refl
 words (p ∷ ps) h =
     let t = and-eq-true-iff (isName p) (every isName ps) .0 h in
-    let w = and-eq-true-iff (is Letters (getD p 0 0) && every (is WordBytes) p) (eqb (wordKind p) name) .0 (t .0) in
-    simp (and-eq-true-iff (is Letters (getD p 0 0)) (every (is WordBytes) p) .0 (w .0) .1, words ps (t .1))
+    let w = and-eq-true-iff (isOf Letters (getD p 0 0) && every (isOf WordBytes) p) (eqb (wordKind p) name) .0 (t .0) in
+    simp (and-eq-true-iff (isOf Letters (getD p 0 0)) (every (isOf WordBytes) p) .0 (w .0) .1, words ps (t .1))
 
 -- a byte that a path may have
 abbrev pub pathByte : ℕ → Bool
-pathByte b = is WordBytes b || eqb b 46
+pathByte b = isOf WordBytes b || eqb b 46
 
-word-bytes : (l : List ℕ) → every (every (is WordBytes)) (dotPieces l) ≡ true → every pathByte l ≡ true
+word-bytes : (l : List ℕ) → every (every (isOf WordBytes)) (dotPieces l) ≡ true → every pathByte l ≡ true
 unfolding every dotPieces
 word-bytes [] h = refl
 word-bytes (b ∷ rest) h = go (eqb b 46) refl h (some-piece rest) (word-bytes rest)
   where
-    go : (t : Bool) → eqb b 46 ≡ t → every (every (is WordBytes)) (cond t ([] ∷ dotPieces rest) (onto b (dotPieces rest))) ≡ true → Pieces rest
-        → (every (every (is WordBytes)) (dotPieces rest) ≡ true → every pathByte rest ≡ true) → every pathByte (b ∷ rest) ≡ true
-    go true e k p ih = simp (e, or-true (is WordBytes b), ih k)
+    go : (t : Bool) → eqb b 46 ≡ t → every (every (isOf WordBytes)) (cond t ([] ∷ dotPieces rest) (onto b (dotPieces rest))) ≡ true → Pieces rest
+        → (every (every (isOf WordBytes)) (dotPieces rest) ≡ true → every pathByte rest ≡ true) → every pathByte (b ∷ rest) ≡ true
+    go true e k p ih = simp (e, or-true (isOf WordBytes b), ih k)
     go false e k p ih =
-        let k' : every (every (is WordBytes)) ((b ∷ p .first) ∷ p .others) ≡ true = rw (p .are) at k in
-        let t = and-eq-true-iff (is WordBytes b && every (is WordBytes) (p .first)) (every (every (is WordBytes)) (p .others)) .0 k' in
-        let w = and-eq-true-iff (is WordBytes b) (every (is WordBytes) (p .first)) .0 (t .0) in
-        let r : every (every (is WordBytes)) (dotPieces rest) ≡ true = rw (p .are) (simp (w .1, t .1)) in
+        let k' : every (every (isOf WordBytes)) ((b ∷ p .first) ∷ p .others) ≡ true = rw (p .are) at k in
+        let t = and-eq-true-iff (isOf WordBytes b && every (isOf WordBytes) (p .first)) (every (every (isOf WordBytes)) (p .others)) .0 k' in
+        let w = and-eq-true-iff (isOf WordBytes b) (every (isOf WordBytes) (p .first)) .0 (t .0) in
+        let r : every (every (isOf WordBytes)) (dotPieces rest) ≡ true = rw (p .are) (simp (w .1, t .1)) in
         simp (w .0, ih r)
 
 pub path-bytes : (p : List ℕ) → isPath p ≡ true → every pathByte p ≡ true

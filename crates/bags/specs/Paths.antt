@@ -6,7 +6,7 @@ use mathlib.Core.List.{List, [], _∷_}
 use lib.Dec.{leb, eqb}
 use lib.ListN.{length, getD}
 use Rattle.tokens.specs.Kinds.{name}
-use Rattle.tokens.specs.Runs.{is}
+use Rattle.tokens.specs.Runs.{isOf}
 use Rattle.tokens.specs.Words.{wordKind}
 use Rattle.tokens.specs.declared.classes.Sort.the-variants.{Letters, WordBytes}
 use Rattle.tokens.specs.Sizes.{mostPathBytes}
@@ -18,7 +18,7 @@ every test (x ∷ xs) = test x && every test xs
 
 -- a word: a letter, then letters, digits, `_`, `-`
 abbrev pub isWordBytes : List ℕ → Bool
-isWordBytes w = is Letters (getD w 0 0) && every (is WordBytes) w
+isWordBytes w = isOf Letters (getD w 0 0) && every (isOf WordBytes) w
 
 -- any word but a reserved one
 unfoldable pub isName : List ℕ → Bool
@@ -29,7 +29,7 @@ abbrev pub onto : ℕ → List (List ℕ) → List (List ℕ)
 onto b [] = (b ∷ []) ∷ []
 onto b (p ∷ ps) = (b ∷ p) ∷ ps
 
--- the dotPieces between the dots
+-- the pieces between the dots
 unfoldable pub dotPieces : List ℕ → List (List ℕ)
 dotPieces [] = [] ∷ []
 dotPieces (b ∷ rest) = cond (eqb b (code ".")) ([] ∷ dotPieces rest) (onto b (dotPieces rest))

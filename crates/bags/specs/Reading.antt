@@ -1,4 +1,4 @@
--- Things read from bytes, one after the other. A reader says where the thing that starts at a endPlace ends, or Bad. Definitions only.
+-- Things read from bytes, one after the other. A reader says where the thing that starts at a place ends, or Bad. Definitions only.
 use Prim.Native.Nat.{ℕ, zero, suc}
 use mathlib.Core.List.{List, [], _∷_}
 use mathlib.Core.Bool.{Bool, true, false}
@@ -18,12 +18,12 @@ abbrev pub only : Bool → After → After
 only true a = a
 only false a = Bad
 
--- whether it ended at a endPlace
+-- whether it ended at a place
 abbrev pub endsAt : After → ℕ → Bool
 endsAt (At e) n = eqb e n
 endsAt Bad n = false
 
--- the endPlace where it ended, and 0 where it is Bad
+-- the place where it ended, and 0 where it is Bad
 abbrev pub endPlace : After → ℕ
 endPlace (At e) = e
 endPlace Bad = 0
@@ -43,6 +43,6 @@ unfoldable pub each : {A : Type 0} → ℕ → (ℕ → After) → (ℕ → ℕ 
 each zero next what at = []
 each (suc n) next what at = following (next at) λ e. what at e ∷ each n next what e
 
--- the byte at a endPlace, and 0 past the end
+-- the byte at a place, and 0 past the end
 abbrev pub byte : List ℕ → ℕ → ℕ
 byte s at = getD s at 0

@@ -5,7 +5,7 @@ use mathlib.Core.Path.{_≡_}
 use mathlib.Core.Bool.{Bool, true, false, _&&_}
 use lib.Dec.{ltb, leb, eqb}
 use lib.ListN.{length}
-use Rattle.slices.specs.Order.{Before, before}
+use Rattle.slices.specs.Order.{SortsBefore, sortsBefore}
 use Rattle.slices.specs.Parts.{part}
 use Rattle.bags.specs.Reading.{byte, only, many, each}
 use Rattle.bags.specs.Paths.{isPath}
@@ -31,7 +31,7 @@ entryEnd s at = only (ltb (kindAt s at) (length s) && isPath (entryPath s at)) (
 -- the paths that follow p: each stands after the one before it, the first after p
 unfoldable pub ascends : List ℕ → List (List ℕ) → Bool
 ascends p [] = true
-ascends p (q ∷ qs) = before p q && ascends q qs
+ascends p (q ∷ qs) = sortsBefore p q && ascends q qs
 
 -- each path stands before the next
 unfoldable pub ascending : List (List ℕ) → Bool
@@ -42,7 +42,7 @@ ascending (p ∷ ps) = ascends p ps
 pub data Ascending : List (List ℕ) → Type 0 where
   none : Ascending []
   one : {p : List ℕ} → Ascending (p ∷ [])
-  more : {p q : List ℕ} {ps : List (List ℕ)} → Before p q → Ascending (q ∷ ps) → Ascending (p ∷ q ∷ ps)
+  more : {p q : List ℕ} {ps : List (List ℕ)} → SortsBefore p q → Ascending (q ∷ ps) → Ascending (p ∷ q ∷ ps)
 
 -- the paths of n entries
 abbrev pub pathsOf : ℕ → List ℕ → ℕ → List (List ℕ)

@@ -20,7 +20,7 @@ use Rattle.grammar.specs.Parser.{atEnd, read-text}
 use Rattle.grammar.specs.Lowest as lowest
 use Rattle.reading.proofs.Listed.{tokens-stand, tokens-are}
 use Rattle.grammar.proofs.Exactly.{says-exactly}
-use Rattle.grammar.proofs.Rows.{refused-exactly}
+use Rattle.grammar.proofs.Rows.{tokens-refused-exactly}
 use Rattle.table.specs.Entries.{policiesEntries}
 use Rattle.table.specs.Layout.{entrySize, bytesOf, held, startsWith}
 use Rattle.table.proofs.Holding.{length-bytesOf, starts-itself, starts-decides, held-starts}
@@ -177,7 +177,7 @@ refused-at text (refuse n r) number at q e =
       tokens = tokensOf text;
       listed = tokens-stand text;
       rest = r;
-      refused = refused-exactly (tokensOf text) r number .0 (q ∙ rw same);
+      refused = tokens-refused-exactly (tokensOf text) r number .0 (q ∙ rw same);
       place-is = let x : spotOf text (refusalAt text n r .start) ≡ at = cc in ap (spotOf text) (sym (start-is text n r)) ∙ x;
     }
 
@@ -185,7 +185,7 @@ refused-at text (refuse n r) number at q e =
 told-there : (text : List ℕ) (number : ℕ) (at : Spot) → RefusedThere text number at → toldOf text (foundBy text (said text)) ≡ Refused number at
 unfolding toldOf foundBy said lowest.TokensRefusedExactly
 told-there text number at t =
-    rw (tokens-are text (t .listed), refused-exactly (t .tokens) (t .rest) number .1 (t .refused), number-is text number (t .rest), start-is text number (t .rest), t .place-is)
+    rw (tokens-are text (t .listed), tokens-refused-exactly (t .tokens) (t .rest) number .1 (t .refused), number-is text number (t .rest), start-is text number (t .rest), t .place-is)
 
 pub refused-there : RefusedExactly
 unfolding RefusedExactly compiledOf
@@ -246,9 +246,9 @@ pub no-policies-no-bytes : NoPoliciesNoBytes
 unfolding NoPoliciesNoBytes
 no-policies-no-bytes text room bytes e = let k = compiles text room 0 bytes e in k .used ∙ no-entries (k .value) (k .many)
 
-pub one-result : OneCompiled
+pub one-compiled : OneCompiled
 unfolding OneCompiled
-one-result text old new new′ r r′ c d = (c .answered ∙ sym (d .answered), c .table ∙ sym (d .table))
+one-compiled text old new new′ r r′ c d = (c .answered ∙ sym (d .answered), c .table ∙ sym (d .table))
 
 -- ---- a table that begins right
 

@@ -24,7 +24,7 @@ use Rattle.compiling.specs.declared.Compiled.the-variants.{Policies, Ref
 use Rattle.compiling.specs.declared.Held.{Held}
 use Rattle.compiling.specs.declared.Held.the-variants.{Right, Wrong}
 
--- the bytes of table that must be lent for each byte of a text, and for all of it
+-- the most bytes of a text
 abbrev pub tablePerByte : ℕ
 tablePerByte = 8
 

@@ -10,7 +10,7 @@ use lib.Ieee.{Float, ofBits, eq}
 use lib.ListN.{length}
 use denote.Ref.{RefT, now}
 use Rattle.slices.specs.Same.{same}
-use Rattle.slices.specs.Order.{Before}
+use Rattle.slices.specs.Order.{SortsBefore}
 use Rattle.slices.proofs.Decided.{one-answer, no-to}
 use Rattle.slices.proofs.Order.{before-trans, not-before-itself}
 use Rattle.slices.specs.Parts.{part, IsPart}
@@ -87,10 +87,10 @@ module _ (bag : List ℕ) where
 
 -- ---- what is found is the value of an entry with the path, or nothing
 
-apart : {p q : List ℕ} {ps : List (List ℕ)} → Ascending (p ∷ q ∷ ps) → Before p q × Ascending (q ∷ ps)
+apart : {p q : List ℕ} {ps : List (List ℕ)} → Ascending (p ∷ q ∷ ps) → SortsBefore p q × Ascending (q ∷ ps)
 apart (more b r) = (b, r)
 
-another : {p q path : List ℕ} → Before p q → q ≡ path → p ≡ path → ⊥
+another : {p q path : List ℕ} → SortsBefore p q → q ≡ path → p ≡ path → ⊥
 another {p} {q} b k s = let z : q ≡ p = k ∙ sym s in not-before-itself (rw z at b)
 
 behind : {p : List ℕ} {ps : List (List ℕ)} → Ascending (p ∷ ps) → Ascending ps
@@ -162,7 +162,7 @@ module _ (bag path : List ℕ) where
       record { sections = p; divided = d; start = start; section = s; entry = entry; among = m; path-is = k; kind-is = w .0; place-is = w .1 }
 
   -- an entry behind a path stands after it
-  later-after : {p : List ℕ} {n at entry : ℕ} → EntryOf bag n at entry → Ascending (p ∷ pathsOf n bag at) → Before p (entryPath bag entry)
+  later-after : {p : List ℕ} {n at entry : ℕ} → EntryOf bag n at entry → Ascending (p ∷ pathsOf n bag at) → SortsBefore p (entryPath bag entry)
   unfolding each
   later-after (the-first q) a = apart (rw q at a) .0
   later-after (a-later q m) a = let w = apart (rw q at a) in before-trans (w .0) (later-after m (w .1))

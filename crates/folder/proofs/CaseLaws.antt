@@ -11,11 +11,11 @@ use Rattle.folder.specs.Cases.{partSize, partOf, behindPart, Case, caseO
 -- ---- a part
 
 module _ (s : List ℕ) (at : ℕ) where
-  -- the bytes behindPart its length
+  -- the bytes behind its length
   past-length : drop 2 (drop at s) ≡ drop (at + 2) s
   past-length = drop-drop 2 at s
 
-  -- the bytes behindPart it
+  -- the bytes behind it
   past-part : (size : ℕ) → drop (2 + size) (drop at s) ≡ drop (at + 2 + size) s
   past-part size = let e : at + (2 + size) ≡ at + 2 + size = omega arith in drop-drop (2 + size) at s ∙ ap (λ (n : ℕ). drop n s) e
 
@@ -78,7 +78,7 @@ module _ (s : List ℕ) (at : ℕ) where
 
 -- ---- cases
 
--- the bytes behindPart a case are fewer
+-- the bytes behind a case are fewer
 shorter : (s : List ℕ) → length (behindPart s) ≤ length s - 2
 unfolding behindPart
 shorter s = omega (arith, length-drop (2 + partSize s) s)
@@ -99,7 +99,7 @@ same-cases (suc turns) (suc more) [] h g = refl
 same-cases (suc turns) (suc more) (b ∷ s) h g =
     ap (λ (cs : List Case). caseOf (b ∷ s) ∷ cs) (same-cases turns more (pastCase (b ∷ s)) (omega (arith, fewer (b ∷ s))) (omega (arith, fewer (b ∷ s))))
 
--- the first case, and those behindPart it
+-- the first case, and those behind it
 pub first-case : (s : List ℕ) → 0 < length s → casesOf s ≡ caseOf s ∷ casesOf (pastCase s)
 unfolding casesOf casesIn
 first-case [] h = absurd (omega arith)
@@ -116,7 +116,7 @@ no-case (b ∷ s) h = absurd (omega arith)
 abbrev pub cutOut : List ℕ → Part → List ℕ
 cutOut s p = take (p .end - p .start) (drop (p .start) s)
 
--- the four parts that are cut, one behindPart the other, are the case at a place
+-- the four parts that are cut, one behind the other, are the case at a place
 module _ {s : List ℕ} {at : ℕ} {p q r t : Part} (subject : PartAt s at p) (action : PartAt s (p .end) q) (resource : PartAt s (q .end) r) (bag : PartAt s (r .end) t) where
   pub case-cut : _≡_ {A = Case} (record { subject = cutOut s p; action = cutOut s q; resource = cutOut s r; bag = cutOut s t }) (caseOf (drop at s))
   unfolding caseOf

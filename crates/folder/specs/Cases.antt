@@ -1,4 +1,4 @@
--- The cases that the bytes of cases.bin have: one after the other, each of four parts, each part behindPart its length in two bytes; what is missing at the end is empty. Definitions only.
+-- The cases that the bytes of cases.bin have: one after the other, each of four parts, each part behind its length in two bytes; what is missing at the end is empty. Definitions only.
 use mathlib.Core.Path.{_≡_}
 use mathlib.Core.List.{List, [], _∷_}
 use Prim.Native.Nat.{ℕ, zero, suc, _+_, _-_, _*_, _≤_, _<_}
@@ -9,11 +9,11 @@ use Rattle.folder.specs.declared.cases.Part.{Part}
 abbrev pub partSize : List ℕ → ℕ
 partSize s = getD s 0 0 + 256 * getD s 1 0
 
--- the first part: so many bytes behindPart its length, or as many as there are
+-- the first part: so many bytes behind its length, or as many as there are
 unfoldable pub partOf : List ℕ → List ℕ
 partOf s = take (partSize s) (drop 2 s)
 
--- the bytes behindPart it
+-- the bytes behind it
 unfoldable pub behindPart : List ℕ → List ℕ
 behindPart s = drop (2 + partSize s) s
 
@@ -28,7 +28,7 @@ pub record Case : Type 0 where
 unfoldable pub caseOf : List ℕ → Case
 caseOf s = record { subject = partOf s; action = partOf (behindPart s); resource = partOf (behindPart (behindPart s)); bag = partOf (behindPart (behindPart (behindPart s))) }
 
--- the bytes behindPart it
+-- the bytes behind it
 unfoldable pub pastCase : List ℕ → List ℕ
 pastCase s = behindPart (behindPart (behindPart (behindPart s)))
 
@@ -42,7 +42,7 @@ casesIn (suc n) (b ∷ s) = caseOf (b ∷ s) ∷ casesIn n (pastCase (b ∷ s))
 unfoldable pub casesOf : List ℕ → List Case
 casesOf s = casesIn (length s) s
 
--- the part that starts at a place lies inside the bytes, and the bytes behindPart it are those from its end on
+-- the part that starts at a place lies inside the bytes, and the bytes behind it are those from its end on
 pub record PartAt (s : List ℕ) (at : ℕ) (p : Part) : Type 0 where
   pub bytes : take (p .end - p .start) (drop (p .start) s) ≡ partOf (drop at s)
   pub rest : drop (p .end) s ≡ behindPart (drop at s)

@@ -1,4 +1,4 @@
--- What is admitted lastPasses tokens that break no rule, and what the last of these tokens say of it. Assumes nothing.
+-- What is admitted behind tokens that break no rule, and what the last of these tokens say of it. Assumes nothing.
 use mathlib.Core.Path.{_≡_, refl, sym, ap, _∙_}
 use mathlib.Core.Logic.{_⊎_, inl, inr, ⊎-elim}
 use mathlib.Core.Bool.{Bool, true, false, cond, _&&_}
@@ -187,9 +187,9 @@ type-stands b alive t = go (alive .on) (alive .belongs) (type-next (alive .on) b
 pub stands-type : (b : List Lexeme) → SomeAdmitted kinds.name b → (atName (reverse b) ≡ true) ⊎ (atType (reverse b) ≡ true)
 stands-type b h = ⊎-elim (λ e. inl e) (λ e. inr (e .0)) (name-place (h .token) (h .admitted .under .on) b (walk-admitted b (h .token) (h .admitted)) (h .is-one))
 
--- ---- lastPasses an attribute as left operand
+-- ---- behind an attribute as left operand
 
--- an attribute lastPasses c, by the tokens before a place, the last first, and those lastPasses it
+-- an attribute behind c, by the tokens before a place, the last first, and those behind it
 record Some (i r : List Lexeme) : Type 0 where
   value : Operand
   is : Attribute unlimited i r value

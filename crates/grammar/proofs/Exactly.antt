@@ -43,20 +43,20 @@ exactly : {A : Type 0} {a : A} {r : List Lexeme} {x : Answer A} → Nearly (λ n
 exactly exact = refl
 exactly (excused z) = absurd z
 
-pub accepted-exactly : TokensAcceptedExactly
+pub tokens-accepted-exactly : TokensAcceptedExactly
 unfolding TokensAcceptedExactly
-accepted-exactly i ps = (λ e. goes-took (rw e at (viable-text 0 i)) .1, λ h. exactly (complete-text strictly i h))
+tokens-accepted-exactly i ps = (λ e. goes-took (rw e at (viable-text 0 i)) .1, λ h. exactly (complete-text strictly i h))
 
 pub one-reading : Unambiguous
 unfolding Unambiguous TokensAcceptedExactly
-one-reading i ps qs a b = let x = accepted-exactly i ps .1 a in let y = accepted-exactly i qs .1 b in cc
+one-reading i ps qs a b = let x = tokens-accepted-exactly i ps .1 a in let y = tokens-accepted-exactly i qs .1 b in cc
 
 -- A text of bytes says the policies that the reader finds in its tokens, and no others.
 pub says-exactly : (text : List ℕ) (ps : List Policy) → (read-text (tokensOf text) ≡ took ps []) ↔ SaysPolicies text ps
 unfolding TokensAcceptedExactly
 says-exactly text ps = (
-  λ e. record { tokens = tokensOf text; listed = tokens-stand text; belongs = accepted-exactly (tokensOf text) ps .0 e },
-  λ s. rw (tokens-are text (s .listed)) (accepted-exactly (s .tokens) ps .1 (s .belongs)),
+  λ e. record { tokens = tokensOf text; listed = tokens-stand text; belongs = tokens-accepted-exactly (tokensOf text) ps .0 e },
+  λ s. rw (tokens-are text (s .listed)) (tokens-accepted-exactly (s .tokens) ps .1 (s .belongs)),
 )
 
 -- and one list of them

@@ -34,14 +34,14 @@ Ends K a c i = K c
 quietly : Plain (At Quiet)
 quietly = record { at = λ c i h x. quiet-ten h x }
 
--- lastPasses a token of the kind k, which is no name, no comma and no `(`
+-- behind a token of the kind k, which is no name, no comma and no `(`
 behind-kind : (k : ℕ) → (eqb k kinds.name ≡ false) × (eqb k kinds.comma ≡ false) × (eqb k kinds.leftRound ≡ false) → {P : Places} {x : Lexeme} {c i : List Lexeme} → x .kind ≡ k → Stepped x P c i
     → TestsAt (eqb k kinds.dot || eqb k kinds.hasWord) false (eqb k kinds.isWord) (opens k) (eqb k kinds.likeWord) (eqb k kinds.semicolon) c
 behind-kind k h e (stepped q) = at-kind k h _ _ e
 
 -- ---- paths
 
--- lastPasses a path after the root, or lastPasses the word of a call
+-- behind a path after the root, or behind the word of a call
 data AfterWay (left : Bool) (root : Root) : Way → List Lexeme → Type 0 where
   plainly : {p : Path} {c : List Lexeme} → Named left root c → AfterWay left root (plain p) c
   called : {p : Path} {w : Which} {x : Lexeme} {c : List Lexeme} → isContains x ≡ true → AfterWay left root (calling p w) (x ∷ c)
@@ -86,7 +86,7 @@ tells-path root = tells-bind _ (tells-way false root noExit (λ x e. absurd (nev
 
 -- ---- operands and lists
 
--- lastPasses a root that begins no left operand
+-- behind a root that begins no left operand
 data RightRoot : Root → List Lexeme → Type 0 where
   right : {x : Lexeme} {c : List Lexeme} → isRoot x ≡ true → Quiet c → RightRoot (rootOf x) (x ∷ c)
 
@@ -114,11 +114,11 @@ tells-operand =
     root : {x : Lexeme} {c i : List Lexeme} → isRoot x ≡ true → Stepped x (λ c i. Quiet c × Without isLiteral i) c i → RightRoot (rootOf x) c
     root t (stepped h) = right t (h .0)
 
--- lastPasses one part of a target, or a list
+-- behind one part of a target, or a list
 abbrev BehindPart : List Lexeme → Type 0
 BehindPart c = Quiet c × (lastPasses isLiteral c ≡ false)
 
--- lastPasses a literal of a list that so has the literals ls
+-- behind a literal of a list that so has the literals ls
 data Listed (sort : Lexeme → Bool) (ls : List Literal) : List Lexeme → Type 0 where
   listed : {k : ℕ} {l : Lexeme} {c : List Lexeme} → InList sort k c → length ls ≡ suc k → suc k ≤ mostLiterals → isLiteral l ≡ true → Listed sort ls (l ∷ c)
 
@@ -185,7 +185,7 @@ tells-operator a K b =
     held : {x : Lexeme} {c i : List Lexeme} → x .kind ≡ kinds.inWord → Stepped x (λ c i. ((K c × NoAction c) × Without isComparator i) × Without (is kinds.likeWord) i) c i → Quiet c × (actionIn c ≡ false)
     held {x = x} e (stepped h) = (at-kind kinds.inWord (refl, refl, refl) x _ e, no-action-in x _ (h .0 .0 .1))
 
--- lastPasses containsAll or containsAny
+-- behind containsAll or containsAny
 data Called : List Lexeme → Type 0 where
   word : {x : Lexeme} {c : List Lexeme} → isContains x ≡ true → Called (x ∷ c)
 
@@ -217,7 +217,7 @@ tells-rest root (calling p w) = tells-weaker (tells-call w root _) (λ c i h. go
     go : {p : Path} {w : Which} {c : List Lexeme} → AfterWay true root (calling p w) c → Called c
     go (called t) = word t
 
--- lastPasses a root where a condition begins
+-- behind a root where a condition begins
 data LeftRoot : Root → List Lexeme → Type 0 where
   leads : {x : Lexeme} {c : List Lexeme} → isRoot x ≡ true → AtCondition c → LeftRoot (rootOf x) (x ∷ c)
 
@@ -302,14 +302,14 @@ tells-condition (suc d) = tells-simple _ (tells-weaker (tells-deeper (tells-cond
 
 -- ---- policies
 
--- lastPasses a token of the kind k
+-- behind a token of the kind k
 data Behind (k : ℕ) : List Lexeme → Type 0 where
   after : {x : Lexeme} {c : List Lexeme} → x .kind ≡ k → Behind k (x ∷ c)
 
 stepped-after : {k : ℕ} {P : Places} {x : Lexeme} {c i : List Lexeme} → x .kind ≡ k → Stepped x P c i → Behind k c
 stepped-after e (stepped h) = after e
 
--- lastPasses a token of this kind there is no literal, and nothing to tell
+-- behind a token of this kind there is no literal, and nothing to tell
 after-part : (k : ℕ) → isLiteral (made k) ≡ false → ((x : Lexeme) (c : List Lexeme) → x .kind ≡ k → Quiet (x ∷ c)) → {c : List Lexeme} → Behind k c → BehindPart c
 unfolding lastPasses
 after-part k f q (after {x = x} e) = (q x _ e, rw e f)
@@ -358,11 +358,11 @@ tells-when =
     (λ u x c r e h. at-kind kinds.rightBrace (refl, refl, refl) x c e))))
     (tells-took _ (λ c i h. h .0))
 
--- lastPasses an effect
+-- behind an effect
 data Effect : List Lexeme → Type 0 where
   effect : {x : Lexeme} {c : List Lexeme} → isEffect x ≡ true → Effect (x ∷ c)
 
--- lastPasses a policy
+-- behind a policy
 abbrev Policed : List Lexeme → Type 0
 Policed = TestsAt false false false false false true
 
@@ -393,7 +393,7 @@ tells-policy permits =
 
 -- ---- texts
 
--- at the start of a text where no policy begins, or lastPasses a policy
+-- at the start of a text where no policy begins, or behind a policy
 data Between : List Policy → List Lexeme → List Lexeme → Type 0 where
   none : {i : List Lexeme} → Without (mayBegin []) i → Between [] [] i
   policed : {ps : List Policy} {c i : List Lexeme} → Policed c → Between ps c i

@@ -24,7 +24,7 @@ use Rattle.grammar.proofs.Excess.{goes-on-nowhere}
 use Rattle.grammar.proofs.Numbered.{numbered-rightly}
 use Rattle.grammar.proofs.Admitting.{less-under, goes-on-else, name-stands, stands-name, type-stands, stands-type, left-stands, stands-left}
 
--- ---- the rows of numberOfToken
+-- ---- the rows of numberOf
 
 -- what a number of the table says of the place and the token
 data Row (c : List Lexeme) (x : Lexeme) : ℕ → Type 0 where
@@ -163,9 +163,9 @@ one-number b r n m h k = let x = h .least m (k .applies) in let y = k .least n (
 
 -- ---- refusal, exactly
 
-pub refused-exactly : TokensRefusedExactly
+pub tokens-refused-exactly : TokensRefusedExactly
 unfolding TokensRefusedExactly NumberedLowest OneNumber OnePlace RefusedRightly
-refused-exactly i r n = (by, λ t. back t (read-text i) refl)
+tokens-refused-exactly i r n = (by, λ t. back t (read-text i) refl)
   where
     by : read-text i ≡ refuse n r → RefusedBy i r n
     by e = let w = refused-rightly i r n e in record { rightly = w; lowest = numbered-lowest (w .before) r n (rw (← w .split) e) }

@@ -29,7 +29,7 @@ pub record TestsAt (n l t b p s : Bool) (c : List Lexeme) : Type 0 where
   pub policy : afterPolicy c ≡ s
   pub list : (x : Lexeme) → oneMore mostLiterals c x ≡ false
 
--- where no test holds, where a condition must begin, lastPasses an attribute as left operand
+-- where no test holds, where a condition must begin, behind an attribute as left operand
 abbrev pub Quiet : List Lexeme → Type 0
 Quiet = TestsAt false false false false false false
 
@@ -93,9 +93,9 @@ on-path-number {c = c} h root e x = go (is kinds.name x) root refl ∙ sym (rw e
     go true Action q = rw (eqb-true (x .kind) kinds.name q)
     go false root q = rw q
 
--- ---- the place lastPasses a token
+-- ---- the place behind a token
 
--- neither lastPasses an attribute nor in a list, by the last token
+-- neither behind an attribute nor in a list, by the last token
 no-left : (y : Lexeme) (c : List Lexeme) → is kinds.name y ≡ false → afterLeft (y ∷ c) ≡ false
 unfolding afterLeft
 no-left y [] e = refl
@@ -106,11 +106,11 @@ unfolding oneMore
 no-list y [] e x = refl
 no-list y (l ∷ c) e x = rw e
 
--- a token lastPasses which a condition begins, but for `(`
+-- a token behind which a condition begins, but for `(`
 abbrev pub opens : ℕ → Bool
 opens k = eqb k kinds.leftBrace || eqb k kinds.bang || eqb k kinds.ifWord || eqb k kinds.thenWord || eqb k kinds.elseWord || eqb k kinds.and || eqb k kinds.or
 
--- lastPasses a token of the kind k, which is no name, no comma and no `(`
+-- behind a token of the kind k, which is no name, no comma and no `(`
 pub at-kind : (k : ℕ) → (eqb k kinds.name ≡ false) × (eqb k kinds.comma ≡ false) × (eqb k kinds.leftRound ≡ false) → (y : Lexeme) (c : List Lexeme) → y .kind ≡ k
     → TestsAt (eqb k kinds.dot || eqb k kinds.hasWord) false (eqb k kinds.isWord) (opens k) (eqb k kinds.likeWord) (eqb k kinds.semicolon) (y ∷ c)
 unfolding lastPasses atCondition
@@ -124,13 +124,13 @@ at-kind k h y c e = record {
   list = no-list y c (rw e (h .1));
 }
 
--- the kinds lastPasses which something is to be told
+-- the kinds behind which something is to be told
 abbrev telling : List ℕ
 telling =
     kinds.dot ∷ kinds.hasWord ∷ kinds.name ∷ kinds.isWord ∷ kinds.leftRound ∷ kinds.leftBrace ∷ kinds.bang ∷ kinds.ifWord ∷ kinds.thenWord ∷ kinds.elseWord ∷ kinds.and ∷ kinds.or
     ∷ kinds.likeWord ∷ kinds.semicolon ∷ kinds.comma ∷ []
 
--- lastPasses a token that passes a test which they all fail
+-- behind a token that passes a test which they all fail
 quiet-by : (test : ℕ → Bool) → every (λ k. not (test k)) telling ≡ true → (y : Lexeme) (c : List Lexeme) → test (y .kind) ≡ true → Quiet (y ∷ c)
 unfolding lastPasses atCondition
 quiet-by test f y c t = record {
@@ -166,7 +166,7 @@ pub quiet-effect : (y : Lexeme) (c : List Lexeme) → isEffect y ≡ true → Qu
 unfolding every
 quiet-effect y c t = quiet-by (λ k. isEffect (made k)) refl y c t
 
--- what a bracket stands lastPasses that is a target's or a call's
+-- what a bracket stands behind that is a target's or a call's
 abbrev pub other : List Lexeme → Bool
 other = lastPasses (λ z. isEffect z || isContains z)
 
@@ -182,7 +182,7 @@ quiet-comma y c e f = record { name = rw e; left = no-left y c (rw e); type = rw
     go [] f x = refl
     go (l ∷ c) f x = rw (e, f)
 
--- lastPasses a name: it goes by what the name is of
+-- behind a name: it goes by what the name is of
 pub at-left : (l : Bool) (y : Lexeme) (c : List Lexeme) → y .kind ≡ kinds.name → afterLeft (y ∷ c) ≡ l → TestsAt false l false false false false (y ∷ c)
 unfolding lastPasses atCondition
 at-left l y c e f = record { name = rw e; left = f; type = rw e; begins = rw e; pattern = rw e; policy = rw e; list = no-list y c (rw e) }
@@ -251,7 +251,7 @@ after-name (longer {n = m} {d = d} {c = c} h k e) n f = rw (eq-eqb (n .kind) kin
     no-root : (m : Lexeme) → m .kind ≡ kinds.name → isRoot m ≡ false
     no-root m k = rw k
 
--- lastPasses a name of the path
+-- behind a name of the path
 pub data Named (left : Bool) (root : Root) : List Lexeme → Type 0 where
   named : {n : Lexeme} {c : List Lexeme} → OnPath left root c → n .kind ≡ kinds.name → Named left root (n ∷ c)
 

@@ -33,7 +33,7 @@ pub record Plain (x : Lexeme) : Type 0 where
   bang : is kinds.bang x ≡ false
   type : is kinds.isWord x ≡ false
 
--- The tokens lastPasses c, whose last comes first, up to the end of the text: a name stands where a path goes on or is a type lastPasses `is`, `!` stands where a condition begins, and lastPasses `is` stands a type.
+-- The tokens behind c, whose last comes first, up to the end of the text: a name stands where a path goes on or is a type behind `is`, `!` stands where a condition begins, and behind `is` stands a type.
 pub data Walks : List Lexeme → List Lexeme → Type 0 where
   done : {c : List Lexeme} → Walks c []
   step : {x : Lexeme} {c i : List Lexeme} → Plain x → Walks (x ∷ c) i → Walks c (x ∷ i)
@@ -63,7 +63,7 @@ Ends r = (d : List Lexeme) → Walks d r
 past : (k : ℕ) → (eqb k kinds.name ≡ false) × (eqb k kinds.bang ≡ false) × (eqb k kinds.isWord ≡ false) → {x : Lexeme} {r : List Lexeme} → x .kind ≡ k → Ends r → Ends (x ∷ r)
 past k h e f d = step (by-kind k h e) (f _)
 
--- lastPasses a dot and lastPasses `has` stands a name
+-- behind a dot and behind `has` stands a name
 behind-dot : (x : Lexeme) (d : List Lexeme) → x .kind ≡ kinds.dot → atName (x ∷ d) ≡ true
 unfolding lastPasses
 behind-dot x d e = rw e
@@ -72,7 +72,7 @@ behind-has : (x : Lexeme) (d : List Lexeme) → x .kind ≡ kinds.hasWord → at
 unfolding lastPasses
 behind-has x d e = rw e
 
--- lastPasses a token of the kind k, which is no name, no `!` and no `is`, a condition begins
+-- behind a token of the kind k, which is no name, no `!` and no `is`, a condition begins
 record Opens (k : ℕ) : Type 0 where
   plain : (eqb k kinds.name ≡ false) × (eqb k kinds.bang ≡ false) × (eqb k kinds.isWord ≡ false)
   begins : (x : Lexeme) (d : List Lexeme) → x .kind ≡ k → atCondition (x ∷ d) ≡ true
@@ -242,7 +242,7 @@ bang-place y on (x ∷ z ∷ b) (typed q n t w) e = bang-place y on b w e
 pub data NameFirst : List Lexeme → Type 0 where
   name-first : {y : Lexeme} {on : List Lexeme} → y .kind ≡ kinds.name → NameFirst (y ∷ on)
 
--- lastPasses `is` stand such
+-- behind `is` stand such
 pub type-next : (on b : List Lexeme) {c : List Lexeme} → atType c ≡ false → Walks c (b ++ on) → atType (reverseAux b c) ≡ true → NameFirst on
 unfolding lastPasses
 type-next on [] f w e = absurd (never (rw f at e))

@@ -14,7 +14,7 @@ use Rattle.grammar.specs.Parser.{read-text}
 
 -- ---- places
 
--- lastPasses a token that passes the test
+-- behind a token that passes the test
 unfoldable pub lastPasses : (Lexeme → Bool) → List Lexeme → Bool
 lastPasses test [] = false
 lastPasses test (y ∷ c) = test y
@@ -31,7 +31,7 @@ atType = lastPasses (is kinds.isWord)
 abbrev pub atPattern : List Lexeme → Bool
 atPattern = lastPasses (is kinds.likeWord)
 
--- lastPasses a policy
+-- behind a policy
 abbrev pub afterPolicy : List Lexeme → Bool
 afterPolicy = lastPasses (is kinds.semicolon)
 
@@ -47,7 +47,7 @@ unfoldable pub leftRoot : List Lexeme → Bool
 leftRoot [] = false
 leftRoot (x ∷ c) = isRoot x && atCondition c
 
--- lastPasses an attribute as left operand: a root and names, each after a dot
+-- behind an attribute as left operand: a root and names, each after a dot
 unfoldable pub afterLeft : List Lexeme → Bool
 afterLeft [] = false
 afterLeft (n ∷ []) = false
@@ -64,7 +64,7 @@ actionIn [] = false
 actionIn (w ∷ []) = false
 actionIn (w ∷ a ∷ c) = is kinds.inWord w && is kinds.actionWord a
 
--- x would be a literal more in a list lastPasses k literals, each with its comma; in the action part it is a string
+-- x would be a literal more in a list behind k literals, each with its comma; in the action part it is a string
 unfoldable pub oneMore : ℕ → List Lexeme → Lexeme → Bool
 oneMore zero [] x = false
 oneMore zero (s ∷ c) x = is kinds.leftSquare s && cond (actionIn c) (is kinds.string x) (isLiteral x)
@@ -74,7 +74,7 @@ oneMore (suc k) (y ∷ l ∷ c) x = is kinds.comma y && isLiteral l && oneMore k
 
 -- ---- the table, the lowest number first
 
--- the number of the token x lastPasses the tokens c
+-- the number of the token x behind the tokens c
 unfoldable pub numberOfToken : List Lexeme → Lexeme → ℕ
 numberOfToken c x =
     cond (ltb (x .kind) 7) (x .kind)

@@ -11,7 +11,7 @@ use lib.ListN.{length}
 use Rattle.slices.specs.Same.{same}
 use Rattle.slices.proofs.Equal.{same-decides}
 use Rattle.tokens.specs.Bytes.{classOf}
-use Rattle.tokens.specs.Runs.{is}
+use Rattle.tokens.specs.Runs.{isOf}
 use Rattle.tokens.specs.declared.classes.Sort.the-variants.{Blanks, WordBytes}
 use Rattle.numbers.specs.Bits.{numberAt}
 use Rattle.numbers.proofs.Exponent.{finite-by-bits}
@@ -35,7 +35,7 @@ use Rattle.lookups.proofs.FindLaws.{look-done, look-here, look-on, base
 
 -- ---- a path has no blanks
 
-no-blank : (b : ℕ) → is WordBytes b ≡ true → is Blanks b ≡ false
+no-blank : (b : ℕ) → isOf WordBytes b ≡ true → isOf Blanks b ≡ false
 unfolding classOf
 no-blank b h = ne-eqb (classOf b) 2 (λ e. go (eqb b 95) (eqb b 45) refl refl e)
   where
@@ -47,7 +47,7 @@ no-blank b h = ne-eqb (classOf b) 2 (λ e. go (eqb b 95) (eqb b 45) refl refl e)
         other : (c : ℕ) (u m : Bool) → c ≡ 2 → u ≡ false → m ≡ false → (eqb c 5 || eqb c 4 || u || m) ≡ false
         other c u m x y z = simp (x, y, z)
 
-dot : {b : ℕ} → b ≡ 46 → is Blanks b ≡ false
+dot : {b : ℕ} → b ≡ 46 → isOf Blanks b ≡ false
 unfolding classOf
 dot e = rw e
 
@@ -56,9 +56,9 @@ unfolding unblanked every
 clear [] h = refl
 clear (b ∷ rest) h =
     let t = and-eq-true-iff (pathByte b) (every pathByte rest) .0 h in
-    simp (neither (is WordBytes b) refl (t .0), clear rest (t .1))
+    simp (neither (isOf WordBytes b) refl (t .0), clear rest (t .1))
   where
-    neither : (w : Bool) → is WordBytes b ≡ w → (is WordBytes b || eqb b 46) ≡ true → is Blanks b ≡ false
+    neither : (w : Bool) → isOf WordBytes b ≡ w → (isOf WordBytes b || eqb b 46) ≡ true → isOf Blanks b ≡ false
     neither true e k = no-blank b e
     neither false e k = dot (eqb-true b 46 (rw e at k))
 

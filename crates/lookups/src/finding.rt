@@ -4,7 +4,7 @@ ghost use mathlib.Core.Bool.{true};
 ghost use Prim.Native.Nat.{ℕ, _+_, _<_, _≤_};
 ghost use lib.ListN.{length};
 ghost use Rattle.slices.specs.Same.{same};
-ghost use Rattle.tokens.specs.Runs.{is};
+ghost use Rattle.tokens.specs.Runs.{isOf};
 ghost use Rattle.tokens.specs.declared.classes.Sort.the-variants.{Blanks};
 ghost use Rattle.slices.specs.Parts.{part};
 ghost use Rattle.bags.specs.Reading.{byte, many, each};
@@ -22,7 +22,7 @@ use crate::values::value_from;
 use bags::sections::Sections;
 
 fn is_blank(c: u8) -> bool
-    ensures { λ r. ⌜ r ≡ is Blanks c ⌝ }
+    ensures { λ r. ⌜ r ≡ isOf Blanks c ⌝ }
 {
     (c == b' ') | (c == b'\t') | (c == b'\n') | (c == b'\r')
 }

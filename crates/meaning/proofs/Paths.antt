@@ -8,7 +8,7 @@ use lib.ListN.{length}
 use borrow.Author.Tests.{eqb-true, eq-eqb, leb-true, le-leb}
 use Rattle.tokens.specs.Bytes.{classOf}
 use Rattle.tokens.specs.Kinds as kinds
-use Rattle.tokens.specs.Runs.{is}
+use Rattle.tokens.specs.Runs.{isOf}
 use Rattle.tokens.specs.Words.{wordKind}
 use Rattle.tokens.specs.Forms.{All, empty, next}
 use Rattle.tokens.specs.declared.classes.Sort.the-variants.{Letters, WordBytes}
@@ -19,12 +19,12 @@ use Rattle.meaning.specs.Paths.{PathsAlike, PathsShared}
 
 -- ---- names
 
-all-words : (l : List ℕ) → every (is WordBytes) l ≡ true → All WordBytes l
+all-words : (l : List ℕ) → every (isOf WordBytes) l ≡ true → All WordBytes l
 unfolding every
 all-words [] e = empty
-all-words (b ∷ rest) e = let w = and-eq-true-iff (is WordBytes b) (every (is WordBytes) rest) .0 e in next (w .0) (all-words rest (w .1))
+all-words (b ∷ rest) e = let w = and-eq-true-iff (isOf WordBytes b) (every (isOf WordBytes) rest) .0 e in next (w .0) (all-words rest (w .1))
 
-every-word : {l : List ℕ} → All WordBytes l → every (is WordBytes) l ≡ true
+every-word : {l : List ℕ} → All WordBytes l → every (isOf WordBytes) l ≡ true
 unfolding every
 every-word empty = refl
 every-word (next e a) = simp (e, every-word a)
@@ -33,9 +33,9 @@ name-then : (n : List ℕ) → isName n ≡ true → IsName n
 unfolding isName every classOf
 name-then [] e = absurd (false≢true e)
 name-then (b ∷ rest) e =
-    let w = and-eq-true-iff (is Letters b && (is WordBytes b && every (is WordBytes) rest)) (eqb (wordKind (b ∷ rest)) kinds.name) .0 e in
-    let v = and-eq-true-iff (is Letters b) (is WordBytes b && every (is WordBytes) rest) .0 (w .0) in
-    let u = and-eq-true-iff (is WordBytes b) (every (is WordBytes) rest) .0 (v .1) in
+    let w = and-eq-true-iff (isOf Letters b && (isOf WordBytes b && every (isOf WordBytes) rest)) (eqb (wordKind (b ∷ rest)) kinds.name) .0 e in
+    let v = and-eq-true-iff (isOf Letters b) (isOf WordBytes b && every (isOf WordBytes) rest) .0 (w .0) in
+    let u = and-eq-true-iff (isOf WordBytes b) (every (isOf WordBytes) rest) .0 (v .1) in
     a-name (v .0) (all-words rest (u .1)) (eqb-true (wordKind (b ∷ rest)) kinds.name (w .1))
 
 then-name : {n : List ℕ} → IsName n → isName n ≡ true
@@ -59,7 +59,7 @@ path-then p e =
     let f = some-piece p in
     subst IsPath (joined-again p) (rw (f .are) (joined-path (f .first) (f .others) (rw (f .are) at e)))
 
--- ---- dotPieces between dots
+-- ---- pieces between dots
 
 word-whole : {l : List ℕ} → All WordBytes l → dotPieces l ≡ l ∷ []
 unfolding dotPieces

@@ -13,7 +13,7 @@ use Rattle.slices.specs.Ascii.{bytes}
 use Rattle.slices.proofs.Equal.{same-decides}
 use Rattle.tokens.specs.Bytes.{classOf, letter, digit}
 use Rattle.tokens.specs.Kinds as kinds
-use Rattle.tokens.specs.Runs.{is}
+use Rattle.tokens.specs.Runs.{isOf}
 use Rattle.tokens.specs.Forms.{All, empty, next}
 use Rattle.tokens.specs.declared.classes.Sort.the-variants.{Blanks, Letters, WordBytes}
 use Rattle.tokens.proofs.TokenLaws.{and-left, and-right}
@@ -29,14 +29,14 @@ use Rattle.placing.proofs.Standing.{between, length-between, name-form,
 
 -- ---- without blanks
 
-blankless : (b : ℕ) (l : List ℕ) → is Blanks b ≡ false → unblanked (b ∷ l) ≡ b ∷ unblanked l
+blankless : (b : ℕ) (l : List ℕ) → isOf Blanks b ≡ false → unblanked (b ∷ l) ≡ b ∷ unblanked l
 unfolding unblanked
 blankless b l e = rw e
 
 unblanked-append : (a b : List ℕ) → unblanked (a ++ b) ≡ unblanked a ++ unblanked b
 unfolding unblanked
 unblanked-append [] b = refl
-unblanked-append (c ∷ a) b = go (is Blanks c) (unblanked-append a b)
+unblanked-append (c ∷ a) b = go (isOf Blanks c) (unblanked-append a b)
   where
     go : (t : Bool) → unblanked (a ++ b) ≡ unblanked a ++ unblanked b
         → cond t (unblanked (a ++ b)) (c ∷ unblanked (a ++ b)) ≡ cond t (unblanked a) (c ∷ unblanked a) ++ unblanked b
@@ -48,14 +48,14 @@ unfolding unblanked
 unblanked-blanks empty = refl
 unblanked-blanks (next e a) = rw e (unblanked-blanks a)
 
-letter-no-blank : (b : ℕ) → is Letters b ≡ true → is Blanks b ≡ false
+letter-no-blank : (b : ℕ) → isOf Letters b ≡ true → isOf Blanks b ≡ false
 letter-no-blank b e = rw (eqb-true (classOf b) letter e)
 
-word-no-blank : (b : ℕ) → is WordBytes b ≡ true → is Blanks b ≡ false
+word-no-blank : (b : ℕ) → isOf WordBytes b ≡ true → isOf Blanks b ≡ false
 unfolding classOf
 word-no-blank b e = go (eqb (classOf b) letter) (eqb (classOf b) digit) (eqb b (code "_")) refl refl refl
   where
-    go : (l d u : Bool) → eqb (classOf b) letter ≡ l → eqb (classOf b) digit ≡ d → eqb b (code "_") ≡ u → is Blanks b ≡ false
+    go : (l d u : Bool) → eqb (classOf b) letter ≡ l → eqb (classOf b) digit ≡ d → eqb b (code "_") ≡ u → isOf Blanks b ≡ false
     go true d u p q r = letter-no-blank b p
     go false true u p q r = rw (eqb-true (classOf b) digit q)
     go false false true p q r = rw (eqb-true b (code "_") r)

@@ -8,7 +8,7 @@ use lib.ListN.{length, getD, take, drop}
 use Rattle.slices.specs.Ascii.{bytes}
 use Rattle.tokens.specs.Blanks.{unblanked}
 use Rattle.tokens.specs.Kinds as kinds
-use Rattle.tokens.specs.Runs.{is}
+use Rattle.tokens.specs.Runs.{isOf}
 use Rattle.tokens.specs.Words.{wordKind}
 use Rattle.tokens.specs.Forms.{All, quote}
 use Rattle.tokens.specs.declared.classes.Sort.the-variants.{Letters, WordBytes, StringBytes}
@@ -33,7 +33,7 @@ pathAt t s = unblanked (bytesAt t s)
 
 -- a name: a letter, then word bytes, and no reserved word
 pub data IsName : List ℕ → Type 0 where
-  a-name : {b : ℕ} {rest : List ℕ} → is Letters b ≡ true → All WordBytes rest → wordKind (b ∷ rest) ≡ kinds.name → IsName (b ∷ rest)
+  a-name : {b : ℕ} {rest : List ℕ} → isOf Letters b ≡ true → All WordBytes rest → wordKind (b ∷ rest) ≡ kinds.name → IsName (b ∷ rest)
 
 -- a path: names joined by dots
 pub data IsPath : List ℕ → Type 0 where

@@ -20,7 +20,7 @@ use Rattle.questions.proofs.ColumnLaws.{Columned, column-at}
 -- ---- a store
 
 module _ {A : Type 0} (l : List A) (j : ℕ) (v d : A) (fits : j < length l) (P : A → Type 0) where
-  -- what holds of the value at its endPlace, and elsewhere of the old one, holds after the store
+  -- what holds of the value at its place, and elsewhere of the old one, holds after the store
   pub set-cases : (k : ℕ) → (k ≡ j → P v) → ((k ≡ j → ⊥) → P (getD l k d)) → P (getD (set l j v) k d)
   set-cases k same other = go (eqb k j) refl
     where

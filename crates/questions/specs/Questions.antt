@@ -38,19 +38,19 @@ pub record Question (s : List ℕ) (p : Sections) : Type 0 where
 
 -- ---- places, by column and choice
 
--- where column i of those from a endPlace on starts
+-- where column i of those from a place on starts
 abbrev pub headOf : List ℕ → ℕ → ℕ → ℕ
 headOf s at i = endPlace (many i (columnEnd s) at)
 
--- how many candidates the column at a endPlace has
+-- how many candidates the column at a place has
 abbrev pub countOf : List ℕ → ℕ → ℕ
 countOf s c = byte s (countAt s c)
 
--- where the kind byte of candidate j of the column at a endPlace stands, and 0 where there is none
+-- where the kind byte of candidate j of the column at a place stands, and 0 where there is none
 unfoldable pub choiceAt : List ℕ → ℕ → ℕ → ℕ
 choiceAt s c j = cond (ltb j (countOf s c)) (endPlace (many j (candidateEnd s) (countAt s c + 1))) 0
 
--- the same for column i of the n columns from a endPlace on
+-- the same for column i of the n columns from a place on
 unfoldable pub cell : List ℕ → ℕ → ℕ → ℕ → ℕ → ℕ
 cell s at n i j = cond (ltb i n) (choiceAt s (headOf s at i) j) 0
 
@@ -61,6 +61,6 @@ abbrev pub product : List ℕ → ℕ
 product [] = 1
 product (n ∷ ns) = n * product ns
 
--- the number of rows: the product of the counts of the n columns from a endPlace on
+-- the number of rows: the product of the counts of the n columns from a place on
 unfoldable pub rowsOf : ℕ → List ℕ → ℕ → ℕ
 rowsOf n s at = product (each n (columnEnd s) (λ c e. countOf s c) at)

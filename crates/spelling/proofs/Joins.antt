@@ -15,7 +15,7 @@ use Rattle.slices.specs.Same.{same}
 use Rattle.slices.proofs.Equal.{same-decides}
 use Rattle.tokens.specs.Bytes.{classOf}
 use Rattle.tokens.specs.Kinds as kinds
-use Rattle.tokens.specs.Runs.{is}
+use Rattle.tokens.specs.Runs.{isOf}
 use Rattle.tokens.specs.Tokens.{token, tokenAt}
 use Rattle.tokens.specs.Words.{reserved}
 use Rattle.tokens.specs.Forms.{All, empty, next, marks, Form, a-word, a-string, a-number, a-mark, whole, pointed, plain, minus, digits-from, sizeOf, mostOf}
@@ -62,7 +62,7 @@ stands-longest f b (bad-inside l n a o) e = absurd (let k = form-kind f in let z
 -- no blanks are passed where a form begins
 no-blanks : {kind : ℕ} {p : List ℕ} → Form kind p → (q : List ℕ) {b : List ℕ} (rest : List ℕ) → p ++ q ≡ b ++ rest → All Blanks b → b ≡ []
 no-blanks f q rest e empty = refl
-no-blanks {p = p} f q rest e (next {b = c} h a) = absurd (never (sym (form-first f q) ∙ (ap (λ (l : List ℕ). is Blanks (getD l 0 0)) e ∙ h)))
+no-blanks {p = p} f q rest e (next {b = c} h a) = absurd (never (sym (form-first f q) ∙ (ap (λ (l : List ℕ). isOf Blanks (getD l 0 0)) e ∙ h)))
 
 longest-more : {kind : ℕ} {p : List ℕ} (q u : List ℕ) → Longest kind p (p ++ q) → sizeOf kind p ≤ mostOf kind → 2 ≤ length q → Longest kind p (p ++ (q ++ u))
 longest-more {kind} {p} q u l f h =

@@ -1,4 +1,4 @@
--- A rule text whose tokens are movedLexeme says its policies movedLexeme. Assumes nothing.
+-- A rule text whose tokens are moved says its policies moved. Assumes nothing.
 use mathlib.Core.Path.{_≡_, refl, ap, _∙_, subst}
 use mathlib.Core.Bool.{Bool, true, false, cond}
 use mathlib.Core.List.{List, [], _∷_, _++_, map, map-append}
@@ -29,7 +29,7 @@ module _ (m : Move) where
   movedPath : Path → Path
   movedPath p = record { start = m .first (p .start); end = m .behind (p .end); used = p .used }
 
-  -- what R reads, S reads where the tokens and what they say are movedLexeme
+  -- what R reads, S reads where the tokens and what they say are moved
   record Carries {A : Type 0} (f : A → A) (R S : Reading A) : Type 0 where
     at : {i r : List Lexeme} {a : A} → AllKeep m i → R i r a → AllKeep m r × S (map (movedLexeme m) i) (map (movedLexeme m) r) (f a)
 
@@ -245,6 +245,6 @@ module _ (m : Move) where
       let few : ltb (length (map (movedPolicy m) ps)) mostPolicies ≡ true = rw (length-map ps (movedPolicy m)) l in
       policy t few (q .1) rest
 
-  -- movedLexeme tokens say the policies, movedLexeme
+  -- moved tokens say the policies, moved
   pub text-moved : {i : List Lexeme} {ps : List Policy} → AllKeep m i → RuleText sizes i ps → RuleText sizes (map (movedLexeme m) i) (map (movedPolicy m) ps)
   text-moved k h = moved-policies k h

@@ -44,7 +44,7 @@ back-again n (x ∷ ts) =
     let e : n + x .end - n ≡ x .end = omega arith in
     rw (s, e) (ap (λ (l : List Lexeme). x ∷ l) (back-again n ts))
 
--- what movedLexeme tokens say, the tokens say by their own places
+-- what moved tokens say, the tokens say by their own places
 pub moved-back : (n : ℕ) (ts : List Lexeme) {qs : List Policy} → RuleText sizes (map (movedLexeme (further n)) ts) qs
     → (ps : List Policy) × RuleText sizes ts ps × (qs ≡ furtherOn n ps)
 unfolding Unambiguous

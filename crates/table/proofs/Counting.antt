@@ -21,7 +21,7 @@ use Rattle.grammar.specs.Grammar as grammar
 use Rattle.grammar.specs.Grammar.{sizes}
 use Rattle.grammar.specs.Parser.{read-text}
 use Rattle.grammar.specs.Promise.{TokensAcceptedExactly}
-use Rattle.grammar.proofs.Exactly.{accepted-exactly}
+use Rattle.grammar.proofs.Exactly.{tokens-accepted-exactly}
 use Rattle.grammar.proofs.Framing.{shrinks-names}
 use Rattle.reading.specs.Reader.{took}
 use Rattle.table.specs.declared.Entry.{Entry}
@@ -184,4 +184,4 @@ module _ (text : List ℕ) where
 -- no more entries than bytes
 pub entries-few : (text : List ℕ) (ps : List Policy) → read-text (tokensOf text) ≡ took ps [] → length (policiesEntries 0 ps) ≤ length text
 unfolding TokensAcceptedExactly
-entries-few text ps e = let x = no-more-than-tokens sizes (accepted-exactly (tokensOf text) ps .0 e) in let y = no-more-than-bytes text in omega arith
+entries-few text ps e = let x = no-more-than-tokens sizes (tokens-accepted-exactly (tokensOf text) ps .0 e) in let y = no-more-than-bytes text in omega arith

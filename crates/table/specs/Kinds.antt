@@ -6,7 +6,7 @@ use Rattle.grammar.specs.Policies.{Root.Principal, Root.Resource, Root.Env, Roo
 abbrev pub roots : ℕ
 roots = 4
 
--- attributes, by their roots: the root bytes
+-- attributes, by their roots; those of a bag have their root bytes
 abbrev pub principalKind : ℕ
 principalKind = rootByte Principal
 

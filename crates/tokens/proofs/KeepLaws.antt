@@ -9,7 +9,7 @@ use lib.ListN.{length, getD, take, drop, length-append, length-drop, List·getD-
 use lib.Seq.{drop-append-le, take-append-le}
 use borrow.Author.Tests.{lt-leb, leb-false}
 use Rattle.tokens.specs.Bytes.{classOf, letter, digit, mark}
-use Rattle.tokens.specs.Runs.{is, run, runEnd}
+use Rattle.tokens.specs.Runs.{isOf, run, runEnd}
 use Rattle.tokens.specs.Words.{wordKind}
 use Rattle.tokens.specs.Tokens.{sized, wordTo, wordToken, stringTo, stringToken, fraction, numberTo, numberToken, markFrom, markAt, tokenBy, tokenFrom, tokenAt}
 use Rattle.tokens.proofs.ReadLaws.{either, mark-spans}
@@ -21,7 +21,7 @@ use Rattle.tokens.specs.declared.reader.Token.{Token}
 run-kept : (sort : Sort) (l more : List ℕ) → run sort l < length l → run sort (l ++ more) ≡ run sort l
 unfolding run
 run-kept sort [] more h = absurd (omega arith)
-run-kept sort (b ∷ rest) more h = go (is sort b) (run-kept sort rest more) h
+run-kept sort (b ∷ rest) more h = go (isOf sort b) (run-kept sort rest more) h
   where
     go : (t : Bool) → (run sort rest < length rest → run sort (rest ++ more) ≡ run sort rest) → cond t (suc (run sort rest)) 0 < suc (length rest)
         → cond t (suc (run sort (rest ++ more))) 0 ≡ cond t (suc (run sort rest)) 0
@@ -99,7 +99,7 @@ module _ (text more : List ℕ) where
       ∙ (ap (markFrom (text ++ more) start first) (byte-kept (start + 1) l)
       ∙ same-choice Inside (eqb first 34) (eqb first 34) _ _ _ _ refl (string-kept start (omega arith))
       (same-choice Inside (eqb first 45) (eqb first 45) _ _ _ _ refl
-      (same-choice Inside (is Digits next) (is Digits next) _ _ _ _ refl (number-kept start (start + 1) l) (λ _. refl))
+      (same-choice Inside (isOf Digits next) (isOf Digits next) _ _ _ _ refl (number-kept start (start + 1) l) (λ _. refl))
       (λ _. refl))
       h)
 

@@ -12,7 +12,7 @@ use lib.ListN.{length, getD, drop}
 use Rattle.slices.specs.Ascii.{bytes}
 use Rattle.slices.specs.Parts.{Begins}
 use Rattle.tokens.specs.Kinds as kinds
-use Rattle.tokens.specs.Runs.{is}
+use Rattle.tokens.specs.Runs.{isOf}
 use Rattle.tokens.specs.Tokens.{token, badByteToken}
 use Rattle.tokens.specs.Words.{wordKind}
 use Rattle.tokens.specs.declared.classes.Sort.{Sort}
@@ -29,11 +29,11 @@ quote = code "\""
 -- bytes that are all of a sort
 pub data All (sort : Sort) : List ℕ → Type 0 where
   empty : All sort []
-  next : {b : ℕ} {rest : List ℕ} → is sort b ≡ true → All sort rest → All sort (b ∷ rest)
+  next : {b : ℕ} {rest : List ℕ} → isOf sort b ≡ true → All sort rest → All sort (b ∷ rest)
 
 -- digits, at least one
 pub data SomeDigits : List ℕ → Type 0 where
-  digits-from : {b : ℕ} {rest : List ℕ} → is Digits b ≡ true → All Digits rest → SomeDigits (b ∷ rest)
+  digits-from : {b : ℕ} {rest : List ℕ} → isOf Digits b ≡ true → All Digits rest → SomeDigits (b ∷ rest)
 
 -- digits, optionally `.` and digits
 pub data Unsigned : List ℕ → Type 0 where
@@ -76,7 +76,7 @@ pub data Among : List (String × ℕ) → ℕ → List ℕ → Type 0 where
 -- a token's kind, and bytes that have its form:
 -- word: a letter, then letters, digits, `_`, `-`; string: between two `"`, bytes 0x20 to 0x7E and 0x80 up, without `"`, may be empty; number; mark
 pub data Form : ℕ → List ℕ → Type 0 where
-  a-word : {b : ℕ} {rest : List ℕ} → is Letters b ≡ true → All WordBytes rest → Form (wordKind (b ∷ rest)) (b ∷ rest)
+  a-word : {b : ℕ} {rest : List ℕ} → isOf Letters b ≡ true → All WordBytes rest → Form (wordKind (b ∷ rest)) (b ∷ rest)
   a-string : {inside : List ℕ} → All StringBytes inside → Form kinds.string (quote ∷ (inside ++ quote ∷ []))
   a-number : {l : List ℕ} → Number l → Form kinds.number l
   a-mark : {kind : ℕ} {l : List ℕ} → Among marks kind l → Form kind l
@@ -86,7 +86,7 @@ pub data Form : ℕ → List ℕ → Type 0 where
 -- how many of some bytes are digits
 unfoldable pub digits : List ℕ → ℕ
 digits [] = 0
-digits (b ∷ rest) = cond (is Digits b) (suc (digits rest)) (digits rest)
+digits (b ∷ rest) = cond (isOf Digits b) (suc (digits rest)) (digits rest)
 
 -- the size of a token, by its kind
 abbrev pub sizeOf : ℕ → List ℕ → ℕ
@@ -128,5 +128,5 @@ pub record StandsAt (text : List ℕ) (at : ℕ) (t : Token) : Type 0 where
   pub rest : List ℕ
   pub parts : drop at text ≡ blanks ++ rest
   pub passed : All Blanks blanks
-  pub no-blank : is Blanks (getD rest 0 0) ≡ false
+  pub no-blank : isOf Blanks (getD rest 0 0) ≡ false
   pub stands : Stands (at + length blanks) rest t

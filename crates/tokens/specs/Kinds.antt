@@ -7,7 +7,7 @@ use Prim.Native.Char.{code}
 abbrev pub endOfText : ℕ
 endOfText = 0
 
--- the refusals of a token, by their numbers: a byte at which none starts or that may not stand in a string, a colonOutside, a string without its end, a token too long
+-- the refusals of a token, by their numbers: a byte at which none starts or that may not stand in a string, a colon, a string without its end, a token too long
 abbrev pub badByte : ℕ
 badByte = 3
 

@@ -8,7 +8,7 @@ use lib.Dec.{leb, eqb}
 use lib.ListN.{length, getD, take, drop}
 use Rattle.tokens.specs.Bytes.{classOf, mark, digit, letter}
 use Rattle.tokens.specs.Kinds as kinds
-use Rattle.tokens.specs.Runs.{is, runEnd}
+use Rattle.tokens.specs.Runs.{isOf, runEnd}
 use Rattle.tokens.specs.Words.{wordKind}
 use Rattle.tokens.specs.declared.classes.Sort.the-variants.{Blanks, WordBytes, Digits, StringBytes}
 use Rattle.tokens.specs.declared.reader.Token.{Token}
@@ -46,7 +46,7 @@ stringToken text start = stringTo text start (runEnd StringBytes text (start + 1
 
 -- whether a point and a digit stand at a place
 abbrev pub fraction : List ℕ → ℕ → Bool
-fraction text whole = eqb (getD text whole 0) (code ".") && is Digits (getD text (whole + 1) 0)
+fraction text whole = eqb (getD text whole 0) (code ".") && isOf Digits (getD text (whole + 1) 0)
 
 -- the number whose digits before the point go from `first` up to `whole`
 abbrev pub numberTo : List ℕ → ℕ → ℕ → ℕ → Token
@@ -78,7 +78,7 @@ markOf start first next =
 abbrev pub markFrom : List ℕ → ℕ → ℕ → ℕ → Token
 markFrom text start first next =
     cond (eqb first (code "\"")) (stringToken text start)
-    (cond (eqb first (code "-")) (cond (is Digits next) (numberToken text start (start + 1)) (badByteToken start)) (markOf start first next))
+    (cond (eqb first (code "-")) (cond (isOf Digits next) (numberToken text start (start + 1)) (badByteToken start)) (markOf start first next))
 
 -- the same, by the text
 unfoldable pub markAt : List ℕ → ℕ → Token

@@ -1,4 +1,4 @@
--- `bags::paths::is_path` meets its contract: the dotPieces from `at` on are names exactly when all dotPieces are. Assumes nothing.
+-- `bags::paths::is_path` meets its contract: the pieces from `at` on are names exactly when all pieces are. Assumes nothing.
 use Prim.Native.Nat.{_≤_, _-_}
 use borrow.Author.Needs.{needs}
 use borrow.Author.Tests.{not-true, not-false}
