@@ -50,7 +50,9 @@ operandRead t s p n heads values o = cond (leb (o .kind) actionKind) (attributeR
 
 -- those of the bag or question, those between a literal's quotes, else the action; nothing asks for them where the value is no string
 unfoldable pub stringOf : List ℕ → List ℕ → List ℕ → Entry → Value → List ℕ
-stringOf t s action o v = cond (eqb (v .kind) 1 && ofBag (o .kind)) (stringAt s (v .place)) (cond (eqb (o .kind) stringKind) (quotedAt t (spanOfEntry o)) action)
+stringOf t s action o v =
+    cond (eqb (v .kind) 1 && ofBag (o .kind)) (stringAt s (v .place))
+    (cond (eqb (o .kind) stringKind) (quotedAt t (spanOfEntry o)) action)
 
 -- ---- what is meant
 

@@ -48,7 +48,8 @@ pub data ColumnBytes : List ℕ → Column → Type 0 where
 
 -- a count byte of 0 to 6, and that many columns, no two of which name the same root and path
 pub data ColumnsBytes : List ℕ → List Column → Type 0 where
-  columns : {b : List ℕ} {cs : List Column} → length cs ≤ mostColumns → InTurn ColumnBytes b cs → Distinct (map (λ c. c .names) cs) → ColumnsBytes (length cs ∷ b) cs
+  columns : {b : List ℕ} {cs : List Column} → length cs ≤ mostColumns → InTurn ColumnBytes b cs
+      → Distinct (map (λ c. c .names) cs) → ColumnsBytes (length cs ∷ b) cs
 
 -- the base, then the columns
 pub data Parts : List ℕ → Contents → List Column → Type 0 where

@@ -21,7 +21,9 @@ rootOfKind k = cond (eqb k principalKind) Principal (cond (eqb k resourceKind) R
 
 -- the literal of an entry
 unfoldable pub literalOfEntry : Entry → Literal
-literalOfEntry x = cond (eqb (x .kind) stringKind) (text (spanOfEntry x)) (cond (eqb (x .kind) numberKind) (number (spanOfEntry x)) (truth (eqb (x .kind) trueKind)))
+literalOfEntry x =
+    cond (eqb (x .kind) stringKind) (text (spanOfEntry x))
+    (cond (eqb (x .kind) numberKind) (number (spanOfEntry x)) (truth (eqb (x .kind) trueKind)))
 
 -- the operand of an entry
 unfoldable pub operandOfEntry : Entry → Operand
