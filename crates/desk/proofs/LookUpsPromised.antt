@@ -25,7 +25,7 @@ use Rattle.bags.specs.declared.sections.Divided.the-variants.{In, Broken}
 use Rattle.bags.proofs.SectionLaws.{entry-at, section-at, sections-at}
 use Rattle.bags.proofs.Ascent.{ascending-decides}
 use Rattle.bags.proofs.ValueLaws.{Ended, string, number, flag, list, value-at}
-use Rattle.lookups.specs.Values.{nought, unit, valueNumber, valueAt, Whole}
+use Rattle.lookups.specs.Values.{nought, unit, valueNumber, valueAt, ValueWhole}
 use Rattle.lookups.specs.Values as values
 use Rattle.lookups.specs.Lookups as lookups
 use Rattle.lookups.specs.Lookups.{lookIn, bagEntryAt, sectionAt, baseOf, bagOf, divided, lookupOf, stringStart, stringLength}
@@ -228,7 +228,7 @@ module _ (bag : List ℕ) (kind : ℕ) (x : Float) (place : ℕ) where
   unfolding datumOf valueNumber
   absent-means k c p = rw k (none-found refl (c ∙ rw k) p)
 
-means : (bag : List ℕ) (v : Value) → Told bag v → Whole bag v → Means bag (foundAs (lookups.lookupSaid (Found v))) (datumIn bag v)
+means : (bag : List ℕ) (v : Value) → Told bag v → ValueWhole bag v → Means bag (foundAs (lookups.lookupSaid (Found v))) (datumIn bag v)
 means bag v t w = go (eqb (v .kind) 0) refl
   where
     go : (b : Bool) → eqb (v .kind) 0 ≡ b → Means bag (foundAs (lookups.lookupSaid (Found v))) (datumIn bag v)

@@ -97,13 +97,13 @@ none-read f (more j e h) = none-read f j
 
 -- a name more, or the word that ends a path
 data NextWay (L : Limits) (exit : Lexeme → Bool) (root : Root) : Way → List Lexeme → List Lexeme → Way → Type 0 where
-  onward : {i r : List Lexeme} {p q : Path} → NextName L root p i r q → NextWay L exit root (parser.Way.plain p) i r (parser.Way.plain q)
-  exits : {x : Lexeme} {r : List Lexeme} {p : Path} → exit x ≡ true → NextWay L exit root (parser.Way.plain p) (x ∷ r) r (calling p (whichOf x))
+  onward : {i r : List Lexeme} {p q : Path} → NextName L root p i r q → NextWay L exit root (parser.Way.uncalled p) i r (parser.Way.uncalled q)
+  exits : {x : Lexeme} {r : List Lexeme} {p : Path} → exit x ≡ true → NextWay L exit root (parser.Way.uncalled p) (x ∷ r) r (calling p (whichOf x))
 
 abbrev Ways : Limits → (Lexeme → Bool) → Root → Reading Way
-Ways L exit root = Chain goesOn (Onto (λ p. parser.Way.plain p) (FirstName L root)) (λ w d. NextWay L exit root w)
+Ways L exit root = Chain goesOn (Onto (λ p. parser.Way.uncalled p) (FirstName L root)) (λ w d. NextWay L exit root w)
 
-ways-of : {L : Limits} {exit : Lexeme → Bool} {root : Root} {i r : List Lexeme} {p : Path} → APath L root i r p → Ways L exit root i r (parser.Way.plain p)
+ways-of : {L : Limits} {exit : Lexeme → Bool} {root : Root} {i r : List Lexeme} {p : Path} → APath L root i r p → Ways L exit root i r (parser.Way.uncalled p)
 unfolding goesOn
 ways-of (alone h) = alone (onto h)
 ways-of (more j e h) = more (ways-of j) e (onward h)
@@ -127,11 +127,11 @@ module _ {L : Limits} {Z : ℕ → List Lexeme → Type 0} (ok : Excuses L Z) wh
   unfolding nameFits
   fitting root used f x r e l h = nearly-on _ _ _ x r h (λ u. rw (name-number root x e) (ok .over (a-name root used x) x r l (rw (eq-eqb _ _ e) at u)))
 
-  complete-first : (root : Root) → Complete Z Any (read-first-name root) (Onto (λ p. parser.Way.plain p) (FirstName L root))
+  complete-first : (root : Root) → Complete Z Any (read-first-name root) (Onto (λ p. parser.Way.uncalled p) (FirstName L root))
   unfolding read-first-name
   complete-first root = record { at = go }
     where
-      go : {i r : List Lexeme} {w : Way} → Onto (λ p. parser.Way.plain p) (FirstName L root) i r w → Any r → Nearly Z w r (read-first-name root i)
+      go : {i r : List Lexeme} {w : Way} → Onto (λ p. parser.Way.uncalled p) (FirstName L root) i r w → Any r → Nearly Z w r (read-first-name root i)
       go (onto (first e l)) u = fitting root 0 _ _ _ e l exact
 
   module _ (exit : Lexeme → Bool) (pass : Passes exit) (root : Root) where
@@ -147,7 +147,7 @@ module _ {L : Limits} {Z : ℕ → List Lexeme → Type 0} (ok : Excuses L Z) wh
     unfolding read-way
     complete-ways j w = complete-chain goesOn _ _ (complete-first root) complete-next (λ w d. shrinks-next-way L exit root w) (λ w x m e. tt) j tt w
 
-    complete-plain : {i r : List Lexeme} {p : Path} → APath L root i r p → NoDot r → Nearly Z (parser.Way.plain p) r (read-way exit root i)
+    complete-plain : {i r : List Lexeme} {p : Path} → APath L root i r p → NoDot r → Nearly Z (parser.Way.uncalled p) r (read-way exit root i)
     unfolding goesOn
     complete-plain j w = complete-ways (ways-of j) w
 
@@ -172,7 +172,7 @@ module _ {L : Limits} {Z : ℕ → List Lexeme → Type 0} (ok : Excuses L Z) wh
   unfolding read-operand
   complete-operand (given (rooted {x = x} {d = d} t e j)) w =
       rw (on-other isLiteral _ _ x _ (root-no-literal x t), on-token isRoot _ _ x _ t) (complete-attribute (rootOf x) attribute d e j w)
-  complete-operand (grammar.AnOperand.plain {x = x} {r = r} t) w = rw (on-token isLiteral _ _ x r t) exact
+  complete-operand (grammar.AnOperand.literally {x = x} {r = r} t) w = rw (on-token isLiteral _ _ x r t) exact
 
   module _ (sort : Lexeme → Bool) (sorts : (x : Lexeme) → sort x ≡ true → isLiteral x ≡ true) where
     complete-element : (ls : List Literal) → Complete Z Any (read-element sort ls) (Element L sort ls)
@@ -195,7 +195,7 @@ module _ {L : Limits} {Z : ℕ → List Lexeme → Type 0} (ok : Excuses L Z) wh
   complete-left deeper (given (rooted {x = x} {d = d} t e j)) w k =
       rw (on-other isLiteral _ _ x _ (root-no-literal x t), on-token isRoot _ _ x _ t, on-token (is kinds.dot) _ _ d _ (eq-eqb _ _ e))
       (nearly-bind _ (complete-plain isContains contains-passes (rootOf x) j w) k)
-  complete-left deeper (grammar.AnOperand.plain {x = x} {r = r} t) w k = rw (on-token isLiteral _ _ x r t) k
+  complete-left deeper (grammar.AnOperand.literally {x = x} {r = r} t) w k = rw (on-token isLiteral _ _ x r t) k
 
   complete-bare : (a : Operand) (r : List Lexeme) → Free r → read-operator a r ≡ read-bare a r
   unfolding read-operator

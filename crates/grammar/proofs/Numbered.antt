@@ -16,7 +16,7 @@ use Rattle.reading.proofs.Readers.{Without}
 use Rattle.grammar.specs.Policies.{Span, Root, Literal, text, number, truth, Operand, attribute, literal, Which, Tree, among, within, contains, both, either, Policy}
 use Rattle.grammar.specs.Rules.{isEffect, isRoot, rootOf, isLiteral, literalOf, isComparator, isContains, principalTypes, resourceTypes}
 use Rattle.grammar.specs.Grammar.{Path}
-use Rattle.grammar.specs.Parser.{Way, plain, calling, noName, noOperator, noType, noLevel, noPattern, tooMany, noPolicy, nameFits, read-first-name, goesOn, read-next-name, read-way, noExit, read-path, read-attribute, read-operand, isElement, read-element, read-list, read-bare, read-in, isLike, read-pattern, read-operator, read-call, read-rest, read-rooted, read-simple, read-joined, read-conjunction, read-disjunction, read-negated, read-bracketed, read-conditional, read-deeper, read-condition, read-conditions, read-type, read-principal, read-action, read-resource, read-when, read-policy, mayBegin, read-next-policy, atEnd, read-text}
+use Rattle.grammar.specs.Parser.{Way, uncalled, calling, noName, noOperator, noType, noLevel, noPattern, tooMany, noPolicy, nameFits, read-first-name, goesOn, read-next-name, read-way, noExit, read-path, read-attribute, read-operand, isElement, read-element, read-list, read-bare, read-in, isLike, read-pattern, read-operator, read-call, read-rest, read-rooted, read-simple, read-joined, read-conjunction, read-disjunction, read-negated, read-bracketed, read-conditional, read-deeper, read-condition, read-conditions, read-type, read-principal, read-action, read-resource, read-when, read-policy, mayBegin, read-next-policy, atEnd, read-text}
 use Rattle.grammar.specs.Numbers.{lastPasses, atCondition, afterLeft, actionIn, oneMore, numberOfToken, numberOfFirst, NumberedRightly}
 use Rattle.grammar.proofs.Begun.{made}
 use Rattle.grammar.proofs.Completeness.{other-kind}
@@ -43,7 +43,7 @@ behind-kind k h e (stepped q) = at-kind k h _ _ e
 
 -- behind a path after the root, or behind the word of a call
 data AfterWay (left : Bool) (root : Root) : Way → List Lexeme → Type 0 where
-  plainly : {p : Path} {c : List Lexeme} → Named left root c → AfterWay left root (plain p) c
+  plainly : {p : Path} {c : List Lexeme} → Named left root c → AfterWay left root (uncalled p) c
   called : {p : Path} {w : Which} {x : Lexeme} {c : List Lexeme} → isContains x ≡ true → AfterWay left root (calling p w) (x ∷ c)
 
 module _ (left : Bool) (root : Root) where
@@ -51,13 +51,13 @@ module _ (left : Bool) (root : Root) where
   unfolding read-first-name nameFits
   tells-first = tells-on _ _ _ (λ x t. tells-took _ (λ c i h. go (eqb-true _ _ (and-left _ _ t)) h)) (tells-refuseBy (noName root) (λ c r x h. path-number (h .0) x))
     where
-      go : {x : Lexeme} {p : Path} {c i : List Lexeme} → x .kind ≡ kinds.name → Stepped x (At (OnPath left root)) c i → AfterWay left root (plain p) c
+      go : {x : Lexeme} {p : Path} {c i : List Lexeme} → x .kind ≡ kinds.name → Stepped x (At (OnPath left root)) c i → AfterWay left root (uncalled p) c
       go e (stepped h) = plainly (named h e)
 
   tells-next : (exit : Lexeme → Bool) → ((x : Lexeme) → exit x ≡ true → isContains x ≡ true) → (w : Way) (d : Lexeme) → goesOn w d ≡ true
       → Tells (Stepped d (λ c r. AfterWay left root w c)) (read-next-name exit root w) (λ w c r. AfterWay left root w c)
   unfolding read-next-name nameFits goesOn
-  tells-next exit f (plain p) d e = tells-weaker {Pre = At (OnPath left root)}
+  tells-next exit f (uncalled p) d e = tells-weaker {Pre = At (OnPath left root)}
       (tells-on _ _ _ (λ x t. tells-took _ (λ c i h. exits (f x t) h))
       (tells-on _ _ _ (λ x t. tells-took _ (λ c i h. go (eqb-true _ _ (and-left _ _ t)) h)) (tells-refuseBy (noName root) (λ c r x h. path-number (h .0 .0) x))))
       (λ c i h. on-path (eqb-true _ _ e) h) (λ w c i h. h)
@@ -65,10 +65,10 @@ module _ (left : Bool) (root : Root) where
       exits : {x : Lexeme} {p : Path} {w : Which} {c i : List Lexeme} → isContains x ≡ true → Stepped x (At (OnPath left root)) c i → AfterWay left root (calling p w) c
       exits t (stepped h) = called t
 
-      go : {x : Lexeme} {p : Path} {c i : List Lexeme} → x .kind ≡ kinds.name → Stepped x (λ c i. OnPath left root c × Without exit i) c i → AfterWay left root (plain p) c
+      go : {x : Lexeme} {p : Path} {c i : List Lexeme} → x .kind ≡ kinds.name → Stepped x (λ c i. OnPath left root c × Without exit i) c i → AfterWay left root (uncalled p) c
       go k (stepped h) = plainly (named (h .0) k)
 
-      on-path : {d : Lexeme} {c i : List Lexeme} → d .kind ≡ kinds.dot → Stepped d (λ c r. AfterWay left root (plain p) c) c i → OnPath left root c
+      on-path : {d : Lexeme} {c i : List Lexeme} → d .kind ≡ kinds.dot → Stepped d (λ c r. AfterWay left root (uncalled p) c) c i → OnPath left root c
       on-path k (stepped (plainly (named h q))) = longer h q k
   tells-next exit f (calling p w) d e = absurd (never e)
 
@@ -208,9 +208,9 @@ tells-call w root p =
 
 tells-rest : (root : Root) (w : Way) → Tells (λ c i. AfterWay true root w c) (read-rest root w) (Ends Quiet)
 unfolding read-rest read-bare lastPasses
-tells-rest root (plain p) = tells-weaker (tells-operator _ Left (tells-refuseBy noOperator (λ c r x h. left-bare h x))) (λ c i h. go h) (λ t c i h. h)
+tells-rest root (uncalled p) = tells-weaker (tells-operator _ Left (tells-refuseBy noOperator (λ c r x h. left-bare h x))) (λ c i h. go h) (λ t c i h. h)
   where
-    go : {p : Path} {c : List Lexeme} → AfterWay true root (plain p) c → Left c × NoAction c
+    go : {p : Path} {c : List Lexeme} → AfterWay true root (uncalled p) c → Left c × NoAction c
     go (plainly (named h e)) = (named-place (named h e), rw e)
 tells-rest root (calling p w) = tells-weaker (tells-call w root _) (λ c i h. go h) (λ t c i h. h)
   where

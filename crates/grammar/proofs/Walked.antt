@@ -146,7 +146,7 @@ module _ (L : Limits) where
 
   walk-operand : {i r : List Lexeme} {a : Operand} → AnOperand L i r a → Ends r → Ends i
   walk-operand (given h) f c = walk-attribute h f c
-  walk-operand (grammar.AnOperand.plain {x = x} t) f c = step (literal x t) (f _)
+  walk-operand (grammar.AnOperand.literally {x = x} t) f c = step (literal x t) (f _)
 
   module _ (sort : Lexeme → Bool) (sorts : (x : Lexeme) → sort x ≡ true → isLiteral x ≡ true) where
     walk-element : {ls ks : List Literal} {i r : List Lexeme} → Element L sort ls i r ks → Ends r → Ends i

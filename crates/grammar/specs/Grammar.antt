@@ -118,7 +118,7 @@ pub data Attribute (L : Limits) : List Lexeme → List Lexeme → Operand → Ty
 -- an operand: an attribute or a literal
 pub data AnOperand (L : Limits) : List Lexeme → List Lexeme → Operand → Type 0 where
   given : {i r : List Lexeme} {a : Operand} → Attribute L i r a → AnOperand L i r a
-  plain : {x : Lexeme} {r : List Lexeme} → isLiteral x ≡ true → AnOperand L (x ∷ r) r (literal (literalOf x))
+  literally : {x : Lexeme} {r : List Lexeme} → isLiteral x ≡ true → AnOperand L (x ∷ r) r (literal (literalOf x))
 
 -- ---- lists: at least one literal, with commas between them, in square brackets
 

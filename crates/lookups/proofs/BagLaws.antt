@@ -27,7 +27,7 @@ use Rattle.bags.proofs.ReadLaws.{First, first}
 use Rattle.bags.proofs.PathLaws.{pathByte, path-bytes, path-sized}
 use Rattle.bags.proofs.SectionLaws.{entry-at, section-at, sections-at}
 use Rattle.tokens.specs.Blanks.{unblanked}
-use Rattle.lookups.specs.Values.{nought, unit, absent, valueNumber, valueAt, Valued, Whole}
+use Rattle.lookups.specs.Values.{nought, unit, absent, valueNumber, valueAt, Valued, ValueWhole}
 use Rattle.lookups.specs.Lookups.{lookIn, bagEntryAt, sectionAt, baseOf, bagOf}
 use Rattle.lookups.specs.declared.values.Value.{Value}
 use Rattle.lookups.proofs.StepLaws.{as-number, told}
@@ -68,7 +68,7 @@ path-clear p h = clear p (path-bytes p h)
 
 -- ---- values: whole, and with a finite number
 
-pub value-whole : (s : List ℕ) (k : ℕ) → Valued s k → Whole s (valueAt s k)
+pub value-whole : (s : List ℕ) (k : ℕ) → Valued s k → ValueWhole s (valueAt s k)
 unfolding valueAt
 value-whole s k v n = go (eqb (byte s k) 0) refl n
   where
@@ -153,11 +153,11 @@ no-empty-path s (b ∷ path) n at e h q = absurd (omega arith)
 
 module _ (s path : List ℕ) where
   -- what is found is whole
-  pub base-whole : (p : Sections) (root : ℕ) → Sectioned s p → Whole s (lookIn absent (baseOf s p root) path)
-  base-whole = base-has s path (Whole s) (λ n. absurd (n refl)) (λ at e h q. value-whole s (kindAt s at) (entry-valued s at e h))
+  pub base-whole : (p : Sections) (root : ℕ) → Sectioned s p → ValueWhole s (lookIn absent (baseOf s p root) path)
+  base-whole = base-has s path (ValueWhole s) (λ n. absurd (n refl)) (λ at e h q. value-whole s (kindAt s at) (entry-valued s at e h))
 
-  pub bag-whole : (root : ℕ) → Whole s (lookIn absent (bagOf s root) path)
-  bag-whole = bag-has s path (Whole s) (λ n. absurd (n refl)) (λ at e h q. value-whole s (kindAt s at) (entry-valued s at e h))
+  pub bag-whole : (root : ℕ) → ValueWhole s (lookIn absent (bagOf s root) path)
+  bag-whole = bag-has s path (ValueWhole s) (λ n. absurd (n refl)) (λ at e h q. value-whole s (kindAt s at) (entry-valued s at e h))
 
   -- and its number is finite
   pub base-finite : (p : Sections) (root : ℕ) → Sectioned s p → T (finite (lookIn absent (baseOf s p root) path .number))

@@ -37,5 +37,5 @@ pub record Valued (s : List ℕ) (k : ℕ) : Type 0 where
   pub whole : (byte s k ≡ 0 → ⊥) → (e : ℕ) × (valueEnd (byte s k) s (k + 1) ≡ At e)
 
 -- a value that is not absent lies in the bytes as a whole
-abbrev pub Whole : List ℕ → Value → Type 0
-Whole s v = (v .kind ≡ 0 → ⊥) → (e : ℕ) × (valueEnd (v .kind) s (v .place) ≡ At e)
+abbrev pub ValueWhole : List ℕ → Value → Type 0
+ValueWhole s v = (v .kind ≡ 0 → ⊥) → (e : ℕ) × (valueEnd (v .kind) s (v .place) ≡ At e)

@@ -17,7 +17,7 @@ use Rattle.bags.specs.declared.After.the-variants.{At}
 use Rattle.bags.specs.declared.sections.Sections.{Sections}
 use Rattle.bags.proofs.ReadLaws.{part-to}
 use Rattle.bags.proofs.ValueLaws.{value-list}
-use Rattle.lookups.specs.Values.{nought, unit, Whole}
+use Rattle.lookups.specs.Values.{nought, unit, ValueWhole}
 use Rattle.lookups.specs.declared.values.Value.{Value}
 use Rattle.lookups.proofs.StepLaws.{as-string}
 use Rattle.views.specs.Meaning.{Datum, text, number, flag, View}
@@ -150,7 +150,7 @@ unfolding stringAt
 string-cut s p = part-to s (p + 1) (byte s p)
 
 -- a string that is read lies in the bytes
-pub string-inside : (s : List ℕ) (v : Value) → Whole s v → v .kind ≡ 1 → v .place + 1 + byte s (v .place) ≤ length s
+pub string-inside : (s : List ℕ) (v : Value) → ValueWhole s v → v .kind ≡ 1 → v .place + 1 + byte s (v .place) ≤ length s
 string-inside s v w k = let e = w (λ z. omega arith) in as-string (v .kind) s (v .place) (e .0) (e .1) k .fits
 
 -- its kind, and its entry's, as a test tells them
@@ -257,19 +257,19 @@ module _ (t s : List ℕ) (p : Sections) (n : ℕ) (heads values : List ℕ) (st
       go : (b : Bool) → ofBag (o .kind) ≡ b → (e : ℕ) × (listEnd s (v .place) ≡ At e)
       go true b =
           let r = row-reads s p n heads values stands (o .kind) (pathAt t (spanOfEntry o)) in
-          let whole = subst (Whole s) (read-bag t s p n heads values o b ∙ sym e) (r .whole) in
+          let whole = subst (ValueWhole s) (read-bag t s p n heads values o b ∙ sym e) (r .whole) in
           let w = whole (λ z. omega arith) in (w .0, value-list (v .kind) s (v .place) k ∙ w .1)
       go false b =
           let is = e ∙ sym (read-action t s p n heads values o b) in
           let z : v .kind ≡ 1 = ap (λ (v : Value). v .kind) is in absurd (omega arith)
 
   -- a value of the bag lies in the bytes as a whole
-  pub operand-whole : (o : Entry) (v : Value) → v ≡ operandRead t s p n heads values o → ofBag (o .kind) ≡ true → Whole s v
+  pub operand-whole : (o : Entry) (v : Value) → v ≡ operandRead t s p n heads values o → ofBag (o .kind) ≡ true → ValueWhole s v
   operand-whole o v e b =
       let w = and-eq-true-iff (leb 1 (o .kind)) (leb (o .kind) 3) .0 b in
       let h : o .kind ≤ 3 = leb-true (o .kind) 3 (w .1) in
       let l : o .kind ≤ 4 = omega arith in
-      subst (Whole s) (read-bag t s p n heads values o b ∙ read-attribute t s p n heads values o l ∙ sym e)
+      subst (ValueWhole s) (read-bag t s p n heads values o b ∙ read-attribute t s p n heads values o l ∙ sym e)
       (row-reads s p n heads values stands (o .kind) (pathAt t (spanOfEntry o)) .whole)
 
 -- ---- literals

@@ -1,7 +1,7 @@
 // What an operand's entry stands for: a read value, and its string as a part of the rule text, of the bag or question, or the action itself.
 ghost use mathlib.Core.Path.{_≡_};
 ghost use mathlib.Core.Bool.{true};
-ghost use Rattle.lookups.specs.Values.{Whole};
+ghost use Rattle.lookups.specs.Values.{ValueWhole};
 ghost use Rattle.views.specs.Rows.{RowStands};
 ghost use Rattle.placing.specs.Placed.{quotedAt, Lies, StringPlaced, LiteralPlaced, OperandPlaced};
 ghost use Rattle.stored.specs.ReadBack.{spanOfEntry, literalOfEntry, operandOfEntry};
@@ -118,7 +118,7 @@ pub fn operand_string<'a>(
     v: Value,
 ) -> &'a [u8]
     requires { ⌜ OperandPlaced (now text) (operandOfEntry o) ⌝ }
-    requires { ⌜ (ofBag (o .kind) ≡ true → Whole (now s) v) ⌝ }
+    requires { ⌜ (ofBag (o .kind) ≡ true → ValueWhole (now s) v) ⌝ }
     ensures { λ r. ⌜ now r ≡ stringOf (now (text .entry)) (now (s .entry)) (now (action .entry)) o v ⌝ }
 {
     let kind = v.kind;

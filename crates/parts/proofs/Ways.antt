@@ -19,7 +19,7 @@ use Rattle.reading.proofs.Stream.{next-on, next-off}
 use Rattle.grammar.specs.Policies.{Span, span, Root}
 use Rattle.grammar.specs.Rules.{whichOf, admitted}
 use Rattle.grammar.specs.Grammar.{Path, firstPath, longerPath}
-use Rattle.grammar.specs.Parser.{Way, plain, calling, noName, nameFits, goesOn, read-first-name, read-next-name, read-way, spannedBy, read-path, read-attribute}
+use Rattle.grammar.specs.Parser.{Way, uncalled, calling, noName, nameFits, goesOn, read-first-name, read-next-name, read-way, spannedBy, read-path, read-attribute}
 use Rattle.grammar.proofs.Steps.{way-step}
 use Rattle.parts.specs.Names.{exitOf, callOf}
 use Rattle.parts.specs.Answers.{turnedAway, TurnedAway, callAfter, PathWalked, PathWalks, found, lost}
@@ -42,7 +42,7 @@ module _ (left : Bool) (root : Root) where
 
   -- a name must stand next, on a path of which `used` bytes are read
   abbrev pub name-of : ℕ → (Lexeme → Path) → Reader Way
-  name-of used make = on (nameFits root used) (λ x. took (plain (make x))) (refuseBy (noName root))
+  name-of used make = on (nameFits root used) (λ x. took (uncalled (make x))) (refuseBy (noName root))
 
   -- what is known of a path so far: the name that must stand next makes it the path from `start` to its own end
   pub record Walking (text : List ℕ) (total : reader.Answer Way) (from start used : ℕ) (name : Token) : Type 0 where
@@ -65,7 +65,7 @@ module _ (left : Bool) (root : Root) where
   module _ {text : List ℕ} {total : reader.Answer Way} {from start used : ℕ} {name : Token} (w : Walking text total from start used name) where
     pub walking-lost : nameFits root used (lexeme text name) ≡ false → {n : ℕ} → n ≡ noName root (lexeme text name) → {f : Refusal} → f ≡ turnedAway (length text) n name → TurnedAway text total f
     walking-lost e q p = turned-as (w .rest) (turned-bind (onwards goesOn next-name)
-        (turned-as (next-off text name (nameFits root used) (λ x. took (plain (w .make x))) (refuseBy (noName root)) e) (turned-for text name (noName root) q p)))
+        (turned-as (next-off text name (nameFits root used) (λ x. took (uncalled (w .make x))) (refuseBy (noName root)) e) (turned-for text name (noName root) q p)))
 
     module _ (e : nameFits root used (lexeme text name) ≡ true) (dot : Token) (q : dot ≡ tokenAt text (name .end)) (s : Reads text (name .end) dot) where
       pub name-some : name .kind ≡ 0 → ⊥
@@ -76,9 +76,9 @@ module _ (left : Bool) (root : Root) where
       abbrev pub here : Path
       here = path start (name .end) (used + (name .end - name .start))
 
-      named : total ≡ onwards goesOn next-name (plain here) (stream text dot)
+      named : total ≡ onwards goesOn next-name (uncalled here) (stream text dot)
       unfolding bind
-      named = w .rest ∙ rw (next-on text name (nameFits root used) (λ x. took (plain (w .make x))) (refuseBy (noName root)) dot name-some (w .lies .high) q e, w .made)
+      named = w .rest ∙ rw (next-on text name (nameFits root used) (λ x. took (uncalled (w .make x))) (refuseBy (noName root)) dot name-some (w .lies .high) q e, w .made)
 
       dot-lies : Reads text (from + 1) dot
       dot-lies = let l = w .lies .low in lowered (omega arith) (past name (w .lies) name-some s)
@@ -86,18 +86,18 @@ module _ (left : Bool) (root : Root) where
       pub walking-ends : (dot .kind ≡ kinds.dot → ⊥) → PathWalked text from total (found-path start (name .end) 0 dot)
       unfolding goesOn spannedBy callAfter
       walking-ends n = record {
-        way = plain here;
+        way = uncalled here;
         span-is = refl;
         call-is = refl;
         lies = dot-lies;
-        is = named ∙ way-step (exitOf left) root (plain here) (stream text dot) ∙ next-off text dot (goesOn (plain here)) _ _ (ne-eqb _ _ n);
+        is = named ∙ way-step (exitOf left) root (uncalled here) (stream text dot) ∙ next-off text dot (goesOn (uncalled here)) _ _ (ne-eqb _ _ n);
       }
 
       module _ (d : dot .kind ≡ kinds.dot) (word : Token) (q′ : word ≡ tokenAt text (dot .end)) (s′ : Reads text (dot .end) word) where
-        after-dot : total ≡ bind (read-next-name (exitOf left) root (plain here) (stream text word)) (onwards goesOn next-name)
+        after-dot : total ≡ bind (read-next-name (exitOf left) root (uncalled here) (stream text word)) (onwards goesOn next-name)
         unfolding goesOn
-        after-dot = named ∙ way-step (exitOf left) root (plain here) (stream text dot)
-            ∙ next-on text dot (goesOn (plain here)) _ _ word (λ (z : dot .kind ≡ 0). omega arith) (s .high) q′ (eq-eqb _ _ d)
+        after-dot = named ∙ way-step (exitOf left) root (uncalled here) (stream text dot)
+            ∙ next-on text dot (goesOn (uncalled here)) _ _ word (λ (z : dot .kind ≡ 0). omega arith) (s .high) q′ (eq-eqb _ _ d)
 
         word-lies : Reads text (from + 1) word
         word-lies = let l = dot-lies .low in lowered (omega arith) (past dot dot-lies (λ (z : dot .kind ≡ 0). omega arith) s′)

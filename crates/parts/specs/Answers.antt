@@ -14,7 +14,7 @@ use Rattle.reading.specs.Reader as reader
 use Rattle.reading.specs.Reader.{took, refuse}
 use Rattle.grammar.specs.Policies.{span}
 use Rattle.grammar.specs.Parser as parser
-use Rattle.grammar.specs.Parser.{plain, calling, spannedBy}
+use Rattle.grammar.specs.Parser.{uncalled, calling, spannedBy}
 use Rattle.table.specs.declared.Entry.{Entry}
 use Rattle.table.specs.Entries.{whichKind}
 use Rattle.table.specs.Layout.{putAt, puts, entryIs, held}
@@ -93,7 +93,7 @@ DoneAt es text seen t k first same old new reads r = Done es text seen (t .start
 
 -- the kind of the entry of the call that begins after a path, and 0 where none does
 unfoldable pub callAfter : parser.Way → ℕ
-callAfter (plain p) = 0
+callAfter (uncalled p) = 0
 callAfter (calling p w) = whichKind w
 
 -- where a path was found, and what stands after it

@@ -123,7 +123,7 @@ module _ {t : List ℕ} where
     where
       go : {i r : List Lexeme} {a : Operand} → AnOperand sizes i r a → FromText t i → OperandPlaced t a × FromText t r
       go (given h) f = gives-attribute .at h f
-      go (grammar.AnOperand.plain e) f = (a-literal (literal-placed (head-of f)), tail-of f)
+      go (grammar.AnOperand.literally e) f = (a-literal (literal-placed (head-of f)), tail-of f)
 
   module _ (sort : Lexeme → Bool) (P : Literal → Type 0) (one : (at : ℕ) (x : Lexeme) → sort x ≡ true → Lexed t at x → P (literalOf x)) where
     gives-element : (ls : List Literal) → Each P ls → Gives t (Element sizes sort ls) (Listed P)

@@ -13,7 +13,7 @@ use Rattle.tokens.specs.declared.classes.Sort.{Sort}
 use Rattle.tokens.specs.Bytes.{classOf, letter, digit, mark, blank}
 use Rattle.tokens.specs.Runs.{isOf, run}
 use Rattle.tokens.specs.Tokens.{doubled, beforeEquals}
-use Rattle.tokens.specs.Forms.{All, empty, next, SomeDigits, digits-from, Unsigned, whole, pointed, Number, plain, minus, marks, Among, Form, a-word}
+use Rattle.tokens.specs.Forms.{All, empty, next, SomeDigits, digits-from, Unsigned, whole, pointed, Number, signless, minus, marks, Among, Form, a-word}
 use Rattle.tokens.specs.Forms.{a-string, a-number, a-mark, Longest}
 use Rattle.tokens.specs.declared.classes.Sort.the-variants.{Blanks, Digits, Letters, WordBytes}
 use Rattle.tokens.proofs.TokenLaws.{never, and-left, and-right, every}
@@ -49,7 +49,7 @@ number-asks p b l d e =
 
 number-reach : {l : List ℕ} → Number l → (q : List ℕ) → apart l (getD q 0 0) ≡ true → reach (l ++ q) ≡ length l
 unfolding reach classOf
-number-reach (plain {l} u) q e =
+number-reach (signless {l} u) q e =
     let d : isOf Digits (getD l 0 0) ≡ true = rw (append-nil l) at (unsigned-first u []) in
     let n = number-asks l (getD q 0 0) (digit-no-letter (getD l 0 0) d) (rw d) e in
     reach-digits (l ++ q) (unsigned-first u q) ∙ unsigned-reach u q (n .0) (n .1)
@@ -122,7 +122,7 @@ unsigned-more b (whole s) h = whole (some-more b s h)
 unsigned-more b (pointed {w} {f} s t) h = rw (append-assoc w (46 ∷ f) (b ∷ [])) (pointed s (some-more b t h))
 
 number-more : {l : List ℕ} (b : ℕ) → Number l → isOf Digits b ≡ true → Number (l ++ b ∷ [])
-number-more b (plain u) h = plain (unsigned-more b u h)
+number-more b (signless u) h = signless (unsigned-more b u h)
 number-more b (minus u) h = minus (unsigned-more b u h)
 
 -- `=` behind a mark that may have one is a mark
@@ -176,9 +176,9 @@ module _ (b : ℕ) (no-point : eqb b 46 ≡ false) where
   unfolding apart classOf
   form-apart (a-word {b = c} e a) n = rw (e, fails (isOf WordBytes b) (λ h. n .no-longer (a-word e (all-more b a h))))
   form-apart (a-string {inside} a) n = rw (never-both (eqb (length (34 ∷ (inside ++ 34 ∷ []))) 1))
-  form-apart (a-number (plain {l} u)) n =
+  form-apart (a-number (signless {l} u)) n =
       let d : isOf Digits (getD l 0 0) ≡ true = rw (append-nil l) at (unsigned-first u []) in
-      number-apart l (digit-no-letter (getD l 0 0) d) (rw d) (fails (isOf Digits b) (λ h. n .no-longer (a-number (number-more b (plain u) h))))
+      number-apart l (digit-no-letter (getD l 0 0) d) (rw d) (fails (isOf Digits b) (λ h. n .no-longer (a-number (number-more b (signless u) h))))
   form-apart (a-number (minus {l} u)) n = number-apart (45 ∷ l) refl refl (fails (isOf Digits b) (λ h. n .no-longer (a-number (number-more b (minus u) h))))
   form-apart (a-mark {l = l} m) n = mark-apart l m (all-marked m) n
 
@@ -240,7 +240,7 @@ pub form-first : {kind : ℕ} {p : List ℕ} → Form kind p → (q : List ℕ) 
 unfolding classOf marked
 form-first (a-word {b} e a) q = rw (eqb-true (classOf b) letter e)
 form-first (a-string a) q = refl
-form-first (a-number (plain {l} u)) q = rw (eqb-true (classOf (getD (l ++ q) 0 0)) digit (unsigned-first u q))
+form-first (a-number (signless {l} u)) q = rw (eqb-true (classOf (getD (l ++ q) 0 0)) digit (unsigned-first u q))
 form-first (a-number (minus u)) q = refl
 form-first (a-mark {l} m) q = go l (all-marked m)
   where
@@ -262,7 +262,7 @@ pub dot-is : {kind : ℕ} {p : List ℕ} → Form kind p → (q : List ℕ) → 
 unfolding every marks classOf marked
 dot-is (a-word {b} e a) q h = absurd (never (rw (eqb-true b 46 h) at e))
 dot-is (a-string a) q h = absurd (never h)
-dot-is (a-number (plain {l} u)) q h = absurd (never (rw (eqb-true (getD (l ++ q) 0 0) 46 h) at (unsigned-first u q)))
+dot-is (a-number (signless {l} u)) q h = absurd (never (rw (eqb-true (getD (l ++ q) 0 0) 46 h) at (unsigned-first u q)))
 dot-is (a-number (minus u)) q h = absurd (never h)
 dot-is (a-mark {kind} {l} m) q h = go l (all-marked m) passed h
   where

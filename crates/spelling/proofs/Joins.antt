@@ -18,7 +18,7 @@ use Rattle.tokens.specs.Kinds as kinds
 use Rattle.tokens.specs.Runs.{isOf}
 use Rattle.tokens.specs.Tokens.{token, tokenAt}
 use Rattle.tokens.specs.Words.{reserved}
-use Rattle.tokens.specs.Forms.{All, empty, next, marks, Form, a-word, a-string, a-number, a-mark, whole, pointed, plain, minus, digits-from, sizeOf, mostOf}
+use Rattle.tokens.specs.Forms.{All, empty, next, marks, Form, a-word, a-string, a-number, a-mark, whole, pointed, signless, minus, digits-from, sizeOf, mostOf}
 use Rattle.tokens.specs.Forms.{Longest, Stands, end-of-text, a-token, too-long, a-colon, bad-byte, unended, bad-inside, StandsAt}
 use Rattle.tokens.specs.declared.reader.Token.{Token}
 use Rattle.tokens.specs.declared.classes.Sort.the-variants.{Blanks}
@@ -97,8 +97,8 @@ form-some : {kind : ℕ} {p : List ℕ} → Form kind p → 0 < length p
 unfolding every marks
 form-some (a-word e a) = omega arith
 form-some (a-string a) = omega arith
-form-some (a-number (plain (whole (digits-from e a)))) = omega arith
-form-some (a-number (plain (pointed (digits-from e a) t))) = omega arith
+form-some (a-number (signless (whole (digits-from e a)))) = omega arith
+form-some (a-number (signless (pointed (digits-from e a) t))) = omega arith
 form-some (a-number (minus u)) = omega arith
 form-some (a-mark {l = l} m) = ltb-true 0 (length l) (mark-passes (λ kind l. ltb 0 (length l)) m refl)
 

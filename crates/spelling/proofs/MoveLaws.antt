@@ -122,7 +122,7 @@ module _ (m : Move) where
       go : {i r : List Lexeme} {a : Operand} → AllKeep m i → AnOperand sizes i r a
           → AllKeep m r × AnOperand sizes (map (movedLexeme m) i) (map (movedLexeme m) r) (movedOperand m a)
       go k (given h) = let q = carries-attribute .at k h in (q .0, given (q .1))
-      go (keeps e a) (grammar.AnOperand.plain {x = x} t) = (a, rw (← literal-moved x) (grammar.AnOperand.plain t))
+      go (keeps e a) (grammar.AnOperand.literally {x = x} t) = (a, rw (← literal-moved x) (grammar.AnOperand.literally t))
 
   -- tests of lists that go by the kind
   record ByKind (sort : Lexeme → Bool) : Type 0 where

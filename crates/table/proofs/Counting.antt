@@ -51,7 +51,7 @@ module _ (L : Limits) where
 
   operand-tokens : {i r : List Lexeme} {a : Operand} → AnOperand L i r a → 1 + length r ≤ length i
   operand-tokens (given h) = let x = attribute-tokens h in omega arith
-  operand-tokens (grammar.AnOperand.plain t) = omega arith
+  operand-tokens (grammar.AnOperand.literally t) = omega arith
 
   element-tokens : {sort : Lexeme → Bool} {ls ms : List Literal} {i r : List Lexeme} → Element L sort ls i r ms → length ms + length r ≤ length ls + length i
   element-tokens {ls = ls} (element {x = x} t k) = let y = length-append ls (literalOf x ∷ []) in omega arith

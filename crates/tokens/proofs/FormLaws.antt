@@ -18,7 +18,7 @@ use Rattle.slices.specs.Parts.{Begins}
 use Rattle.tokens.specs.Runs.{isOf, run}
 use Rattle.tokens.specs.Words.{wordKind}
 use Rattle.tokens.specs.Tokens.{doubled, beforeEquals}
-use Rattle.tokens.specs.Forms.{All, empty, next, SomeDigits, digits-from, Unsigned, whole, pointed, Number, plain, minus, marks, Among, first, later, Form, a-word, a-string, a-number, a-mark, NoForm, Longest, sizeOf, mostOf}
+use Rattle.tokens.specs.Forms.{All, empty, next, SomeDigits, digits-from, Unsigned, whole, pointed, Number, signless, minus, marks, Among, first, later, Form, a-word, a-string, a-number, a-mark, NoForm, Longest, sizeOf, mostOf}
 use Rattle.tokens.specs.declared.classes.Sort.{Sort}
 use Rattle.tokens.specs.declared.classes.Sort.the-variants.{Blanks, Marks, Digits, Letters, WordBytes, StringBytes, LoneMarks}
 use Rattle.tokens.proofs.TokenLaws.{never, and-left, and-right, or-cases, every}
@@ -209,7 +209,7 @@ mark-covers (b ∷ c ∷ d ∷ l) e q = absurd (never e)
 
 number-covers : {l : List ℕ} → Number l → (q : List ℕ) → length l ≤ reach (l ++ q)
 unfolding reach classOf
-number-covers (plain {l} u) q = rw (reach-digits (l ++ q) (unsigned-first u q)) (unsigned-covers u q)
+number-covers (signless {l} u) q = rw (reach-digits (l ++ q) (unsigned-first u q)) (unsigned-covers u q)
 number-covers (minus {l} u) q = rw (unsigned-first u q) (suc-le-suc (unsigned-covers u q))
 
 -- a form that begins a list is no longer than the list's reach
@@ -230,7 +230,7 @@ kind-is : {kind : ℕ} {l : List ℕ} → Form kind l → kind ≡ kindOf l
 unfolding kindOf classOf
 kind-is (a-word e a) = rw e
 kind-is (a-string a) = refl
-kind-is (a-number (plain u)) = unsigned-kind u
+kind-is (a-number (signless u)) = unsigned-kind u
 kind-is (a-number (minus u)) = refl
 kind-is (a-mark m) = mark-kind m
 
@@ -242,8 +242,8 @@ some-bytes : {kind : ℕ} {l : List ℕ} → Form kind l → 0 < length l
 unfolding marked
 some-bytes (a-word e a) = omega arith
 some-bytes (a-string a) = omega arith
-some-bytes (a-number (plain (whole (digits-from e a)))) = omega arith
-some-bytes (a-number (plain (pointed (digits-from e a) t))) = omega arith
+some-bytes (a-number (signless (whole (digits-from e a)))) = omega arith
+some-bytes (a-number (signless (pointed (digits-from e a) t))) = omega arith
 some-bytes (a-number (minus u)) = omega arith
 some-bytes (a-mark {l} m) = go l (all-marked m)
   where

@@ -15,7 +15,7 @@ use Rattle.tokens.specs.Bytes.{classOf, letter, digit, mark}
 use Rattle.tokens.specs.Runs.{isOf, run, runEnd}
 use Rattle.tokens.specs.Words.{wordKind}
 use Rattle.tokens.specs.Tokens.{token, badByteToken, sized, wordToken, stringToken, numberToken, doubled, beforeEquals, markOf, markAt, tokenFrom, tokenAt}
-use Rattle.tokens.specs.Forms.{All, empty, next, SomeDigits, digits-from, Unsigned, whole, pointed, plain, minus, marks, Among, Form, a-word, a-string, a-number, a-mark, digits, sizeOf, mostOf, NoForm, Longest, Stands, end-of-text, a-token, too-long, a-colon, bad-byte, unended, bad-inside, StandsAt}
+use Rattle.tokens.specs.Forms.{All, empty, next, SomeDigits, digits-from, Unsigned, whole, pointed, signless, minus, marks, Among, Form, a-word, a-string, a-number, a-mark, digits, sizeOf, mostOf, NoForm, Longest, Stands, end-of-text, a-token, too-long, a-colon, bad-byte, unended, bad-inside, StandsAt}
 use Rattle.tokens.specs.declared.classes.Sort.the-variants.{Blanks, Digits, Letters, WordBytes, StringBytes}
 use Rattle.tokens.specs.declared.reader.Token.{Token}
 use Rattle.tokens.proofs.TokenLaws.{never, and-left, and-right, every, one-passes, markBytes, told-by-class}
@@ -121,7 +121,7 @@ data Sign : List ℕ → Type 0 where
   minus-sign : Sign (45 ∷ [])
 
 sign-form : {sign l : List ℕ} → Sign sign → Unsigned l → Form 48 (sign ++ l)
-sign-form no-sign u = a-number (plain u)
+sign-form no-sign u = a-number (signless u)
 sign-form minus-sign u = a-number (minus u)
 
 sign-digits : {sign : List ℕ} → Sign sign → digits sign ≡ 0

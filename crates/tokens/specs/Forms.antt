@@ -42,7 +42,7 @@ pub data Unsigned : List ℕ → Type 0 where
 
 -- optional `-` directly before them
 pub data Number : List ℕ → Type 0 where
-  plain : {l : List ℕ} → Unsigned l → Number l
+  signless : {l : List ℕ} → Unsigned l → Number l
   minus : {l : List ℕ} → Unsigned l → Number (code "-" ∷ l)
 
 -- the marks, and their kinds

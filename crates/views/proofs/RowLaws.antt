@@ -12,7 +12,7 @@ use Rattle.bags.specs.Sections.{Sectioned}
 use Rattle.bags.specs.declared.After.the-variants.{At}
 use Rattle.bags.specs.declared.sections.Sections.{Sections}
 use Rattle.bags.proofs.ReadLaws.{nth}
-use Rattle.lookups.specs.Values.{valueAt, Valued, Whole}
+use Rattle.lookups.specs.Values.{valueAt, Valued, ValueWhole}
 use Rattle.lookups.specs.Lookups.{baseOf}
 use Rattle.lookups.specs.declared.values.Value.{Value}
 use Rattle.lookups.proofs.BagLaws.{value-whole, value-finite, base-whole, base-finite}
@@ -41,8 +41,8 @@ module _ (s : List ℕ) (p : Sections) (n : ℕ) (heads values : List ℕ) (w : 
       columns-have (λ i. chosenAt s (getD heads i 0) (getD values i 0)) (baseValue s p) root path P base n 0
       (λ j l. let z : 0 + j ≡ j = omega arith in rw z (some (getD values j 0) (w .valued j l)))
 
-  row-whole : Whole s (rowValue s p n heads values root path)
-  row-whole = row-has (Whole s) (base-whole s path p root (w .sections)) (value-whole s)
+  row-whole : ValueWhole s (rowValue s p n heads values root path)
+  row-whole = row-has (ValueWhole s) (base-whole s path p root (w .sections)) (value-whole s)
 
   -- a number of the row is finite
   pub row-finite : T (finite (rowValue s p n heads values root path .number))
