@@ -14,7 +14,7 @@ use Rattle.slices.specs.Parts.{part}
 use Rattle.bags.specs.Reading.{byte, only, many}
 use Rattle.bags.specs.Paths.{isPath}
 use Rattle.bags.specs.Values.{valueEnd}
-use Rattle.bags.specs.Sections.{entryPath, kindAt, entryEnd, ascends, ascending, pathsOf, entriesEnd, sectionEnd, afterwards, fromEnv, fromResource, sectionsOf, Sectioned, isBag}
+use Rattle.bags.specs.Sections.{pathAt, kindAt, entryEnd, ascends, ascending, pathsOf, entriesEnd, sectionEnd, afterwards, fromEnv, fromResource, sectionsOf, Sectioned, isBag}
 use Rattle.bags.specs.declared.After.{After}
 use Rattle.bags.specs.declared.After.the-variants.{At, Bad}
 use Rattle.bags.specs.declared.sections.Sections.{Sections}
@@ -30,24 +30,24 @@ module _ (s : List ℕ) (at : ℕ) where
   unfolding entryEnd
   entry-cut h = simp (le-ltb _ _ h)
 
-  pub entry-wrong : kindAt s at < length s → isPath (entryPath s at) ≡ false → Bad ≡ entryEnd s at
+  pub entry-wrong : kindAt s at < length s → isPath (pathAt s at) ≡ false → Bad ≡ entryEnd s at
   unfolding entryEnd
   entry-wrong h p = simp (lt-ltb _ _ h, p)
 
-  pub entry-whole : kindAt s at < length s → isPath (entryPath s at) ≡ true → valueEnd (byte s (kindAt s at)) s (kindAt s at + 1) ≡ entryEnd s at
+  pub entry-whole : kindAt s at < length s → isPath (pathAt s at) ≡ true → valueEnd (byte s (kindAt s at)) s (kindAt s at + 1) ≡ entryEnd s at
   unfolding entryEnd
   entry-whole h p = simp (lt-ltb _ _ h, p)
 
 -- what an entry that ends tells
 pub record Entry (s : List ℕ) (at e : ℕ) : Type 0 where
   pub named : kindAt s at < length s
-  pub path : isPath (entryPath s at) ≡ true
+  pub path : isPath (pathAt s at) ≡ true
   pub valued : valueEnd (byte s (kindAt s at)) s (kindAt s at + 1) ≡ At e
 
 pub entry-at : (s : List ℕ) (at e : ℕ) → entryEnd s at ≡ At e → Entry s at e
 unfolding entryEnd
 entry-at s at e h =
-    let o = only-at (ltb (kindAt s at) (length s) && isPath (entryPath s at)) (valueEnd (byte s (kindAt s at)) s (kindAt s at + 1)) e h in
+    let o = only-at (ltb (kindAt s at) (length s) && isPath (pathAt s at)) (valueEnd (byte s (kindAt s at)) s (kindAt s at + 1)) e h in
     let t = and-eq-true-iff (ltb (kindAt s at) (length s)) _ .0 (o .0) in
     record { named = ltb-true _ _ (t .0); path = t .1; valued = o .1 }
 
@@ -66,20 +66,20 @@ module _ (s : List ℕ) where
 
   pub entries-first : (n at : ℕ) → entriesAfter [] n s at ≡ entriesEnd n s at
   unfolding entriesAfter entriesEnd ascends ascending
-  entries-first zero at = rw (each-done (entryEnd s) (λ at e. entryPath s at) 0 at (omega arith))
+  entries-first zero at = rw (each-done (entryEnd s) (λ at e. pathAt s at) 0 at (omega arith))
   entries-first (suc n) at = go (entryEnd s at) refl
     where
       go : (a : After) → entryEnd s at ≡ a
           → only (ascends [] (pathsOf (suc n) s at)) (many (suc n) (entryEnd s) at) ≡ only (ascending (pathsOf (suc n) s at)) (many (suc n) (entryEnd s) at)
-      go Bad q = rw (each-stop (entryEnd s) (λ at e. entryPath s at) (suc n) at q)
+      go Bad q = rw (each-stop (entryEnd s) (λ at e. pathAt s at) (suc n) at q)
       go (At e) q =
-          let one : sortsBefore [] (entryPath s at) ≡ true = before-none (entryPath s at) (path-sized (entryPath s at) (entry-at s at e q .path) .0) in
-          rw (each-more (entryEnd s) (λ at e. entryPath s at) (suc n) at e (omega arith) q) (simp one)
+          let one : sortsBefore [] (pathAt s at) ≡ true = before-none (pathAt s at) (path-sized (pathAt s at) (entry-at s at e q .path) .0) in
+          rw (each-more (entryEnd s) (λ at e. pathAt s at) (suc n) at e (omega arith) q) (simp one)
 
 module _ (last : List ℕ) (n : ℕ) (s : List ℕ) (at : ℕ) where
   pub entries-done : n ≤ 0 → At at ≡ entriesAfter last n s at
   unfolding entriesAfter ascends
-  entries-done h = simp (each-done (entryEnd s) (λ at e. entryPath s at) n at h, many-done (entryEnd s) n at h)
+  entries-done h = simp (each-done (entryEnd s) (λ at e. pathAt s at) n at h, many-done (entryEnd s) n at h)
 
   module _ (h : 0 < n) where
     pub entries-stop : entryEnd s at ≡ Bad → entriesAfter last n s at ≡ Bad
@@ -87,19 +87,19 @@ module _ (last : List ℕ) (n : ℕ) (s : List ℕ) (at : ℕ) where
     entries-stop e = simp (many-stop (entryEnd s) n at h e) (only-bad (ascends last (pathsOf n s at)))
 
     module _ (e : ℕ) (q : entryEnd s at ≡ At e) where
-      pub entries-back : sortsBefore last (entryPath s at) ≡ false → entriesAfter last n s at ≡ Bad
+      pub entries-back : sortsBefore last (pathAt s at) ≡ false → entriesAfter last n s at ≡ Bad
       unfolding entriesAfter ascends
-      entries-back b = simp (each-more (entryEnd s) (λ at e. entryPath s at) n at e h q, b)
+      entries-back b = simp (each-more (entryEnd s) (λ at e. pathAt s at) n at e h q, b)
 
-      pub entries-more : sortsBefore last (entryPath s at) ≡ true → entriesAfter last n s at ≡ entriesAfter (entryPath s at) (n - 1) s e
+      pub entries-more : sortsBefore last (pathAt s at) ≡ true → entriesAfter last n s at ≡ entriesAfter (pathAt s at) (n - 1) s e
       unfolding entriesAfter ascends
-      entries-more b = simp (each-more (entryEnd s) (λ at e. entryPath s at) n at e h q, many-more (entryEnd s) n at e h q, b)
+      entries-more b = simp (each-more (entryEnd s) (λ at e. pathAt s at) n at e h q, many-more (entryEnd s) n at e h q, b)
 
 -- the same, from what the comparison of the paths decides
 module _ (last : List ℕ) (n : ℕ) (s : List ℕ) (at e : ℕ) (r : Bool) (h : 0 < n) (q : entryEnd s at ≡ At e)
     (d : Decides (SortsBefore last (take (kindAt s at - (at + 1)) (drop (at + 1) s))) r) where
-  ordered : sortsBefore last (entryPath s at) ≡ r
-  ordered = sym (before-is last (entryPath s at) (rw (part-to s (at + 1) (byte s at)) at d))
+  ordered : sortsBefore last (pathAt s at) ≡ r
+  ordered = sym (before-is last (pathAt s at) (rw (part-to s (at + 1) (byte s at)) at d))
 
   pub entries-on : r ≡ true → entriesAfter (part s (at + 1) (kindAt s at - (at + 1))) (n - 1) s e ≡ entriesAfter last n s at
   entries-on t =

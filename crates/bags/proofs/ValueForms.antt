@@ -11,7 +11,7 @@ use Rattle.slices.specs.Parts.{part}
 use Rattle.numbers.specs.Bits.{numberAt}
 use Rattle.bags.specs.Reading.{byte, many, each}
 use Rattle.bags.specs.Values.{stringEnd, listEnd, valueEnd}
-use Rattle.bags.specs.Sections.{entryPath, kindAt, entryEnd, ascending, Ascending, pathsOf, entriesEnd, sectionEnd}
+use Rattle.bags.specs.Sections.{pathAt, kindAt, entryEnd, ascending, Ascending, pathsOf, entriesEnd, sectionEnd}
 use Rattle.bags.specs.Data.{Datum, text, number, flag, texts, Entry, stringAt, listAt, datumAt}
 use Rattle.bags.specs.Forms.{StringBytes, a-string, ValueBytes, string, eight, off, on, list, EntryBytes, entry, pathsIn, SectionBytes, section}
 use Rattle.bags.specs.declared.After.the-variants.{At}
@@ -171,7 +171,7 @@ module _ (s : List ℕ) where
 
   -- the entry at a place
   abbrev pub entryHere : ℕ → Entry Datum
-  entryHere at = record { path = entryPath s at; value = datumAt s (kindAt s at) }
+  entryHere at = record { path = pathAt s at; value = datumAt s (kindAt s at) }
 
   entry-sound : (at e : ℕ) → entryEnd s at ≡ At e → Told EntryBytes s at e (entryHere at)
   entry-sound at e h =
@@ -179,7 +179,7 @@ module _ (s : List ℕ) where
       let t = value-sound (kindAt s at) e (w .valued) in
       let p = laid-part s (at + 1) (byte s at) (omega (arith, w .named)) in
       record {
-        bytes = length (entryPath s at) ∷ (entryPath s at ++ t .bytes);
+        bytes = length (pathAt s at) ∷ (pathAt s at ++ t .bytes);
         says = entry (w .path) (t .says);
         laid = laid-cons s at _ _ e (omega (arith, w .named)) (sym (p .1)) (laid-join (p .0) (t .laid));
       }
@@ -191,7 +191,7 @@ module _ (s : List ℕ) where
       let y = laid-split p b (h .others) in
       let o = value-complete f (y .1) in
       let i = value-inside (byte s (at + 1 + length p)) s (at + 1 + length p + 1) e (o .0) in
-      let q : entryPath s at ≡ p = rw n (laid-is (y .0)) in
+      let q : pathAt s at ≡ p = rw n (laid-is (y .0)) in
       let z : at + 1 + length p < length s = omega arith in
       (sym (entry-whole s at (rw n z) (rw q ok)) ∙ rw n (o .0), rw (q, n) (ap (λ (d : Datum). record { path = p; value = d }) (o .1)))
 

@@ -18,15 +18,15 @@ use Rattle.bags.specs.declared.sections.Divided.the-variants.{In, Broken
 use Rattle.bags.specs.Sizes.{mostBagBytes, mostEntries}
 
 -- of the entry at a place: its path, after a length byte, and where its kind byte stands
-abbrev pub entryPath : List ℕ → ℕ → List ℕ
-entryPath s at = part s (at + 1) (byte s at)
+abbrev pub pathAt : List ℕ → ℕ → List ℕ
+pathAt s at = part s (at + 1) (byte s at)
 
 abbrev pub kindAt : List ℕ → ℕ → ℕ
 kindAt s at = at + 1 + byte s at
 
 -- an entry: a path length byte, the path, a kind byte and a value
 unfoldable pub entryEnd : List ℕ → ℕ → After
-entryEnd s at = only (ltb (kindAt s at) (length s) && isPath (entryPath s at)) (valueEnd (byte s (kindAt s at)) s (kindAt s at + 1))
+entryEnd s at = only (ltb (kindAt s at) (length s) && isPath (pathAt s at)) (valueEnd (byte s (kindAt s at)) s (kindAt s at + 1))
 
 -- the paths that follow p: each stands after the one before it, the first after p
 unfoldable pub ascends : List ℕ → List (List ℕ) → Bool
@@ -46,7 +46,7 @@ pub data Ascending : List (List ℕ) → Type 0 where
 
 -- the paths of n entries
 abbrev pub pathsOf : ℕ → List ℕ → ℕ → List (List ℕ)
-pathsOf n s at = each n (entryEnd s) (λ at e. entryPath s at) at
+pathsOf n s at = each n (entryEnd s) (λ at e. pathAt s at) at
 
 -- n entries that ascend strictly by path bytes
 unfoldable pub entriesEnd : ℕ → List ℕ → ℕ → After

@@ -16,7 +16,7 @@ use Rattle.slices.proofs.Order.{before-trans, not-before-itself}
 use Rattle.slices.specs.Parts.{part, IsPart}
 use Rattle.slices.proofs.Equal.{same-decides}
 use Rattle.bags.specs.Reading.{byte, each, following}
-use Rattle.bags.specs.Sections.{entryPath, kindAt, entryEnd, pathsOf, Ascending, none, one, more, sectionEnd, sectionsOf, Sectioned, isBag}
+use Rattle.bags.specs.Sections.{pathAt, kindAt, entryEnd, pathsOf, Ascending, none, one, more, sectionEnd, sectionsOf, Sectioned, isBag}
 use Rattle.bags.specs.declared.After.{After}
 use Rattle.bags.specs.declared.After.the-variants.{At, Bad}
 use Rattle.bags.specs.declared.sections.Sections.{Sections}
@@ -28,7 +28,7 @@ use Rattle.bags.proofs.ValueLaws.{Ended, string, number, flag, list, value-at}
 use Rattle.lookups.specs.Values.{nought, unit, valueNumber, valueAt, ValueWhole}
 use Rattle.lookups.specs.Values as values
 use Rattle.lookups.specs.Lookups as lookups
-use Rattle.lookups.specs.Lookups.{lookIn, bagEntryAt, sectionAt, baseOf, bagOf, divided, lookupOf, stringStart, stringLength}
+use Rattle.lookups.specs.Lookups.{lookIn, bagEntryAt, sectionAt, baseOf, bagOf, divided, lookupOf, startOf, lengthOf}
 use Rattle.lookups.specs.declared.values.Value.{Value}
 use Rattle.lookups.specs.declared.Answer.{Answer}
 use Rattle.lookups.specs.declared.Answer.the-variants.{Found, Refused}
@@ -101,12 +101,12 @@ module _ (bag path : List ℕ) where
   -- of the n entries from a place on
   data Among (n at : ℕ) : Value → Type 0 where
     none-there : Among n at values.absent
-    one-there : {entry : ℕ} → EntryOf bag n at entry → entryPath bag entry ≡ path → Among n at (valueAt bag (kindAt bag entry))
+    one-there : {entry : ℕ} → EntryOf bag n at entry → pathAt bag entry ≡ path → Among n at (valueAt bag (kindAt bag entry))
 
   -- of the section of a root
   data Under (root : ℕ) : Value → Type 0 where
     nowhere : Under root values.absent
-    somewhere : {p : Sections} {start entry : ℕ} → sectionsOf bag ≡ In p → SectionOf p root start → EntryOf bag (byte bag start) (start + 1) entry → entryPath bag entry ≡ path
+    somewhere : {p : Sections} {start entry : ℕ} → sectionsOf bag ≡ In p → SectionOf p root start → EntryOf bag (byte bag start) (start + 1) entry → pathAt bag entry ≡ path
         → Under root (valueAt bag (kindAt bag entry))
 
   among-entries : (n at : ℕ) → Among n at (lookIn values.absent (each n (entryEnd bag) (bagEntryAt bag) at) path)
@@ -118,13 +118,13 @@ module _ (bag path : List ℕ) where
       later q none-there = none-there
       later q (one-there m k) = one-there (a-later q m) k
 
-      pick : {v : Value} {e : ℕ} → entryEnd bag at ≡ At e → (b : Bool) → same (entryPath bag at) path ≡ b → Among (suc n) at v → Among (suc n) at (cond b (valueAt bag (kindAt bag at)) v)
-      pick q true k rest = one-there (the-first q) (same-decides (entryPath bag at) path .sound k)
+      pick : {v : Value} {e : ℕ} → entryEnd bag at ≡ At e → (b : Bool) → same (pathAt bag at) path ≡ b → Among (suc n) at v → Among (suc n) at (cond b (valueAt bag (kindAt bag at)) v)
+      pick q true k rest = one-there (the-first q) (same-decides (pathAt bag at) path .sound k)
       pick q false k rest = rest
 
       go : (a : After) → entryEnd bag at ≡ a → ((e : ℕ) → Among n e (lookIn values.absent (each n (entryEnd bag) (bagEntryAt bag) e) path))
           → Among (suc n) at (lookIn values.absent (following a λ e. bagEntryAt bag at e ∷ each n (entryEnd bag) (bagEntryAt bag) e) path)
-      go (At e) q rest = pick q (same (entryPath bag at) path) refl (later q (rest e))
+      go (At e) q rest = pick q (same (pathAt bag at) path) refl (later q (rest e))
       go Bad q rest = none-there
 
   among-section : (b : ℕ) → Among (byte bag b) (b + 1) (lookIn values.absent (sectionAt bag b) path)
@@ -162,29 +162,29 @@ module _ (bag path : List ℕ) where
       record { sections = p; divided = d; start = start; section = s; entry = entry; among = m; path-is = k; kind-is = w .0; place-is = w .1 }
 
   -- an entry behind a path stands after it
-  later-after : {p : List ℕ} {n at entry : ℕ} → EntryOf bag n at entry → Ascending (p ∷ pathsOf n bag at) → SortsBefore p (entryPath bag entry)
+  later-after : {p : List ℕ} {n at entry : ℕ} → EntryOf bag n at entry → Ascending (p ∷ pathsOf n bag at) → SortsBefore p (pathAt bag entry)
   unfolding each
   later-after (the-first q) a = apart (rw q at a) .0
   later-after (a-later q m) a = let w = apart (rw q at a) in before-trans (w .0) (later-after m (w .1))
 
   -- where an entry with the path stands, its value is found: no other entry of the section has this path
-  found-among : {n at entry : ℕ} → EntryOf bag n at entry → entryPath bag entry ≡ path → Ascending (pathsOf n bag at)
+  found-among : {n at entry : ℕ} → EntryOf bag n at entry → pathAt bag entry ≡ path → Ascending (pathsOf n bag at)
       → lookIn values.absent (each n (entryEnd bag) (bagEntryAt bag) at) path ≡ valueAt bag (kindAt bag entry)
   unfolding each lookIn
-  found-among {at = at} (the-first {next = e} q) k a = rw (q, same-decides (entryPath bag at) path .complete k)
+  found-among {at = at} (the-first {next = e} q) k a = rw (q, same-decides (pathAt bag at) path .complete k)
   found-among {at = at} (a-later {n = n} {next = e} q m) k a =
-      let w : Ascending (entryPath bag at ∷ pathsOf n bag e) = rw q at a in
+      let w : Ascending (pathAt bag at ∷ pathsOf n bag e) = rw q at a in
       let b = later-after m w in
-      let other = one-answer (same (entryPath bag at) path) false (same-decides (entryPath bag at) path) (no-to (another b k)) in
+      let other = one-answer (same (pathAt bag at) path) false (same-decides (pathAt bag at) path) (no-to (another b k)) in
       rw (q, other) (found-among m k (behind w))
 
-  found-section : (b e : ℕ) {entry : ℕ} → sectionEnd bag b ≡ At e → EntryOf bag (byte bag b) (b + 1) entry → entryPath bag entry ≡ path
+  found-section : (b e : ℕ) {entry : ℕ} → sectionEnd bag b ≡ At e → EntryOf bag (byte bag b) (b + 1) entry → pathAt bag entry ≡ path
       → lookIn values.absent (sectionAt bag b) path ≡ valueAt bag (kindAt bag entry)
   unfolding sectionAt
   found-section b e h m k = found-among m k (ascending-decides (pathsOf (byte bag b) bag (b + 1)) .sound (section-at bag b e h .ascend))
 
   found-base : {p : Sections} {root start entry : ℕ} → Sectioned bag p → SectionOf p root start → EntryOf bag (byte bag start) (start + 1) entry
-      → entryPath bag entry ≡ path → lookIn values.absent (baseOf bag p root) path ≡ valueAt bag (kindAt bag entry)
+      → pathAt bag entry ≡ path → lookIn values.absent (baseOf bag p root) path ≡ valueAt bag (kindAt bag entry)
   unfolding baseOf
   found-base {p} w principal = found-section 0 (p .resource) (w .principal)
   found-base {p} w resource = found-section (p .resource) (p .env) (w .resource)
@@ -271,38 +271,38 @@ module _ (bag : List ℕ) (root : ℕ) (path : List ℕ) where
   -- ---- a string's bytes
 
   pub string-none : isBag bag ≡ false → stringSays bag root path ≡ record { start = 0; length = 0 }
-  unfolding stringSays stringStart stringLength
+  unfolding stringSays startOf lengthOf
   string-none e = rw (← refused bag root path e)
 
   pub string-empty : (lookupSays bag root path .kind ≡ 1 → ⊥) → stringSays bag root path ≡ record { start = 0; length = 0 }
-  unfolding lookupSays stringSays stringStart stringLength
+  unfolding lookupSays stringSays startOf lengthOf
   string-empty = go (lookupOf bag root path)
     where
-      go : (a : Answer) → (foundAs (lookups.lookupSaid a) .kind ≡ 1 → ⊥) → _≡_ {A = DeskString} (record { start = stringStart a; length = stringLength bag a }) (record { start = 0; length = 0 })
+      go : (a : Answer) → (foundAs (lookups.lookupSaid a) .kind ≡ 1 → ⊥) → _≡_ {A = DeskString} (record { start = startOf a; length = lengthOf bag a }) (record { start = 0; length = 0 })
       go (Found v) n = rw (ne-eqb (v .kind) 1 n)
       go (Refused m) n = refl
 
   pub string-rightly : lookupSays bag root path .kind ≡ 1
       → (viewOf bag root path ≡ text (part bag (stringSays bag root path .start) (stringSays bag root path .length)))
       × (stringSays bag root path .start + stringSays bag root path .length ≤ length bag)
-  unfolding lookupSays stringSays stringStart stringLength lookupOf datumOf stringAt
+  unfolding lookupSays stringSays startOf lengthOf lookupOf datumOf stringAt
   string-rightly = go (isBag bag) refl
     where
       v : Value
       v = lookIn values.absent (bagOf bag root) path
 
       go : (b : Bool) → isBag bag ≡ b → foundAs (lookups.lookupSaid (cond b (Found v) (Refused 24))) .kind ≡ 1
-          → (viewOf bag root path ≡ text (part bag (stringStart (cond b (Found v) (Refused 24))) (stringLength bag (cond b (Found v) (Refused 24)))))
-          × (stringStart (cond b (Found v) (Refused 24)) + stringLength bag (cond b (Found v) (Refused 24)) ≤ length bag)
+          → (viewOf bag root path ≡ text (part bag (startOf (cond b (Found v) (Refused 24))) (lengthOf bag (cond b (Found v) (Refused 24)))))
+          × (startOf (cond b (Found v) (Refused 24)) + lengthOf bag (cond b (Found v) (Refused 24)) ≤ length bag)
       go true form k = rw (← bag-means bag path root, k) (refl, string-inside bag root path v (sym (found bag root path form)) k)
       go false form k = absurd (omega arith)
 
   pub string-placed : lookupSays bag root path .kind ≡ 1
       → (stringSays bag root path .start ≡ lookupSays bag root path .place + 1) × (stringSays bag root path .length ≡ byte bag (lookupSays bag root path .place))
-  unfolding lookupSays stringSays stringStart stringLength
+  unfolding lookupSays stringSays startOf lengthOf
   string-placed = go (lookupOf bag root path)
     where
-      go : (a : Answer) → foundAs (lookups.lookupSaid a) .kind ≡ 1 → (stringStart a ≡ foundAs (lookups.lookupSaid a) .place + 1) × (stringLength bag a ≡ byte bag (foundAs (lookups.lookupSaid a) .place))
+      go : (a : Answer) → foundAs (lookups.lookupSaid a) .kind ≡ 1 → (startOf a ≡ foundAs (lookups.lookupSaid a) .place + 1) × (lengthOf bag a ≡ byte bag (foundAs (lookups.lookupSaid a) .place))
       go (Found v) k = let e : v .kind ≡ 1 = k in rw e (refl, refl)
       go (Refused n) k = absurd (omega arith)
 

@@ -63,7 +63,7 @@ lookupSays bag root path = foundAs (lookups.lookupSaid (lookups.lookupOf bag roo
 
 -- where a string's bytes start, and how many they are; zeros for anything else
 unfoldable pub stringSays : List ℕ → ℕ → List ℕ → DeskString
-stringSays bag root path = record { start = lookups.stringStart (lookups.lookupOf bag root path); length = lookups.stringLength bag (lookups.lookupOf bag root path) }
+stringSays bag root path = record { start = lookups.startOf (lookups.lookupOf bag root path); length = lookups.lengthOf bag (lookups.lookupOf bag root path) }
 
 -- ---- sheet(text, table, question, subject, action, resource, start, sheet, at)
 

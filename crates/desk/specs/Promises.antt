@@ -19,7 +19,7 @@ use Rattle.compiling.specs.Outcome.{roomFor, compiledBytes, spot}
 use Rattle.compiling.specs.Promise.{RefusedThere, Begun}
 use Rattle.bags.specs.Forms.{Contents, BagBytes, NoBag}
 use Rattle.bags.specs.Reading.{byte}
-use Rattle.bags.specs.Sections.{entryPath, kindAt, entryEnd, sectionsOf}
+use Rattle.bags.specs.Sections.{pathAt, kindAt, entryEnd, sectionsOf}
 use Rattle.bags.specs.declared.After.the-variants.{At}
 use Rattle.bags.specs.declared.sections.Sections.{Sections}
 use Rattle.bags.specs.declared.sections.Divided.the-variants.{In}
@@ -34,7 +34,7 @@ use Rattle.placing.specs.Said.{wordsOf}
 use Rattle.meaning.specs.Targets.{Request, isSystem}
 use Rattle.meaning.specs.Decisions.{SomeSatisfied, LowestSatisfied}
 use Rattle.deciding.specs.Promise.{DecideCall, DecideRefused}
-use Rattle.lookups.specs.Lookups.{lookupOf, stringStart, stringLength}
+use Rattle.lookups.specs.Lookups.{lookupOf, startOf, lengthOf}
 use Rattle.lookups.specs.Values.{nought, unit}
 use Rattle.pages.specs.Rows.{Combination, rowOf, choicesAt}
 use Rattle.pages.specs.Listing.{rowSize, roomIn, sixBytes}
@@ -275,13 +275,13 @@ pub record StandsIn (bag : List ℕ) (root : ℕ) (path : List ℕ) (kind place 
   pub section : SectionOf sections root start
   pub entry : ℕ
   pub among : EntryOf bag (byte bag start) (start + 1) entry
-  pub path-is : entryPath bag entry ≡ path
+  pub path-is : pathAt bag entry ≡ path
   pub kind-is : kind ≡ byte bag (kindAt bag entry)
   pub place-is : place ≡ kindAt bag entry + 1
 
 -- what the contract of `string_part` allows: a string's bytes as a part of the caller's bag
 abbrev pub StringAllows : RefT (List ℕ) → ℕ → List ℕ → RefT (List ℕ) → Type 0
-StringAllows bag root path r = IsPart bag r (stringStart (lookupOf (now bag) root path)) (stringLength (now bag) (lookupOf (now bag) root path))
+StringAllows bag root path r = IsPart bag r (startOf (lookupOf (now bag) root path)) (lengthOf (now bag) (lookupOf (now bag) root path))
 
 -- what is found, where it stands, and where a string's bytes are
 pub record LookUps : Type 0 where

@@ -15,7 +15,7 @@ use Rattle.bags.specs.declared.sections.Sections.{Sections}
 use Rattle.bags.specs.declared.sections.Divided.the-variants.{In}
 use Rattle.tokens.specs.Blanks.{unblanked}
 use Rattle.lookups.specs.Values.{absent}
-use Rattle.lookups.specs.Lookups.{lookIn, baseOf, bagOf, lookupOf, lookupSaid, stringStart, stringLength, stretchOf}
+use Rattle.lookups.specs.Lookups.{lookIn, baseOf, bagOf, lookupOf, lookupSaid, startOf, lengthOf, stretchOf}
 use Rattle.lookups.specs.declared.values.Value.{Value}
 use Rattle.lookups.specs.declared.Answer.{Answer}
 use Rattle.lookups.specs.declared.Stretch.{Stretch}
@@ -67,15 +67,15 @@ module _ (s : List ℕ) (root : ℕ) (path : List ℕ) where
 
 module _ (s : List ℕ) (answer : Answer) (v : Value) (is : answer ≡ Found v) where
   pub string-stretch : v .kind ≡ 1 → _≡_ {A = Stretch} (record { start = v .place + 1; length = byte s (v .place) }) (stretchOf s answer)
-  unfolding stringStart stringLength
+  unfolding startOf lengthOf
   string-stretch k = simp (is, k)
 
   pub other-stretch : (v .kind ≡ 1 → ⊥) → _≡_ {A = Stretch} (record { start = 0; length = 0 }) (stretchOf s answer)
-  unfolding stringStart stringLength
+  unfolding startOf lengthOf
   other-stretch k = simp (is, ne-eqb _ _ k)
 
 pub refused-stretch : (s : List ℕ) (answer : Answer) (n : ℕ) → answer ≡ Refused n → _≡_ {A = Stretch} (record { start = 0; length = 0 }) (stretchOf s answer)
-unfolding stringStart stringLength
+unfolding startOf lengthOf
 refused-stretch s answer n is = simp is
 
 -- ---- one answer

@@ -18,7 +18,7 @@ use Rattle.numbers.proofs.Exponent.{finite-by-bits}
 use Rattle.bags.specs.Reading.{byte, many, each}
 use Rattle.bags.specs.Paths.{every, isPath}
 use Rattle.bags.specs.Values.{valueEnd}
-use Rattle.bags.specs.Sections.{entryPath, kindAt, entryEnd, sectionEnd, sectionsOf, Sectioned}
+use Rattle.bags.specs.Sections.{pathAt, kindAt, entryEnd, sectionEnd, sectionsOf, Sectioned}
 use Rattle.bags.specs.declared.After.the-variants.{At}
 use Rattle.bags.specs.declared.sections.Sections.{Sections}
 use Rattle.bags.specs.declared.sections.Divided.{Divided}
@@ -106,11 +106,11 @@ entry-valued s at e h = let w = entry-at s at e h in record { inside = w .named;
 -- ---- what each entry's value has, and an absent one, what is found has
 
 module _ (s path : List ℕ) (P : Value → Type 0) (none : P absent)
-    (some : (at e : ℕ) → entryEnd s at ≡ At e → same (entryPath s at) path ≡ true → P (valueAt s (kindAt s at))) where
+    (some : (at e : ℕ) → entryEnd s at ≡ At e → same (pathAt s at) path ≡ true → P (valueAt s (kindAt s at))) where
   -- of n entries, of a section, of the sections of bytes, and of a bag
   entries-have : (n at e : ℕ) → many n (entryEnd s) at ≡ At e → P (lookIn absent (each n (entryEnd s) (bagEntryAt s) at) path)
   entries-have zero at e h = rw (← look-done absent (entryEnd s) (bagEntryAt s) path 0 at (omega arith)) none
-  entries-have (suc n) at e h = go (same (entryPath s at) path) refl (entries-have n (f .stop) e later)
+  entries-have (suc n) at e h = go (same (pathAt s at) path) refl (entries-have n (f .stop) e later)
     where
       f : First (entryEnd s) (suc n) at e
       f = first (entryEnd s) (suc n) at e (omega arith) h
@@ -121,7 +121,7 @@ module _ (s path : List ℕ) (P : Value → Type 0) (none : P absent)
       later : many n (entryEnd s) (f .stop) ≡ At e
       later = rw less at (f .later)
 
-      go : (b : Bool) → same (entryPath s at) path ≡ b → P (lookIn absent (each n (entryEnd s) (bagEntryAt s) (f .stop)) path) → P (lookIn absent (each (suc n) (entryEnd s) (bagEntryAt s) at) path)
+      go : (b : Bool) → same (pathAt s at) path ≡ b → P (lookIn absent (each n (entryEnd s) (bagEntryAt s) (f .stop)) path) → P (lookIn absent (each (suc n) (entryEnd s) (bagEntryAt s) at) path)
       go true q w = rw (← look-here absent (entryEnd s) (bagEntryAt s) path (suc n) at (omega arith) (f .stop) (f .ends) q) (some at (f .stop) (f .ends) q)
       go false q w = rw (← look-on absent (entryEnd s) (bagEntryAt s) path (suc n) at (omega arith) (f .stop) (f .ends) q, less) w
 
@@ -148,7 +148,7 @@ pub no-empty-path : (s path : List ℕ) (n at e : ℕ) → length path ≡ 0 →
 unfolding unblanked
 no-empty-path s [] n at e h q =
     sym (entries-have s [] (λ v. v ≡ absent) refl
-    (λ at e h q. let l = path-sized (entryPath s at) (entry-at s at e h .path) .0 in let i = ap length (same-decides (entryPath s at) [] .sound q) in absurd (omega arith)) n at e q)
+    (λ at e h q. let l = path-sized (pathAt s at) (entry-at s at e h .path) .0 in let i = ap length (same-decides (pathAt s at) [] .sound q) in absurd (omega arith)) n at e q)
 no-empty-path s (b ∷ path) n at e h q = absurd (omega arith)
 
 module _ (s path : List ℕ) where
@@ -170,7 +170,7 @@ module _ (s path : List ℕ) where
   pub impossible-path : isPath path ≡ false → (root : ℕ) → lookIn absent (bagOf s root) path ≡ absent
   impossible-path p =
       bag-has s path (λ v. v ≡ absent) refl
-      (λ at e h q. absurd (false≢true (sym p ∙ ap isPath (sym (same-decides (entryPath s at) path .sound q)) ∙ entry-at s at e h .path)))
+      (λ at e h q. absurd (false≢true (sym p ∙ ap isPath (sym (same-decides (pathAt s at) path .sound q)) ∙ entry-at s at e h .path)))
 
 -- nor does a root byte other than 1 to 3
 pub impossible-root : (s path : List ℕ) (root : ℕ) → (root ≡ 1 → ⊥) → (root ≡ 2 → ⊥) → (root ≡ 3 → ⊥) → lookIn absent (bagOf s root) path ≡ absent

@@ -5,7 +5,7 @@ use mathlib.Core.Path.{_≡_, refl}
 use lib.Ieee.{binary64, ofBits}
 use Rattle.slices.specs.Ascii.{bytes}
 use Rattle.lookups.specs.Values.{absent}
-use Rattle.lookups.specs.Lookups.{lookupOf, lookupSaid, stringStart, stringLength}
+use Rattle.lookups.specs.Lookups.{lookupOf, lookupSaid, startOf, lengthOf}
 use Rattle.lookups.specs.declared.Answer.{Answer}
 use Rattle.lookups.specs.declared.Answer.the-variants.{Refused, Found}
 use Rattle.lookups.proofs.Opened.{lookups-opened}
@@ -20,14 +20,14 @@ value kind bits place = Found (record { kind = kind; number = ofBits binary64 bi
 pub lookups :
     (lookupOf bag 1 (bytes "grade") ≡ value 2 0x8000000000000000 8)
     × (lookupOf bag 2 (bytes "name") ≡ value 1 0 23)
-    × (stringStart (lookupOf bag 2 (bytes "name")) ≡ 24)
-    × (stringLength bag (lookupOf bag 2 (bytes "name")) ≡ 2)
+    × (startOf (lookupOf bag 2 (bytes "name")) ≡ 24)
+    × (lengthOf bag (lookupOf bag 2 (bytes "name")) ≡ 2)
     × (lookupOf bag 3 (bytes "on") ≡ value 3 0x3FF0000000000000 31)
     × (lookupOf bag 1 (bytes "grad") ≡ Found absent)
     × (lookupOf bag 2 (bytes "grade") ≡ Found absent)
     × (lookupOf bag 2 (bytes "na me") ≡ Found absent)
     × (lookupOf bag 4 (bytes "on") ≡ Found absent)
-    × (stringStart (lookupOf bag 3 (bytes "on")) ≡ 0)
+    × (startOf (lookupOf bag 3 (bytes "on")) ≡ 0)
     × (lookupOf (0 ∷ 0 ∷ []) 9 (bytes "a") ≡ Refused 24)
     × (lookupSaid (lookupOf (0 ∷ 0 ∷ []) 9 (bytes "a")) ≡ record { refusal = 24; kind = 0; number = ofBits binary64 0; place = 0 })
 unfolding lookups-opened

@@ -6,7 +6,7 @@ use lib.Dec.{eqb}
 use lib.Ieee.{Float}
 use Rattle.slices.specs.Same.{same}
 use Rattle.bags.specs.Reading.{byte, each}
-use Rattle.bags.specs.Sections.{entryPath, kindAt, entryEnd, sectionsOf, isBag}
+use Rattle.bags.specs.Sections.{pathAt, kindAt, entryEnd, sectionsOf, isBag}
 -- a path and what stands under it
 pub use Rattle.bags.specs.Data.{Entry}
 use Rattle.bags.specs.declared.sections.Sections.{Sections}
@@ -25,7 +25,7 @@ lookIn none (e ∷ es) path = cond (same (e .path) path) (e .value) (lookIn none
 
 -- the entry from a place to its end: its path, and the value after it
 abbrev pub bagEntryAt : List ℕ → ℕ → ℕ → Entry Value
-bagEntryAt s at e = record { path = entryPath s at; value = valueAt s (kindAt s at) }
+bagEntryAt s at e = record { path = pathAt s at; value = valueAt s (kindAt s at) }
 
 -- the entries of the section whose count byte stands at b
 unfoldable pub sectionAt : List ℕ → ℕ → List (Entry Value)
@@ -64,14 +64,14 @@ lookupSaid (Found v) = record { refusal = 0; kind = v .kind; number = v .number;
 -- ---- the part of the bag that a string's bytes are
 
 -- where the bytes start, and how many they are: none unless it is a string
-unfoldable pub stringStart : Answer → ℕ
-stringStart (Refused n) = 0
-stringStart (Found v) = cond (eqb (v .kind) 1) (v .place + 1) 0
+unfoldable pub startOf : Answer → ℕ
+startOf (Refused n) = 0
+startOf (Found v) = cond (eqb (v .kind) 1) (v .place + 1) 0
 
-unfoldable pub stringLength : List ℕ → Answer → ℕ
-stringLength s (Refused n) = 0
-stringLength s (Found v) = cond (eqb (v .kind) 1) (byte s (v .place)) 0
+unfoldable pub lengthOf : List ℕ → Answer → ℕ
+lengthOf s (Refused n) = 0
+lengthOf s (Found v) = cond (eqb (v .kind) 1) (byte s (v .place)) 0
 
 -- both, as they are told to a caller that cannot take a part
 abbrev pub stretchOf : List ℕ → Answer → Stretch
-stretchOf s a = record { start = stringStart a; length = stringLength s a }
+stretchOf s a = record { start = startOf a; length = lengthOf s a }

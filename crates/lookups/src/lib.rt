@@ -3,7 +3,7 @@ ghost use mathlib.Core.Path.{_≡_};
 ghost use Prim.Native.Nat.{_+_, _≤_};
 ghost use lib.ListN.{length};
 ghost use Rattle.slices.specs.Parts.{IsPart};
-ghost use Rattle.lookups.specs.Lookups.{lookupOf, stringStart, stringLength, stretchOf};
+ghost use Rattle.lookups.specs.Lookups.{lookupOf, startOf, lengthOf, stretchOf};
 use crate::finding::base_value;
 use crate::values::Value;
 use crate::values::absent_value;
@@ -78,8 +78,8 @@ pub fn string_place(bag: &[u8], root: u8, path: &[u8]) -> Stretch
 
 // A string's bytes, as a part of the caller's bag; an empty part for anything else.
 pub fn string_part<'a>(bag: &'a [u8], root: u8, path: &[u8]) -> &'a [u8]
-    ensures { λ r. ⌜ IsPart (bag .entry) r (stringStart (lookupOf (now (bag .entry)) root (now (path .entry))))
-        (stringLength (now (bag .entry)) (lookupOf (now (bag .entry)) root (now (path .entry)))) ⌝ }
+    ensures { λ r. ⌜ IsPart (bag .entry) r (startOf (lookupOf (now (bag .entry)) root (now (path .entry))))
+        (lengthOf (now (bag .entry)) (lookupOf (now (bag .entry)) root (now (path .entry)))) ⌝ }
 {
     let p = string_place(bag, root, path);
     let start = p.start;

@@ -9,7 +9,7 @@ use lib.Dec.{eqb, leb}
 use Rattle.patterns.specs.Likes.{likes}
 use Rattle.views.specs.Meaning.{View, present}
 use Rattle.grammar.specs.Policies.{Span, Root, Comparator, Comparator.Equal, Literal, Operand, Which, Tree, constant, compare, like, among, within, contains, has}
-use Rattle.placing.specs.Placed.{quotedAt, StringPlaced, PathPlaced, Each, LiteralPlaced, OperandPlaced, TreePlaced, a-comparison, a-likeness, in-list, in-attribute, a-call, a-presence, pathAt}
+use Rattle.placing.specs.Placed.{quotedAt, StringPlaced, PathPlaced, Each, LiteralPlaced, OperandPlaced, TreePlaced, a-comparison, a-likeness, in-list, in-attribute, a-call, a-presence, unblankedAt}
 use Rattle.placing.specs.Said.{literalWords, operandWords, treeWords}
 use Rattle.table.specs.declared.Entry.{Entry}
 use Rattle.stored.specs.ReadBack.{spanOfEntry, rootOfKind, comparatorOfKind, operandOfEntry, literalsBy, listBy, ownerBy, treeFrom, treeBy}
@@ -131,7 +131,7 @@ module _ (t : List ℕ) (view : View) (r : Verdict) (h : Bool) (e : r ≡ told h
   verdict-is tree c b is v q = e ∙ ap told q ∙ sym v ∙ ap (λ (c : Tree). verdict view (treeWords t c)) (sym is)
 
   module _ (at : ℕ → Entry) (end : ℕ) (x : Entry) where
-    pub flat-has : x .kind ≤ 8 → h ≡ present (attributeValue view (rootOfKind (x .kind - 4)) (pathAt t (spanOfEntry x))) → r ≡ verdict view (treeWords t (treeFrom (treeBy at) at end x))
+    pub flat-has : x .kind ≤ 8 → h ≡ present (attributeValue view (rootOfKind (x .kind - 4)) (unblankedAt t (spanOfEntry x))) → r ≡ verdict view (treeWords t (treeFrom (treeBy at) at end x))
     flat-has k q = verdict-is _ _ _ (as-has (treeBy at) at end x k) (has-told t view _ _) q
 
     pub flat-constant : 8 < x .kind → x .kind ≤ 12 → h ≡ eqb (x .kind) 11 → r ≡ verdict view (treeWords t (treeFrom (treeBy at) at end x))
@@ -154,14 +154,14 @@ module _ (t : List ℕ) (view : View) (r : Verdict) (h : Bool) (e : r ≡ told h
     flat-among a k i q = verdict-is _ _ _ (as-among (treeBy at) at end x k) (among-told t view (operandOfEntry (ownerBy at end x)) (listBy at end x)) (q ∙ rw i)
 
     pub flat-within : (a b : Entry) → x .kind ≡ 21 → a ≡ at (end - 3) → b ≡ at (end - 2)
-        → h ≡ ifText (operandValue view (operandWords t (operandOfEntry a))) (λ x. ifTexts (attributeValue view (rootOfKind (b .kind)) (pathAt t (spanOfEntry b))) (λ l. amongStrings l x))
+        → h ≡ ifText (operandValue view (operandWords t (operandOfEntry a))) (λ x. ifTexts (attributeValue view (rootOfKind (b .kind)) (unblankedAt t (spanOfEntry b))) (λ l. amongStrings l x))
         → r ≡ verdict view (treeWords t (treeFrom (treeBy at) at end x))
     flat-within a b k i j q =
         verdict-is _ _ _ (as-within (treeBy at) at end x k)
         (within-told t view (operandOfEntry (at (end - 3))) (rootOfKind (at (end - 2) .kind)) (spanOfEntry (at (end - 2)))) (q ∙ rw (i, j))
 
     pub flat-contains : (b : Entry) → 22 ≤ x .kind → x .kind ≤ 23 → b ≡ ownerBy at end x
-        → h ≡ ifTexts (attributeValue view (rootOfKind (b .kind)) (pathAt t (spanOfEntry b))) (λ l. asked (whichBy (eqb (x .kind) 23)) (λ o. ifText (literalValue (literalWords t o)) (amongStrings l)) (literalsBy (x .first) at (end - x .first - 1)))
+        → h ≡ ifTexts (attributeValue view (rootOfKind (b .kind)) (unblankedAt t (spanOfEntry b))) (λ l. asked (whichBy (eqb (x .kind) 23)) (λ o. ifText (literalValue (literalWords t o)) (amongStrings l)) (literalsBy (x .first) at (end - x .first - 1)))
         → r ≡ verdict view (treeWords t (treeFrom (treeBy at) at end x))
     flat-contains b l k i q =
         verdict-is _ _ _ (as-contains at end x l k)

@@ -25,7 +25,7 @@ use Rattle.views.specs.Values.{stringAt, listAt, datumOf}
 use Rattle.views.specs.Rows.{rowValue, rowView, RowStands}
 use Rattle.views.proofs.RowLaws.{row-reads}
 use Rattle.grammar.specs.Policies.{Root.Principal, rootByte, Root.Resource, Root.Env, Root.Action, Literal, text as textLiteral, number as numberLiteral, truth, Operand, attribute, literal}
-use Rattle.placing.specs.Placed.{bytesAt, quotedAt, pathAt, StringPlaced, NumberPlaced, PathPlaced, LiteralPlaced, a-string, a-number, a-truth, OperandPlaced, an-attribute, a-literal}
+use Rattle.placing.specs.Placed.{bytesAt, quotedAt, unblankedAt, StringPlaced, NumberPlaced, PathPlaced, LiteralPlaced, a-string, a-number, a-truth, OperandPlaced, an-attribute, a-literal}
 use Rattle.placing.specs.Said.{literalWords, operandWords}
 use Rattle.table.specs.declared.Entry.{Entry}
 use Rattle.stored.specs.ReadBack.{spanOfEntry, rootOfKind, literalOfEntry, operandOfEntry}
@@ -107,7 +107,7 @@ module _ (t : List ℕ) where
 -- ---- what is read, as the code's tests tell it apart
 
 module _ (t s : List ℕ) (p : Sections) (n : ℕ) (heads values : List ℕ) (o : Entry) where
-  pub read-bag : ofBag (o .kind) ≡ true → rowValue s p n heads values (o .kind) (pathAt t (spanOfEntry o)) ≡ attributeRead t s p n heads values o
+  pub read-bag : ofBag (o .kind) ≡ true → rowValue s p n heads values (o .kind) (unblankedAt t (spanOfEntry o)) ≡ attributeRead t s p n heads values o
   unfolding attributeRead
   read-bag b = simp b
 
@@ -218,7 +218,7 @@ string-alike v b x y l h = simp h (go (eqb (v .kind) 1) _)
 
 module _ (t s : List ℕ) (p : Sections) (n : ℕ) (heads values : List ℕ) (action : List ℕ) (o : Entry) where
   seen-in-bag : ofBag (o .kind) ≡ true
-      → rowView s p n heads values (o .kind) (pathAt t (spanOfEntry o)) ≡ attributeValue (withAction action (rowView s p n heads values)) (rootOfKind (o .kind)) (pathAt t (spanOfEntry o))
+      → rowView s p n heads values (o .kind) (unblankedAt t (spanOfEntry o)) ≡ attributeValue (withAction action (rowView s p n heads values)) (rootOfKind (o .kind)) (unblankedAt t (spanOfEntry o))
   unfolding attributeValue withAction
   seen-in-bag b =
       let w = and-eq-true-iff (leb 1 (o .kind)) (leb (o .kind) 3) .0 b in
@@ -227,22 +227,22 @@ module _ (t s : List ℕ) (p : Sections) (n : ℕ) (heads values : List ℕ) (ac
       rw (bag-root (o .kind) b, ne-eqb (o .kind) 4 q)
 
   seen-action : ofBag (o .kind) ≡ false → PathPlaced t (rootOfKind (o .kind)) (spanOfEntry o)
-      → text action ≡ attributeValue (withAction action (rowView s p n heads values)) (rootOfKind (o .kind)) (pathAt t (spanOfEntry o))
+      → text action ≡ attributeValue (withAction action (rowView s p n heads values)) (rootOfKind (o .kind)) (unblankedAt t (spanOfEntry o))
   unfolding attributeValue withAction
   seen-action b placed = let e = other-root (o .kind) b in rw (placed .action e, e) (simp (same-itself (bytes "name")))
 
 module _ (t s : List ℕ) (p : Sections) (n : ℕ) (heads values : List ℕ) (stands : RowStands s p n heads values) where
   pub attribute-is : (action : List ℕ) (o : Entry) (v : Value) → PathPlaced t (rootOfKind (o .kind)) (spanOfEntry o) → v ≡ attributeRead t s p n heads values o
-      → datumOf v (stringUnder s action o v) (listAt s (v .place)) ≡ attributeValue (withAction action (rowView s p n heads values)) (rootOfKind (o .kind)) (pathAt t (spanOfEntry o))
+      → datumOf v (stringUnder s action o v) (listAt s (v .place)) ≡ attributeValue (withAction action (rowView s p n heads values)) (rootOfKind (o .kind)) (unblankedAt t (spanOfEntry o))
   attribute-is action o v placed e = go (ofBag (o .kind)) refl
     where
       action-is : (b : Bool) → b ≡ false → datumOf aString (cond b (stringAt s 0) action) (listAt s 0) ≡ text action
       action-is b h = rw h (datum-text aString action (listAt s 0) refl)
 
       go : (b : Bool) → ofBag (o .kind) ≡ b
-          → datumOf v (stringUnder s action o v) (listAt s (v .place)) ≡ attributeValue (withAction action (rowView s p n heads values)) (rootOfKind (o .kind)) (pathAt t (spanOfEntry o))
+          → datumOf v (stringUnder s action o v) (listAt s (v .place)) ≡ attributeValue (withAction action (rowView s p n heads values)) (rootOfKind (o .kind)) (unblankedAt t (spanOfEntry o))
       go true b =
-          let r = row-reads s p n heads values stands (o .kind) (pathAt t (spanOfEntry o)) in
+          let r = row-reads s p n heads values stands (o .kind) (unblankedAt t (spanOfEntry o)) in
           let is = e ∙ sym (read-bag t s p n heads values o b) in
           string-alike v (ofBag (o .kind)) (stringAt s (v .place)) action (listAt s (v .place)) b
           ∙ ap (λ (v : Value). datumOf v (stringAt s (v .place)) (listAt s (v .place))) is ∙ r .is
@@ -256,7 +256,7 @@ module _ (t s : List ℕ) (p : Sections) (n : ℕ) (heads values : List ℕ) (st
     where
       go : (b : Bool) → ofBag (o .kind) ≡ b → (e : ℕ) × (listEnd s (v .place) ≡ At e)
       go true b =
-          let r = row-reads s p n heads values stands (o .kind) (pathAt t (spanOfEntry o)) in
+          let r = row-reads s p n heads values stands (o .kind) (unblankedAt t (spanOfEntry o)) in
           let whole = subst (ValueWhole s) (read-bag t s p n heads values o b ∙ sym e) (r .whole) in
           let w = whole (λ z. omega arith) in (w .0, value-list (v .kind) s (v .place) k ∙ w .1)
       go false b =
@@ -270,7 +270,7 @@ module _ (t s : List ℕ) (p : Sections) (n : ℕ) (heads values : List ℕ) (st
       let h : o .kind ≤ 3 = leb-true (o .kind) 3 (w .1) in
       let l : o .kind ≤ 4 = omega arith in
       subst (ValueWhole s) (read-bag t s p n heads values o b ∙ read-attribute t s p n heads values o l ∙ sym e)
-      (row-reads s p n heads values stands (o .kind) (pathAt t (spanOfEntry o)) .whole)
+      (row-reads s p n heads values stands (o .kind) (unblankedAt t (spanOfEntry o)) .whole)
 
 -- ---- literals
 
@@ -297,7 +297,7 @@ literal-is t o v x l e s = rw e (go (eqb (o .kind) 9) (eqb (o .kind) 10) (eqb (o
 
 -- ---- operands
 
-attribute-meant : (t : List ℕ) (view : View) (o : Entry) → o .kind ≤ 4 → operandValue view (operandWords t (operandOfEntry o)) ≡ attributeValue view (rootOfKind (o .kind)) (pathAt t (spanOfEntry o))
+attribute-meant : (t : List ℕ) (view : View) (o : Entry) → o .kind ≤ 4 → operandValue view (operandWords t (operandOfEntry o)) ≡ attributeValue view (rootOfKind (o .kind)) (unblankedAt t (spanOfEntry o))
 unfolding operandValue operandWords
 attribute-meant t view o h = rw (as-attribute o h)
 

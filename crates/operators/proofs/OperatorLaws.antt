@@ -9,7 +9,7 @@ use Rattle.views.specs.Meaning.{Datum, present}
 use Rattle.views.specs.Values.{listAt, datumOf}
 use Rattle.views.specs.Rows.{rowView, RowStands}
 use Rattle.grammar.specs.Policies.{Comparator.Equal, Literal}
-use Rattle.placing.specs.Placed.{quotedAt, PathPlaced, OperandPlaced, pathAt}
+use Rattle.placing.specs.Placed.{quotedAt, PathPlaced, OperandPlaced, unblankedAt}
 use Rattle.placing.specs.Said.{literalWords}
 use Rattle.table.specs.declared.Entry.{Entry}
 use Rattle.stored.specs.ReadBack.{spanOfEntry, rootOfKind, literalOfEntry, operandOfEntry, comparatorOfKind}
@@ -69,17 +69,17 @@ module _ (t s : List ℕ) (p : Sections) (n : ℕ) (heads values : List ℕ) (st
   module _ (b : Entry) (w : Value) (placed : PathPlaced t (rootOfKind (b .kind)) (spanOfEntry b)) (e : w ≡ attributeRead t s p n heads values b) where
     -- a list, and any other value
     pub of-list : (f : List (List ℕ) → Bool) (r : Bool) → w .kind ≡ 4 → r ≡ f (listAt s (w .place))
-        → r ≡ ifTexts (attributeValue (withAction action (rowView s p n heads values)) (rootOfKind (b .kind)) (pathAt t (spanOfEntry b))) f
+        → r ≡ ifTexts (attributeValue (withAction action (rowView s p n heads values)) (rootOfKind (b .kind)) (unblankedAt t (spanOfEntry b))) f
     of-list f r k held =
         held
         ∙ ap (λ (d : Datum). ifTexts d f) (sym (datum-texts w (stringUnder s action b w) (listAt s (w .place)) k) ∙ attribute-is t s p n heads values stands action b w placed e)
 
     pub of-no-list : (f : List (List ℕ) → Bool) → (w .kind ≡ 4 → ⊥)
-        → false ≡ ifTexts (attributeValue (withAction action (rowView s p n heads values)) (rootOfKind (b .kind)) (pathAt t (spanOfEntry b))) f
+        → false ≡ ifTexts (attributeValue (withAction action (rowView s p n heads values)) (rootOfKind (b .kind)) (unblankedAt t (spanOfEntry b))) f
     of-no-list f k =
         sym (not-texts w (stringUnder s action b w) (listAt s (w .place)) f k)
         ∙ ap (λ (d : Datum). ifTexts d f) (attribute-is t s p n heads values stands action b w placed e)
 
     pub has-is : (r : Bool) → ((x : List ℕ) (l : List (List ℕ)) → r ≡ present (datumOf w x l))
-        → r ≡ present (attributeValue (withAction action (rowView s p n heads values)) (rootOfKind (b .kind)) (pathAt t (spanOfEntry b)))
+        → r ≡ present (attributeValue (withAction action (rowView s p n heads values)) (rootOfKind (b .kind)) (unblankedAt t (spanOfEntry b)))
     has-is r held = held (stringUnder s action b w) (listAt s (w .place)) ∙ ap present (attribute-is t s p n heads values stands action b w placed e)

@@ -12,7 +12,7 @@ use Rattle.views.specs.Meaning.{View, Datum}
 use Rattle.views.specs.Values.{stringAt}
 use Rattle.views.specs.Rows.{rowValue, rowView}
 use Rattle.grammar.specs.Policies.{Comparator.Equal, Literal, Which, Which.All, Which.Any, Tree}
-use Rattle.placing.specs.Placed.{bytesAt, quotedAt, pathAt}
+use Rattle.placing.specs.Placed.{bytesAt, quotedAt, unblankedAt}
 use Rattle.placing.specs.Said.{literalWords, operandWords, treeWords}
 use Rattle.table.specs.declared.Entry.{Entry}
 use Rattle.table.specs.Kinds.{actionKind, stringKind, numberKind, trueKind, likeKind, inListKind}
@@ -33,7 +33,7 @@ ofBag root = leb 1 root && leb root 3
 
 -- an attribute: of the row, or the action's name
 unfoldable pub attributeRead : List ℕ → List ℕ → Sections → ℕ → List ℕ → List ℕ → Entry → Value
-attributeRead t s p n heads values o = cond (ofBag (o .kind)) (rowValue s p n heads values (o .kind) (pathAt t (spanOfEntry o))) aString
+attributeRead t s p n heads values o = cond (ofBag (o .kind)) (rowValue s p n heads values (o .kind) (unblankedAt t (spanOfEntry o))) aString
 
 -- a literal: a string, a number, or `true` or `false`
 unfoldable pub literalRead : List ℕ → Entry → Value
@@ -70,7 +70,7 @@ meant t s p n heads values action o = operandValue (seen s p n heads values acti
 
 -- the value there of an attribute, by the entry of its path
 abbrev pub meantPath : List ℕ → List ℕ → Sections → ℕ → List ℕ → List ℕ → List ℕ → Entry → Datum
-meantPath t s p n heads values action o = attributeValue (seen s p n heads values action) (rootOfKind (o .kind)) (pathAt t (spanOfEntry o))
+meantPath t s p n heads values action o = attributeValue (seen s p n heads values action) (rootOfKind (o .kind)) (unblankedAt t (spanOfEntry o))
 
 -- a condition's verdict there
 abbrev pub judged : List ℕ → List ℕ → Sections → ℕ → List ℕ → List ℕ → List ℕ → Tree → Verdict

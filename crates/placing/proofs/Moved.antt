@@ -8,7 +8,7 @@ use lib.ListN.{length, drop}
 use Rattle.grammar.specs.Policies.{Span, Literal, text, number, truth, Operand, attribute, literal, Tree, constant, compare, like, among, within, contains, has, not, brackets, both, either, choice, Part, any, typed, pinned, Actions, every, oneOf}
 use Rattle.grammar.specs.Moves.{Move, further, movedSpan, movedLiteral, movedOperand, movedTree, movedPart, movedActions, movedWhen}
 use Rattle.tokens.specs.Blanks.{unblanked}
-use Rattle.placing.specs.Placed.{bytesAt, quotedAt, pathAt}
+use Rattle.placing.specs.Placed.{bytesAt, quotedAt, unblankedAt}
 use Rattle.placing.specs.Said.{literalWords, listWords, operandWords, treeWords, partWords, actionWords, conditionWords, wordsOf}
 use Rattle.placing.specs.Moved.{WordsMoved}
 
@@ -31,7 +31,7 @@ module _ (a t : List ℕ) where
       let f : length a + s .start + 1 ≡ length a + (s .start + 1) = omega arith in
       rw (e, f, drop-behind a t (s .start + 1))
 
-  path-moved : (s : Span) → pathAt (a ++ t) (movedSpan m s) ≡ pathAt t s
+  path-moved : (s : Span) → unblankedAt (a ++ t) (movedSpan m s) ≡ unblankedAt t s
   path-moved s = ap unblanked (bytes-moved s)
 
   literal-moved : (l : Literal) → literalWords (a ++ t) (movedLiteral m l) ≡ literalWords t l

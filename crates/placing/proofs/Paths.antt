@@ -24,7 +24,7 @@ use Rattle.grammar.specs.Rules.{spanOf, admitted}
 use Rattle.grammar.specs.Grammar.{sizes, Path, firstPath, longerPath, spanned, first, NextName, APath}
 use Rattle.grammar.specs.Grammar as grammar
 use Rattle.tokens.specs.Blanks.{unblanked}
-use Rattle.placing.specs.Placed.{pathAt, IsName, a-name, one-name, one-more, PathPlaced}
+use Rattle.placing.specs.Placed.{unblankedAt, IsName, a-name, one-name, one-more, PathPlaced}
 use Rattle.placing.proofs.Standing.{between, length-between, name-form, dot-form, Lexed, Running, token}
 
 -- ---- without blanks
@@ -107,13 +107,13 @@ admitted-few Action used x e s = let a = admitted-action used x e in omega (arit
 -- it lies in the text, and its bytes are counted
 pub record Walked (text : List ℕ) (root : Root) (p : Path) : Type 0 where
   pub placed : PathPlaced text root (spanned p)
-  pub counted : p .used ≡ length (pathAt text (spanned p))
+  pub counted : p .used ≡ length (unblankedAt text (spanned p))
 
 module _ {text : List ℕ} {root : Root} where
   first-walked : {at : ℕ} {x : Lexeme} → Lexed text at x → x .kind ≡ kinds.name → admitted root 0 x ≡ true → Walked text root (firstPath x)
   first-walked {at} {x} l k a =
       let name = name-form (l .form (omega arith)) k in
-      let here : pathAt text (spanOf x) ≡ x .bytes = rw (← l .bytes) (unblanked-name name) in
+      let here : unblankedAt text (spanOf x) ≡ x .bytes = rw (← l .bytes) (unblanked-name name) in
       record {
         placed = record {
           lies = record { some = l .some; high = l .high };
@@ -140,10 +140,10 @@ module _ {text : List ℕ} {root : Root} where
         dot,
         unblanked-name name,
       ) in
-      let here : pathAt text (span (p .start) (x .end)) ≡ pathAt text (spanned p) ++ kinds.dot ∷ x .bytes =
+      let here : unblankedAt text (span (p .start) (x .end)) ≡ unblankedAt text (spanned p) ++ kinds.dot ∷ x .bytes =
       rw (between-joins text (p .start) (p .end) (x .end) (omega arith) (omega arith), unblanked-append, two) in
-      let size : length (pathAt text (span (p .start) (x .end))) ≡ p .used + 1 + size x =
-      omega (arith, ap length here, length-append (pathAt text (spanned p)) (kinds.dot ∷ x .bytes), size-is l, w .counted) in
+      let size : length (unblankedAt text (span (p .start) (x .end))) ≡ p .used + 1 + size x =
+      omega (arith, ap length here, length-append (unblankedAt text (spanned p)) (kinds.dot ∷ x .bytes), size-is l, w .counted) in
       record {
         placed = record {
           lies = record { some = omega arith; high = l .high };

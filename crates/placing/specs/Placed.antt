@@ -28,8 +28,8 @@ abbrev pub quotedAt : List ℕ → Span → List ℕ
 quotedAt t s = take (s .end - s .start - 2) (drop (s .start + 1) t)
 
 -- the bytes of the path at a span: blanks may stand about its dots
-abbrev pub pathAt : List ℕ → Span → List ℕ
-pathAt t s = unblanked (bytesAt t s)
+abbrev pub unblankedAt : List ℕ → Span → List ℕ
+unblankedAt t s = unblanked (bytesAt t s)
 
 -- a name: a letter, then word bytes, and no reserved word
 pub data IsName : List ℕ → Type 0 where
@@ -64,9 +64,9 @@ pub record NumberPlaced (t : List ℕ) (s : Span) : Type 0 where
 -- a path after a root: at most 64 bytes with its dots, and after action only `name`
 pub record PathPlaced (t : List ℕ) (root : Root) (s : Span) : Type 0 where
   pub lies : Lies t s
-  pub path : IsPath (pathAt t s)
-  pub few : length (pathAt t s) ≤ mostPathBytes
-  pub action : root ≡ Action → pathAt t s ≡ bytes "name"
+  pub path : IsPath (unblankedAt t s)
+  pub few : length (unblankedAt t s) ≤ mostPathBytes
+  pub action : root ≡ Action → unblankedAt t s ≡ bytes "name"
 
 -- ---- literals, operands, lists
 

@@ -5,7 +5,7 @@ use mathlib.Core.Bool.{Bool, true, false, cond}
 use mathlib.Core.Path.{_≡_, refl, _∙_, ap}
 use lib.Dec.{eqb}
 use Rattle.bags.specs.Reading.{byte}
-use Rattle.bags.specs.Sections.{entryPath, kindAt, entryEnd, sectionsOf}
+use Rattle.bags.specs.Sections.{pathAt, kindAt, entryEnd, sectionsOf}
 use Rattle.bags.specs.Data.{Datum}
 use Rattle.bags.specs.Forms.{Contents, BagBytes}
 use Rattle.bags.specs.declared.After.the-variants.{At}
@@ -25,7 +25,7 @@ module _ (s : List ℕ) where
   entry-means : (at e : ℕ) → entryEnd s at ≡ At e → entryMeant s (bagEntryAt s at e) ≡ entryHere s at
   entry-means at e h =
       let w = entry-at s at e h in
-      ap (λ (d : Datum). record { path = entryPath s at; value = d }) (reads-it s (kindAt s at) (record { inside = w .named; whole = λ n. (e, w .valued) }))
+      ap (λ (d : Datum). record { path = pathAt s at; value = d }) (reads-it s (kindAt s at) (record { inside = w .named; whole = λ n. (e, w .valued) }))
 
   section-means : (b : ℕ) → map (entryMeant s) (sectionAt s b) ≡ sectionHere s b
   unfolding sectionAt sectionHere
