@@ -26,7 +26,12 @@ pub record Case : Type 0 where
 
 -- the first case: its parts in this order
 unfoldable pub caseOf : List ℕ → Case
-caseOf s = record { subject = partOf s; action = partOf (behindPart s); resource = partOf (behindPart (behindPart s)); bag = partOf (behindPart (behindPart (behindPart s))) }
+caseOf s = record {
+  subject = partOf s;
+  action = partOf (behindPart s);
+  resource = partOf (behindPart (behindPart s));
+  bag = partOf (behindPart (behindPart (behindPart s)));
+}
 
 -- the bytes behind it
 unfoldable pub pastCase : List ℕ → List ℕ
