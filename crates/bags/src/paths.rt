@@ -2,7 +2,7 @@
 ghost use mathlib.Core.Path.{_≡_};
 ghost use Rattle.tokens.specs.Table.{classTable};
 ghost use mathlib.Core.Bool.{true};
-ghost use Rattle.tokens.specs.Runs.{is};
+ghost use Rattle.tokens.specs.Runs.{isOf};
 ghost use Rattle.tokens.specs.declared.classes.Sort.the-variants.{WordBytes};
 ghost use Rattle.bags.specs.Paths.{every, isName, isPath};
 use tokens::classes::Sort;
@@ -13,7 +13,7 @@ use tokens::words::is_reserved;
 // Whether a run of word bytes is a name.
 fn is_name(classes: &[u8; 256], run: &[u8]) -> bool
     requires { ⌜ now classes ≡ classTable ⌝ }
-    requires { ⌜ every (is WordBytes) (now run) ≡ true ⌝ }
+    requires { ⌜ every (isOf WordBytes) (now run) ≡ true ⌝ }
     ensures { λ r. ⌜ r ≡ isName (now (run .entry)) ⌝ }
 {
     if run.len() == 0 {

@@ -4,7 +4,7 @@ ghost use mathlib.Core.Bool.{true};
 ghost use Prim.Native.Nat.{ℕ, _+_, _<_, _≤_};
 ghost use lib.ListN.{length};
 ghost use Rattle.slices.specs.Same.{same};
-ghost use Rattle.tokens.specs.Runs.{is};
+ghost use Rattle.tokens.specs.Runs.{isOf};
 ghost use Rattle.tokens.specs.declared.classes.Sort.the-variants.{Blanks};
 ghost use Rattle.slices.specs.Parts.{part};
 ghost use Rattle.bags.specs.Reading.{byte, many, each};
@@ -13,7 +13,7 @@ ghost use Rattle.bags.specs.Sections.{entryEnd, sectionEnd, Sectioned};
 ghost use Rattle.bags.specs.declared.After.the-variants.{At};
 ghost use Rattle.tokens.specs.Blanks.{unblanked};
 ghost use Rattle.lookups.specs.Values.{absent};
-ghost use Rattle.lookups.specs.Lookups.{lookIn, entryAt, sectionAt, baseOf};
+ghost use Rattle.lookups.specs.Lookups.{lookIn, bagEntryAt, sectionAt, baseOf};
 use crate::bytes::same_bytes;
 use crate::steps::value_next;
 use crate::values::Value;
@@ -22,7 +22,7 @@ use crate::values::value_from;
 use bags::sections::Sections;
 
 fn is_blank(c: u8) -> bool
-    ensures { λ r. ⌜ r ≡ is Blanks c ⌝ }
+    ensures { λ r. ⌜ r ≡ isOf Blanks c ⌝ }
 {
     (c == b' ') | (c == b'\t') | (c == b'\n') | (c == b'\r')
 }
@@ -88,7 +88,7 @@ fn is_named(s: &[u8], at: usize, n: usize, lead: u8, path: &[u8]) -> bool
 // Among the `n` entries from `at`, the value of the one with this path.
 fn find_in(n: usize, path: &[u8], s: &[u8], at: usize) -> Value
     requires { ⌜ ((e : ℕ) × (many n (entryEnd (now s)) at ≡ At e)) ⌝ }
-    ensures { λ r. ⌜ r ≡ lookIn absent (each n (entryEnd (now (s .entry))) (entryAt (now (s .entry))) at) (unblanked (now (path .entry))) ⌝ }
+    ensures { λ r. ⌜ r ≡ lookIn absent (each n (entryEnd (now (s .entry))) (bagEntryAt (now (s .entry))) at) (unblanked (now (path .entry))) ⌝ }
 {
     let lead = lead_of(path);
     let mut left = n;

@@ -1,7 +1,7 @@
 -- `lookups::finding::find_in` meets its contract: the entry with the path is among those left exactly when it is among all. Assumes nothing.
 use borrow.Author.Needs.{needs}
 use Rattle.lookups.specs.Values.{absent}
-use Rattle.lookups.specs.Lookups.{lookIn, entryAt}
+use Rattle.lookups.specs.Lookups.{lookIn, bagEntryAt}
 use Rattle.tokens.specs.Blanks.{unblanked}
 use Rattle.lookups.proofs.FindLaws.{look-done, look-here, look-on}
 use Rattle.lookups.proofs.BagLaws.{entry-valued}
@@ -17,7 +17,7 @@ use Rattle.lookups.proofs.finding.find_in.Tie as tie
 abbrev Inv-loop : tie.InvT-loop
 Inv-loop n path s at lead left₀ next₀ left next =
     (many left (entryEnd s) next ≡ many n (entryEnd s) at)
-    × (lookIn absent (each left (entryEnd s) (entryAt s) next) (unblanked path) ≡ lookIn absent (each n (entryEnd s) (entryAt s) at) (unblanked path))
+    × (lookIn absent (each left (entryEnd s) (bagEntryAt s) next) (unblanked path) ≡ lookIn absent (each n (entryEnd s) (bagEntryAt s) at) (unblanked path))
 
 abbrev μ-loop : tie.MeasureT-loop
 μ-loop n path s at lead left₀ next₀ left next = left
@@ -52,7 +52,7 @@ value-from-requires c κs = entry-valued _ _ _ (one (c .before .before .before) 
 returns : tie.Need-returns Inv-loop μ-loop
 returns c =
     c .value-from .ensures
-    ∙ look-here absent _ (entryAt (c .before .before .before .before .before .before .before .before .before .args .s .now)) _ _ _ (omega arith) _ (one (c .before .before .before .before) .ends) (sym (c .before .before .is-named .ensures) ∙ c .before .if1 .taken)
+    ∙ look-here absent _ (bagEntryAt (c .before .before .before .before .before .before .before .before .before .args .s .now)) _ _ _ (omega arith) _ (one (c .before .before .before .before) .ends) (sym (c .before .before .is-named .ensures) ∙ c .before .if1 .taken)
     ∙ c .before .before .before .before .before .loop .inv .1
 
 shared-slice-read-value-next : tie.Need-shared-slice-read-value-next Inv-loop μ-loop
@@ -70,11 +70,11 @@ loop-again c =
     let is = same-end (whole (c .before .before .before .before .before) .valued) (c .value-next .ensures) in
     let ends = rw is at (f .ends) in (
       sym (many-more _ _ _ _ (omega arith) ends) ∙ c .before .before .before .before .before .before .loop .inv .0,
-      look-on absent _ (entryAt (c .before .before .before .before .before .before .before .before .before .before .args .s .now)) _ _ _ (omega arith) _ ends (sym (c .before .before .before .is-named .ensures) ∙ c .before .before .if1 .left) ∙ c .before .before .before .before .before .before .loop .inv .1,
+      look-on absent _ (bagEntryAt (c .before .before .before .before .before .before .before .before .before .before .args .s .now)) _ _ _ (omega arith) _ ends (sym (c .before .before .before .is-named .ensures) ∙ c .before .before .if1 .left) ∙ c .before .before .before .before .before .before .loop .inv .1,
     )
 
 returns-2 : tie.Need-returns-2 Inv-loop μ-loop
-returns-2 c = c .absent-value .ensures ∙ look-done absent _ (entryAt (c .before .before .before .before .before .before .args .s .now)) _ _ _ (omega arith) ∙ c .before .before .loop .inv .1
+returns-2 c = c .absent-value .ensures ∙ look-done absent _ (bagEntryAt (c .before .before .before .before .before .before .args .s .now)) _ _ _ (omega arith) ∙ c .before .before .loop .inv .1
 
 pub find-in-spec : {M : Type 1} → statement M
 find-in-spec =
