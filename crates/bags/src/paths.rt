@@ -7,10 +7,8 @@ ghost use Rattle.tokens.specs.declared.classes.Sort.the-variants.{WordBytes};
 ghost use Rattle.bags.specs.Paths.{every, isName, isPath};
 use tokens::classes::Sort;
 use tokens::classes::is_of;
-use tokens::kinds;
 use tokens::runs::run_end;
-use tokens::sizes::MOST_PATH_BYTES;
-use tokens::words::word_kind;
+use tokens::words::is_reserved;
 
 // Whether a run of word bytes is a name.
 fn is_name(classes: &[u8; 256], run: &[u8]) -> bool
@@ -21,7 +19,7 @@ fn is_name(classes: &[u8; 256], run: &[u8]) -> bool
     if run.len() == 0 {
         return false;
     }
-    is_of(classes, Sort::Letters, run[0]) & (word_kind(run) == kinds::NAME)
+    is_of(classes, Sort::Letters, run[0]) & !is_reserved(run)
 }
 
 // Whether bytes are a path.

@@ -7,7 +7,6 @@ use borrow.Author.Tests.{ne-eqb, eqb-true, eqb-false}
 use native.Mathlib.Omega.{arith}
 use lib.Dec.{T, eqb}
 use lib.Ieee.Scale.{finite}
-use lib.ListN.{length}
 use Rattle.slices.specs.Same.{same}
 use Rattle.slices.proofs.Equal.{same-decides}
 use Rattle.tokens.specs.Bytes.{classOf}
@@ -24,7 +23,7 @@ use Rattle.bags.specs.declared.sections.Sections.{Sections}
 use Rattle.bags.specs.declared.sections.Divided.{Divided}
 use Rattle.bags.specs.declared.sections.Divided.the-variants.{In, Broken}
 use Rattle.bags.proofs.ReadLaws.{First, first}
-use Rattle.bags.proofs.PathLaws.{pathByte, path-bytes, path-sized}
+use Rattle.bags.proofs.PathLaws.{pathByte, path-bytes}
 use Rattle.bags.proofs.SectionLaws.{entry-at, section-at, sections-at}
 use Rattle.tokens.specs.Blanks.{unblanked}
 use Rattle.lookups.specs.Values.{nought, unit, absent, valueNumber, valueAt, Valued, ValueWhole}
@@ -87,7 +86,7 @@ unfolding valueNumber
 number-finite kind s at e h = go (eqb kind 2) (eqb kind 3 && eqb (byte s at) 1) refl
   where
     go : (a b : Bool) → eqb kind 2 ≡ a → T (finite (cond a (numberAt s at) (cond b unit nought)))
-    go true b q = told (finite (numberAt s at)) (as-number kind s at e h (eqb-true kind 2 q) .is)
+    go true b q = told (finite (numberAt s at)) (as-number kind s at e h (eqb-true kind 2 q) .isOf)
     go false true q = unit-finite
     go false false q = nought-finite
 
@@ -142,14 +141,6 @@ module _ (s path : List ℕ) (P : Value → Type 0) (none : P absent)
       go : (d : Divided) → sectionsOf s ≡ d → P (lookIn absent (bagOf s root) path)
       go (In p) q = rw (bag-is-base s p root q) (base-has p root (sections-at s p q))
       go Broken q = simp q none
-
--- no entry's path is empty
-pub no-empty-path : (s path : List ℕ) (n at e : ℕ) → length path ≡ 0 → many n (entryEnd s) at ≡ At e → absent ≡ lookIn absent (each n (entryEnd s) (bagEntryAt s) at) (unblanked path)
-unfolding unblanked
-no-empty-path s [] n at e h q =
-    sym (entries-have s [] (λ v. v ≡ absent) refl
-    (λ at e h q. let l = path-sized (pathAt s at) (entry-at s at e h .path) .0 in let i = ap length (same-decides (pathAt s at) [] .sound q) in absurd (omega arith)) n at e q)
-no-empty-path s (b ∷ path) n at e h q = absurd (omega arith)
 
 module _ (s path : List ℕ) where
   -- what is found is whole

@@ -94,13 +94,27 @@ same-long p path c h = go (eqb (length (unblanked path)) (length path)) refl
         other-answer : (p ≡ path → ⊥) → same p path ≡ false
         other-answer f = one-answer (same p path) false (same-decides p path) (no-to f)
 
--- paths with different first bytes differ, where that of the other is no blank
-pub other-lead : (s : List ℕ) (at n lead : ℕ) (path : List ℕ) → 0 < n → at + n ≤ length s → 0 < length path → lead ≡ byte path 0 → isOf Blanks lead ≡ false → (byte s at ≡ lead → ⊥)
-    → false ≡ same (part s at n) (unblanked path)
-unfolding unblanked same
-other-lead s at n lead [] some fits h e b d = absurd (omega arith)
-other-lead s at n lead (x ∷ path) some fits h e b d =
-    let c : isOf Blanks x ≡ false = rw e at b in let k : byte s at ≡ x → ⊥ = rw e at d in rw (part-cons s at n some fits) (simp (c, ne-eqb _ _ k))
+-- ---- the first byte of a path but its blanks
+
+module _ (p : List ℕ) (i : ℕ) where
+  pub lead-end : length p ≤ i → 0 ≡ byte (unblanked (drop i p)) 0
+  unfolding unblanked
+  lead-end h = rw (drop-of-length-le p h)
+
+  module _ (h : i < length p) where
+    pub lead-blank : isOf Blanks (byte p i) ≡ true → byte (unblanked (drop (i + 1) p)) 0 ≡ byte (unblanked (drop i p)) 0
+    unfolding unblanked
+    lead-blank b = rw (add-one, drop-cons p i 0 h) (simp b)
+
+    pub lead-here : isOf Blanks (byte p i) ≡ false → byte p i ≡ byte (unblanked (drop i p)) 0
+    unfolding unblanked
+    lead-here b = rw (drop-cons p i 0 h) (simp b)
+
+-- a part with another first byte than some bytes is not these bytes
+pub other-lead : (s : List ℕ) (at n lead : ℕ) (l : List ℕ) → 0 < n → at + n ≤ length s → lead ≡ byte l 0 → (byte s at ≡ lead → ⊥) → false ≡ same (part s at n) l
+unfolding same
+other-lead s at n lead [] some fits e d = rw (part-cons s at n some fits) refl
+other-lead s at n lead (x ∷ l) some fits e d = let k : byte s at ≡ x → ⊥ = rw e at d in rw (part-cons s at n some fits) (simp (ne-eqb _ _ k))
 
 -- ---- the entry with a path
 
