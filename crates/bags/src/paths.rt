@@ -8,6 +8,7 @@ ghost use Rattle.bags.specs.Paths.{every, isName, isPath};
 use tokens::classes::Sort;
 use tokens::classes::is_of;
 use tokens::runs::run_end;
+use tokens::sizes::MOST_PATH_BYTES;
 use tokens::words::is_reserved;
 
 // Whether a run of word bytes is a name.

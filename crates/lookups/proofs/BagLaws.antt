@@ -86,7 +86,7 @@ unfolding valueNumber
 number-finite kind s at e h = go (eqb kind 2) (eqb kind 3 && eqb (byte s at) 1) refl
   where
     go : (a b : Bool) → eqb kind 2 ≡ a → T (finite (cond a (numberAt s at) (cond b unit nought)))
-    go true b q = told (finite (numberAt s at)) (as-number kind s at e h (eqb-true kind 2 q) .isOf)
+    go true b q = told (finite (numberAt s at)) (as-number kind s at e h (eqb-true kind 2 q) .is)
     go false true q = unit-finite
     go false false q = nought-finite
 
