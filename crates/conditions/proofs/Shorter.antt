@@ -8,6 +8,7 @@ use lib.ListN.{length}
 use borrow.Author.Tests.{not-true, not-false}
 use Rattle.reading.specs.Reader as reader
 use Rattle.table.specs.declared.Entry.{Entry}
+use Rattle.tokens.specs.Tokens.{token}
 use Rattle.parts.specs.Answers.{refusal, AnswerIs, freeOf}
 use Rattle.parts.specs.declared.answers.Answer.{Answer}
 use Rattle.parts.specs.declared.answers.Answer.the-variants.{Read, Refused}

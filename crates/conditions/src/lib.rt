@@ -8,7 +8,7 @@ ghost use mathlib.Core.List.{[]};
 ghost use Prim.Native.Nat.{_+_, _-_, _<_, _≤_};
 ghost use lib.ListN.{length};
 ghost use Rattle.tokens.specs.Table.{classTable};
-ghost use Rattle.tokens.specs.Tokens.{tokenAt, Reads};
+ghost use Rattle.tokens.specs.Tokens.{token, tokenAt, Reads};
 ghost use Rattle.tokens.specs.Sizes.{mostTextBytes};
 ghost use Rattle.reading.specs.Lexemes.{lexeme, stream};
 ghost use Rattle.grammar.specs.Parser.{noLevel, read-condition, read-conjunction, read-disjunction, read-negated, read-bracketed, read-conditional};
