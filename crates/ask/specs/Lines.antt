@@ -42,8 +42,8 @@ caseLines text table [] = []
 caseLines text table (c ∷ cs) = caseLine text table c ++ caseLines text table cs
 
 -- the lines of the cases from a place of cases.bin on
-abbrev pub linesFrom : List ℕ → List ℕ → List ℕ → ℕ → List ℕ
-linesFrom text table s at = caseLines text table (casesOf (drop at s))
+abbrev pub caseLinesFrom : List ℕ → List ℕ → List ℕ → ℕ → List ℕ
+caseLinesFrom text table s at = caseLines text table (casesOf (drop at s))
 
 -- how many cases there are from a place on
 abbrev pub casesFrom : List ℕ → ℕ → ℕ
@@ -59,7 +59,7 @@ pub record CaseAnswered (text table s : List ℕ) (at : ℕ) (old : List ℕ) (f
 
 -- so many cases are answered: their lines, and those of the cases from the next on, are the lines of all from `at` on
 pub record CasesAnswered (text table s : List ℕ) (at : ℕ) (new : List ℕ) (answered : ℕ) (step : Step) : Type 0 where
-  pub lines : linesFrom text table s at ≡ take (step .filled) new ++ linesFrom text table s (step .next)
+  pub lines : caseLinesFrom text table s at ≡ take (step .filled) new ++ caseLinesFrom text table s (step .next)
   pub counted : casesFrom s at ≡ answered + casesFrom s (step .next)
   pub high : step .next ≤ length s
   pub inside : step .filled ≤ length new

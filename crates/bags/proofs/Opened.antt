@@ -2,12 +2,12 @@
 use Rattle.tokens.proofs.Opened.{tokens-opened}
 use Rattle.numbers.proofs.Opened.{numbers-opened}
 use Rattle.slices.specs.Parts.{part}
-use Rattle.slices.specs.Order.{before}
+use Rattle.slices.specs.Order.{sortsBefore}
 use Rattle.bags.specs.Reading.{many, each}
-use Rattle.bags.specs.Paths.{isPath, pieces, every, isName}
+use Rattle.bags.specs.Paths.{isPath, dotPieces, every, isName}
 use Rattle.bags.specs.Values.{valueEnd, stringEnd, numberEnd, flagEnd, listEnd}
 use Rattle.bags.specs.Sections.{isBag, sectionsOf, sectionEnd, entriesEnd, ascending, ascends, entryEnd}
 
 unfoldable pub bags-opened : Unit {0}
-unfolding tokens-opened numbers-opened part before many each isPath pieces every isName valueEnd stringEnd numberEnd flagEnd listEnd isBag sectionsOf sectionEnd entriesEnd ascending ascends entryEnd
+unfolding tokens-opened numbers-opened part sortsBefore many each isPath dotPieces every isName valueEnd stringEnd numberEnd flagEnd listEnd isBag sectionsOf sectionEnd entriesEnd ascending ascends entryEnd
 bags-opened = tt

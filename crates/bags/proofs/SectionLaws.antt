@@ -8,7 +8,7 @@ use native.Mathlib.Omega.{arith}
 use lib.Dec.{ltb, leb}
 use lib.ListN.{length, take, drop}
 use Rattle.slices.specs.Decides.{Decides}
-use Rattle.slices.specs.Order.{Before, before}
+use Rattle.slices.specs.Order.{SortsBefore, sortsBefore}
 use Rattle.slices.proofs.Order.{before-is}
 use Rattle.slices.specs.Parts.{part}
 use Rattle.bags.specs.Reading.{byte, only, many}
@@ -59,8 +59,8 @@ entriesAfter last n s at = only (ascends last (pathsOf n s at)) (many n (entryEn
 
 -- every path stands after the empty one
 module _ (s : List ℕ) where
-  before-none : (p : List ℕ) → 0 < length p → before [] p ≡ true
-  unfolding before
+  before-none : (p : List ℕ) → 0 < length p → sortsBefore [] p ≡ true
+  unfolding sortsBefore
   before-none [] h = absurd (omega arith)
   before-none (b ∷ rest) h = refl
 
@@ -73,7 +73,7 @@ module _ (s : List ℕ) where
           → only (ascends [] (pathsOf (suc n) s at)) (many (suc n) (entryEnd s) at) ≡ only (ascending (pathsOf (suc n) s at)) (many (suc n) (entryEnd s) at)
       go Bad q = rw (each-stop (entryEnd s) (λ at e. pathAt s at) (suc n) at q)
       go (At e) q =
-          let one : before [] (pathAt s at) ≡ true = before-none (pathAt s at) (path-sized (pathAt s at) (entry-at s at e q .path) .0) in
+          let one : sortsBefore [] (pathAt s at) ≡ true = before-none (pathAt s at) (path-sized (pathAt s at) (entry-at s at e q .path) .0) in
           rw (each-more (entryEnd s) (λ at e. pathAt s at) (suc n) at e (omega arith) q) (simp one)
 
 module _ (last : List ℕ) (n : ℕ) (s : List ℕ) (at : ℕ) where
@@ -87,18 +87,18 @@ module _ (last : List ℕ) (n : ℕ) (s : List ℕ) (at : ℕ) where
     entries-stop e = simp (many-stop (entryEnd s) n at h e) (only-bad (ascends last (pathsOf n s at)))
 
     module _ (e : ℕ) (q : entryEnd s at ≡ At e) where
-      pub entries-back : before last (pathAt s at) ≡ false → entriesAfter last n s at ≡ Bad
+      pub entries-back : sortsBefore last (pathAt s at) ≡ false → entriesAfter last n s at ≡ Bad
       unfolding entriesAfter ascends
       entries-back b = simp (each-more (entryEnd s) (λ at e. pathAt s at) n at e h q, b)
 
-      pub entries-more : before last (pathAt s at) ≡ true → entriesAfter last n s at ≡ entriesAfter (pathAt s at) (n - 1) s e
+      pub entries-more : sortsBefore last (pathAt s at) ≡ true → entriesAfter last n s at ≡ entriesAfter (pathAt s at) (n - 1) s e
       unfolding entriesAfter ascends
       entries-more b = simp (each-more (entryEnd s) (λ at e. pathAt s at) n at e h q, many-more (entryEnd s) n at e h q, b)
 
 -- the same, from what the comparison of the paths decides
 module _ (last : List ℕ) (n : ℕ) (s : List ℕ) (at e : ℕ) (r : Bool) (h : 0 < n) (q : entryEnd s at ≡ At e)
-    (d : Decides (Before last (take (kindAt s at - (at + 1)) (drop (at + 1) s))) r) where
-  ordered : before last (pathAt s at) ≡ r
+    (d : Decides (SortsBefore last (take (kindAt s at - (at + 1)) (drop (at + 1) s))) r) where
+  ordered : sortsBefore last (pathAt s at) ≡ r
   ordered = sym (before-is last (pathAt s at) (rw (part-to s (at + 1) (byte s at)) at d))
 
   pub entries-on : r ≡ true → entriesAfter (part s (at + 1) (kindAt s at - (at + 1))) (n - 1) s e ≡ entriesAfter last n s at

@@ -6,10 +6,12 @@ use mathlib.Core.Path.{_≡_}
 use mathlib.Core.Bool.{true, false}
 use lib.Ieee.Scale.{finite}
 use lib.ListN.{length}
+use Rattle.tokens.specs.Sizes.{mostStringBytes}
 use Rattle.numbers.specs.Bits.{numberAt}
 use Rattle.bags.specs.Paths.{isPath}
 use Rattle.bags.specs.Sections.{Ascending}
 use Rattle.bags.specs.Data.{Datum, text, number, flag, texts, Entry}
+use Rattle.bags.specs.Sizes.{mostBagBytes, mostEntries, mostStrings}
 
 -- things one after the other, where R says which bytes say which thing
 pub data InTurn {A : Type 0} (R : List ℕ → A → Type 0) : List ℕ → List A → Type 0 where
@@ -18,7 +20,7 @@ pub data InTurn {A : Type 0} (R : List ℕ → A → Type 0) : List ℕ → List
 
 -- a string: a length byte of 0 to 127, and any bytes
 pub data StringBytes : List ℕ → List ℕ → Type 0 where
-  a-string : {x : List ℕ} → length x ≤ 127 → StringBytes (length x ∷ x) x
+  a-string : {x : List ℕ} → length x ≤ mostStringBytes → StringBytes (length x ∷ x) x
 
 -- a kind byte and a value: 1 string; 2 number, 8 bytes that are a finite binary64; 3 flag, a byte 0 or 1; 4 list, a count byte of 0 to 16 and strings
 pub data ValueBytes : List ℕ → Datum → Type 0 where
@@ -26,7 +28,7 @@ pub data ValueBytes : List ℕ → Datum → Type 0 where
   eight : {b : List ℕ} → length b ≡ 8 → finite (numberAt b 0) ≡ true → ValueBytes (2 ∷ b) (number (numberAt b 0))
   off : ValueBytes (3 ∷ 0 ∷ []) (flag false)
   on : ValueBytes (3 ∷ 1 ∷ []) (flag true)
-  list : {b : List ℕ} {xs : List (List ℕ)} → length xs ≤ 16 → InTurn StringBytes b xs → ValueBytes (4 ∷ length xs ∷ b) (texts xs)
+  list : {b : List ℕ} {xs : List (List ℕ)} → length xs ≤ mostStrings → InTurn StringBytes b xs → ValueBytes (4 ∷ length xs ∷ b) (texts xs)
 
 -- an entry: a path length byte, the path (names joined by dots, 64 bytes at most), and a kind byte with its value
 pub data EntryBytes : List ℕ → Entry Datum → Type 0 where
@@ -38,7 +40,7 @@ pathsIn = map (λ e. e .path)
 
 -- a section: a count byte of 0 to 32, and that many entries, which ascend strictly by path bytes
 pub data SectionBytes : List ℕ → List (Entry Datum) → Type 0 where
-  section : {b : List ℕ} {es : List (Entry Datum)} → length es ≤ 32 → Ascending (pathsIn es) → InTurn EntryBytes b es → SectionBytes (length es ∷ b) es
+  section : {b : List ℕ} {es : List (Entry Datum)} → length es ≤ mostEntries → Ascending (pathsIn es) → InTurn EntryBytes b es → SectionBytes (length es ∷ b) es
 
 -- what a bag holds: the entries of its sections principal, resource and env
 pub record Contents : Type 0 where
@@ -53,7 +55,7 @@ pub data SectionsBytes : List ℕ → Contents → Type 0 where
 
 -- a bag: the three sections, with nothing after them, 4,096 bytes at most
 pub record BagBytes (s : List ℕ) (b : Contents) : Type 0 where
-  pub most : length s ≤ 4096
+  pub most : length s ≤ mostBagBytes
   pub all : SectionsBytes s b
 
 -- bytes of a bag

@@ -1,3 +1,4 @@
+pub mod Sizes
 pub mod Reading
 pub mod Paths
 pub mod Values

@@ -24,9 +24,9 @@ endsAt (At e) n = eqb e n
 endsAt Bad n = false
 
 -- the place where it ended, and 0 where it is Bad
-abbrev pub place : After → ℕ
-place (At e) = e
-place Bad = 0
+abbrev pub endPlace : After → ℕ
+endPlace (At e) = e
+endPlace Bad = 0
 
 -- n things, one after the other
 unfoldable pub many : ℕ → (ℕ → After) → ℕ → After

@@ -5,7 +5,7 @@ use mathlib.Core.Path.{_≡_}
 use mathlib.Core.Bool.{Bool, true, false, _&&_}
 use lib.Dec.{ltb, leb, eqb}
 use lib.ListN.{length}
-use Rattle.slices.specs.Order.{Before, before}
+use Rattle.slices.specs.Order.{SortsBefore, sortsBefore}
 use Rattle.slices.specs.Parts.{part}
 use Rattle.bags.specs.Reading.{byte, only, many, each}
 use Rattle.bags.specs.Paths.{isPath}
@@ -15,6 +15,7 @@ use Rattle.bags.specs.declared.After.the-variants.{At, Bad}
 use Rattle.bags.specs.declared.sections.Sections.{Sections}
 use Rattle.bags.specs.declared.sections.Divided.{Divided}
 use Rattle.bags.specs.declared.sections.Divided.the-variants.{In, Broken}
+use Rattle.bags.specs.Sizes.{mostBagBytes, mostEntries}
 
 -- of the entry at a place: its path, after a length byte, and where its kind byte stands
 abbrev pub pathAt : List ℕ → ℕ → List ℕ
@@ -30,7 +31,7 @@ entryEnd s at = only (ltb (kindAt s at) (length s) && isPath (pathAt s at)) (val
 -- the paths that follow p: each stands after the one before it, the first after p
 unfoldable pub ascends : List ℕ → List (List ℕ) → Bool
 ascends p [] = true
-ascends p (q ∷ qs) = before p q && ascends q qs
+ascends p (q ∷ qs) = sortsBefore p q && ascends q qs
 
 -- each path stands before the next
 unfoldable pub ascending : List (List ℕ) → Bool
@@ -41,7 +42,7 @@ ascending (p ∷ ps) = ascends p ps
 pub data Ascending : List (List ℕ) → Type 0 where
   none : Ascending []
   one : {p : List ℕ} → Ascending (p ∷ [])
-  more : {p q : List ℕ} {ps : List (List ℕ)} → Before p q → Ascending (q ∷ ps) → Ascending (p ∷ q ∷ ps)
+  more : {p q : List ℕ} {ps : List (List ℕ)} → SortsBefore p q → Ascending (q ∷ ps) → Ascending (p ∷ q ∷ ps)
 
 -- the paths of n entries
 abbrev pub pathsOf : ℕ → List ℕ → ℕ → List (List ℕ)
@@ -53,7 +54,7 @@ entriesEnd n s at = only (ascending (pathsOf n s at)) (many n (entryEnd s) at)
 
 -- a section: a count byte of 0 to 32, and that many entries
 unfoldable pub sectionEnd : List ℕ → ℕ → After
-sectionEnd s at = only (ltb at (length s) && leb (byte s at) 32) (entriesEnd (byte s at) s (at + 1))
+sectionEnd s at = only (ltb at (length s) && leb (byte s at) mostEntries) (entriesEnd (byte s at) s (at + 1))
 
 -- go on where a section ended
 abbrev pub afterwards : After → (ℕ → Divided) → Divided
@@ -85,4 +86,4 @@ fill Broken n = false
 
 -- a bag: the three sections, with nothing after them, 4,096 bytes at most
 unfoldable pub isBag : List ℕ → Bool
-isBag s = leb (length s) 4096 && fill (sectionsOf s) (length s)
+isBag s = leb (length s) mostBagBytes && fill (sectionsOf s) (length s)

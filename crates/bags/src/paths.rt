@@ -2,25 +2,25 @@
 ghost use mathlib.Core.Path.{_≡_};
 ghost use Rattle.tokens.specs.Table.{classTable};
 ghost use mathlib.Core.Bool.{true};
-ghost use Rattle.tokens.specs.Runs.{is};
+ghost use Rattle.tokens.specs.Runs.{isOf};
 ghost use Rattle.tokens.specs.declared.classes.Sort.the-variants.{WordBytes};
 ghost use Rattle.bags.specs.Paths.{every, isName, isPath};
 use tokens::classes::Sort;
 use tokens::classes::is_of;
-use tokens::kinds;
 use tokens::runs::run_end;
-use tokens::words::word_kind;
+use tokens::sizes::MOST_PATH_BYTES;
+use tokens::words::is_reserved;
 
 // Whether a run of word bytes is a name.
 fn is_name(classes: &[u8; 256], run: &[u8]) -> bool
     requires { ⌜ now classes ≡ classTable ⌝ }
-    requires { ⌜ every (is WordBytes) (now run) ≡ true ⌝ }
+    requires { ⌜ every (isOf WordBytes) (now run) ≡ true ⌝ }
     ensures { λ r. ⌜ r ≡ isName (now (run .entry)) ⌝ }
 {
     if run.len() == 0 {
         return false;
     }
-    is_of(classes, Sort::Letters, run[0]) & (word_kind(run) == kinds::NAME)
+    is_of(classes, Sort::Letters, run[0]) & !is_reserved(run)
 }
 
 // Whether bytes are a path.
@@ -28,7 +28,7 @@ pub fn is_path(classes: &[u8; 256], path: &[u8]) -> bool
     requires { ⌜ now classes ≡ classTable ⌝ }
     ensures { λ r. ⌜ r ≡ isPath (now (path .entry)) ⌝ }
 {
-    if 64 < path.len() {
+    if MOST_PATH_BYTES < path.len() {
         return false;
     }
     let mut at = 0;

@@ -6,6 +6,8 @@ ghost use Rattle.bags.specs.Sections.{entryEnd, entriesEnd, sectionEnd, 
 ghost use Rattle.bags.specs.declared.sections.Divided.the-variants.{Broken};
 use crate::After;
 use crate::paths::is_path;
+use crate::sizes::MOST_BAG_BYTES;
+use crate::sizes::MOST_ENTRIES;
 use crate::values::value_end;
 use slices::before;
 
@@ -79,7 +81,7 @@ pub fn section_end(classes: &[u8; 256], s: &[u8], at: usize) -> After
         return After::Bad;
     }
     let n = s[at] as usize;
-    if 32 < n {
+    if MOST_ENTRIES < n {
         return After::Bad;
     }
     entries_end(classes, n, s, at + 1)
@@ -123,7 +125,7 @@ pub fn bag_sections(classes: &[u8; 256], s: &[u8]) -> Divided
     requires { ⌜ now classes ≡ classTable ⌝ }
     ensures { λ r. ⌜ r ≡ cond (isBag (now (s .entry))) (sectionsOf (now (s .entry))) Broken ⌝ }
 {
-    if 4096 < s.len() {
+    if MOST_BAG_BYTES < s.len() {
         return Divided::Broken;
     }
     match sections_of(classes, s) {

@@ -3,7 +3,9 @@ ghost use mathlib.Core.Path.{_≡_};
 ghost use Rattle.bags.specs.Reading.{many};
 ghost use Rattle.bags.specs.Values.{stringEnd, numberEnd, flagEnd, listEnd, valueEnd};
 use crate::After;
+use crate::sizes::MOST_STRINGS;
 use numbers::bits::is_number_at;
+use tokens::sizes::MOST_STRING_BYTES;
 
 // The kind of an absent attribute: no entry has it, a column's candidate may.
 pub const ABSENT: u8 = 0;
@@ -26,7 +28,7 @@ fn string_end(s: &[u8], at: usize) -> After
     if s.len() - at <= n {
         return After::Bad;
     }
-    if 127 < n {
+    if MOST_STRING_BYTES < n {
         return After::Bad;
     }
     After::At(at + 1 + n)
@@ -85,7 +87,7 @@ fn list_end(s: &[u8], at: usize) -> After
         return After::Bad;
     }
     let n = s[at] as usize;
-    if 16 < n {
+    if MOST_STRINGS < n {
         return After::Bad;
     }
     strings_end(n, s, at + 1)

@@ -5,7 +5,7 @@ use Prim.Native.Nat.{ℕ}
 use lib.Dec.{T}
 use lib.Ieee.Scale.{finite}
 use Rattle.numbers.proofs.Exponent.{finite-by-bits}
-use Rattle.lookups.specs.Lookups.{lookupOf, said}
+use Rattle.lookups.specs.Lookups.{lookupOf, lookupSaid}
 use Rattle.lookups.specs.declared.Answer.{Answer}
 use Rattle.lookups.specs.declared.Answer.the-variants.{Found, Refused}
 use Rattle.lookups.proofs.Answers.{found-finite}
@@ -13,7 +13,7 @@ use Rattle.desk.specs.Answers.{lookupSays, foundAs}
 use Rattle.desk.specs.declared.DeskValue.{DeskValue}
 
 module _ (bag : List ℕ) (root : ℕ) (path : List ℕ) where
-  said-finite : (a : Answer) → lookupOf bag root path ≡ a → T (finite (said a .number))
+  said-finite : (a : Answer) → lookupOf bag root path ≡ a → T (finite (lookupSaid a .number))
   said-finite (Found v) e = found-finite bag root path v e
   said-finite (Refused n) e = rw (finite-by-bits 0) tt
 

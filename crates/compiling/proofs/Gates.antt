@@ -21,7 +21,7 @@ use Rattle.table.specs.declared.Entry.{Entry}
 use Rattle.table.specs.Layout.{held}
 use Rattle.table.specs.Entries.{entry, partEntry, actionEntries, conditionEntries, effectKind, targetEntries, policyEntries}
 use Rattle.table.proofs.Holding.{and-true}
-use Rattle.parts.specs.Answers.{Taken, Says, read, refused, Put, Done, closedOf, EntryPut, expectedOf}
+use Rattle.parts.specs.Answers.{Taken, AnswerIs, read, refused, Put, Done, closedOf, EntryPut, expectedOf}
 use Rattle.parts.specs.declared.answers.Answer.{Answer}
 use Rattle.parts.specs.declared.answers.Answer.the-variants.{Read, Refused}
 use Rattle.parts.proofs.Standing.{standing, lowered, turned-as, turned-bind, need-on, need-off}
@@ -69,7 +69,7 @@ module _ {text seen : List ℕ} {first : ℕ} {same : Bool} {T : List ℕ} where
             subst (Done none-put text seen (from + 1) first same T T (bind p (λ u. need kind (took u)))) (sym (c ∙ rw e))
             (turned-done (turned-as (rw (k .is)) (need-off text t kind (took (k .value)) (eqb-false _ _ e) refl)))
 
-        go : (r : Answer) → Says none-put text seen from first same p r → Put none-put first T T p → r₂ ≡ expectedOf text kind r
+        go : (r : Answer) → AnswerIs none-put text seen from first same p r → Put none-put first T T p → r₂ ≡ expectedOf text kind r
             → Done none-put text seen (from + 1) first same T T (bind p (λ u. need kind (took u))) r₂
         go (Read t free ok) (read k) w c = at-token t free ok k w (eqb (t .kind) kind) refl c
         go (Refused g) (refused k) w c =
@@ -96,8 +96,8 @@ opened {seen = seen} {first} {same} {T} {t} kind pos l c =
 -- ---- the parts of a policy
 
 -- a policy, and what reads its four parts behind its effect
-abbrev pub policyOf : Bool → Part → Actions → Part → Option Tree → Policy
-policyOf permits p a s c = record { permits = permits; principal = p; action = a; resource = s; condition = c }
+abbrev pub policyWith : Bool → Part → Actions → Part → Option Tree → Policy
+policyWith permits p a s c = record { permits = permits; principal = p; action = a; resource = s; condition = c }
 
 abbrev pub firstPart : Reader Part
 firstPart = need kinds.leftRound (need kinds.principalWord (before kinds.comma read-principal))
@@ -114,7 +114,7 @@ lastPart = before kinds.semicolon read-when
 -- what is read from a part's end on
 module _ (permits : Bool) where
   abbrev pub afterThird : Part → Actions → Part → Reader Policy
-  afterThird p a s l = bind (lastPart l) (λ c. took (policyOf permits p a s c))
+  afterThird p a s l = bind (lastPart l) (λ c. took (policyWith permits p a s c))
 
   abbrev pub afterSecond : Part → Actions → Reader Policy
   afterSecond p a = need kinds.resourceWord (λ k. bind (before kinds.rightRound read-resource k) (afterThird p a))
@@ -138,7 +138,7 @@ module _ (permits : Bool) where
       unfolding bind
       policy-third = policy-second ∙ rw e₂ (need-bind kinds.resourceWord _ (before kinds.rightRound read-resource) (afterThird p a) (λ l. refl) k)
 
-      pub policy-last : {l : List Lexeme} {s : Part} → thirdPart k ≡ took s l → read-policy permits i ≡ bind (lastPart l) (λ c. took (policyOf permits p a s c))
+      pub policy-last : {l : List Lexeme} {s : Part} → thirdPart k ≡ took s l → read-policy permits i ≡ bind (lastPart l) (λ c. took (policyWith permits p a s c))
       unfolding bind
       policy-last e₃ = policy-third ∙ rw e₃
 
@@ -149,10 +149,10 @@ module _ {text seen : List ℕ} {from′ from first free₁ free₂ free₃ : �
     (k₃ : Taken (λ e p. partEntry p ∷ []) text seen (next₂ .start) free₂ same₂ p₃ next₃ free₃ same₃) (w₃ : Put (λ e p. partEntry p ∷ []) free₂ T₂ T₃ p₃) where
   pub policy-done : (permits : Bool) → from′ + 2 ≤ from → Done conditionEntries text seen (next₃ .start - 1) free₃ same₃ T₃ T₄ p₄ r
       → (r₂ ≡ closedOf seen (λ _. entry (effectKind permits) first free₃) r) × EntryPut T₄ (λ _. entry (effectKind permits) first free₃) r T₅
-      → Done policyEntries text seen from′ first same T T₅ (bind p₄ (λ c. took (policyOf permits (k₁ .value) (k₂ .value) (k₃ .value) c))) r₂
+      → Done policyEntries text seen from′ first same T T₅ (bind p₄ (λ c. took (policyWith permits (k₁ .value) (k₂ .value) (k₃ .value) c))) r₂
   unfolding policyEntries targetEntries
   policy-done permits l d c =
       let x = k₁ .room in let y = k₂ .room in let z = k₃ .room in let past = k₃ .lies .low in
       let target = kept-append (kept-append (as-kept k₁ w₁) (as-kept k₂ w₂)) (as-kept k₃ w₃) in
-      closing _ (policyOf permits (k₁ .value) (k₂ .value) (k₃ .value)) target (λ _. entry (effectKind permits) first free₃)
+      closing _ (policyWith permits (k₁ .value) (k₂ .value) (k₃ .value)) target (λ _. entry (effectKind permits) first free₃)
       (λ c n e. rw (← target .counted .free-is)) (omega arith) d c

@@ -9,7 +9,8 @@ use lib.ListN.{length}
 use borrow.Author.Tests.{le-ltb, lt-ltb, ltb-false}
 use Rattle.tokens.specs.Tokens.{tokenAt}
 use Rattle.tokens.proofs.ReadLaws.{reads}
-use Rattle.reading.specs.Lexemes.{Lexeme, lexeme, choose, following, tokensUpTo, tokensFrom, tokensOf}
+use Rattle.tokens.specs.Sizes.{mostTextBytes}
+use Rattle.reading.specs.Lexemes.{Lexeme, lexeme, choose, tokensAfter, tokensUpTo, tokensFrom, tokensOf}
 use Rattle.reading.specs.Reader as reader
 use Rattle.reading.specs.Reader.{took, refuse}
 use Rattle.grammar.specs.Policies.{Policy}
@@ -18,10 +19,10 @@ use Rattle.grammar.proofs.Theorems.{refused-rightly}
 use Rattle.table.specs.Entries.{policiesEntries}
 use Rattle.table.specs.Layout.{startsWith}
 use Rattle.table.proofs.Holding.{length-bytesOf, held-starts, puts-front}
-use Rattle.parts.specs.Answers.{Turned, refusalAt}
+use Rattle.parts.specs.Answers.{TurnedAway, refusalAt}
 use Rattle.parts.specs.declared.answers.Refusal.{Refusal}
 use Rattle.compiling.specs.Whole.{Complete, Told, complete, lost}
-use Rattle.compiling.specs.Outcome.{mostBytes, roomFor, said, compiledBytes, foundBy, foundOf, tableBy, tableAfter, heldBy, heldOf, beginsBy, beginsOf}
+use Rattle.compiling.specs.Outcome.{roomFor, said, compiledBytes, foundBy, foundOf, tableBy, tableAfter, heldBy, heldOf, beginsBy, beginsOf}
 use Rattle.compiling.specs.declared.policies.Whole.{Whole}
 use Rattle.compiling.specs.declared.policies.Whole.the-variants.{All, Lost}
 use Rattle.compiling.specs.declared.Found.{Found}
@@ -39,28 +40,28 @@ module _ {text seen old new : List ℕ} {p : reader.Answer (List Policy)} {r : W
       go : {policies free : ℕ} {ok : Bool} → Told text seen old new p (All policies free ok) → Complete text seen old new p policies free ok
       go (complete k) = k
 
-  pub as-lost : {f : Refusal} → r ≡ Lost f → Told text seen old new p r → Turned text p f
+  pub as-lost : {f : Refusal} → r ≡ Lost f → Told text seen old new p r → TurnedAway text p f
   as-lost e t = go (subst (Told text seen old new p) e t)
     where
-      go : {f : Refusal} → Told text seen old new p (Lost f) → Turned text p f
+      go : {f : Refusal} → Told text seen old new p (Lost f) → TurnedAway text p f
       go (lost h) = h
 
 -- ---- what is found
 
 module _ (text : List ℕ) (room : ℕ) where
-  pub too-long : mostBytes < length text → foundOf text room ≡ Unfit 1
+  pub too-long : mostTextBytes < length text → foundOf text room ≡ Unfit 1
   unfolding foundOf choose
   too-long h = rw (lt-ltb _ _ h)
 
-  pub no-room : length text ≤ mostBytes → room < roomFor text → foundOf text room ≡ Unfit 2
+  pub no-room : length text ≤ mostTextBytes → room < roomFor text → foundOf text room ≡ Unfit 2
   unfolding foundOf choose
   no-room l h = rw (le-ltb _ _ l, lt-ltb _ _ h)
 
-  pub fitting : length text ≤ mostBytes → roomFor text ≤ room → foundOf text room ≡ foundBy text (said text)
+  pub fitting : length text ≤ mostTextBytes → roomFor text ≤ room → foundOf text room ≡ foundBy text (said text)
   unfolding foundOf choose
   fitting l h = rw (le-ltb _ _ l, le-ltb _ _ h)
 
-pub turned-found : {text : List ℕ} {p : reader.Answer (List Policy)} {f : Refusal} → Turned text p f → found.Turned f ≡ foundBy text p
+pub turned-found : {text : List ℕ} {p : reader.Answer (List Policy)} {f : Refusal} → TurnedAway text p f → found.Turned f ≡ foundBy text p
 unfolding foundBy
 turned-found h = rw (h .is) (ap found.Turned (h .told))
 
@@ -78,7 +79,7 @@ clash e = let z : _≡_ {A = ℕ} 0 1 = cc in omega arith
 
 -- what an accepted text tells
 pub record Accepts (text : List ℕ) (room policies entries : ℕ) : Type 0 where
-  pub short : length text ≤ mostBytes
+  pub short : length text ≤ mostTextBytes
   pub roomy : roomFor text ≤ room
   pub value : List Policy
   pub rest : List Lexeme
@@ -88,9 +89,9 @@ pub record Accepts (text : List ℕ) (room policies entries : ℕ) : Type 0 wher
 
 pub accepts : (text : List ℕ) (room policies entries : ℕ) → Accepted policies entries ≡ foundOf text room → Accepts text room policies entries
 unfolding foundOf foundBy choose
-accepts text room policies entries e = go (ltb mostBytes (length text)) refl (ltb room (roomFor text)) refl (said text) refl e
+accepts text room policies entries e = go (ltb mostTextBytes (length text)) refl (ltb room (roomFor text)) refl (said text) refl e
   where
-    go : (a : Bool) → ltb mostBytes (length text) ≡ a → (b : Bool) → ltb room (roomFor text) ≡ b → (p : reader.Answer (List Policy)) → said text ≡ p
+    go : (a : Bool) → ltb mostTextBytes (length text) ≡ a → (b : Bool) → ltb room (roomFor text) ≡ b → (p : reader.Answer (List Policy)) → said text ≡ p
         → Accepted policies entries ≡ choose a (λ _. Unfit 1) (λ _. choose b (λ _. Unfit 2) (λ _. foundBy text p)) → Accepts text room policies entries
     go true x b y p z e = absurd (clash-unfit (sym e))
     go false x true y p z e = absurd (clash-unfit (sym e))
@@ -101,7 +102,7 @@ accepts text room policies entries e = go (ltb mostBytes (length text)) refl (lt
 
 module _ (text : List ℕ) where
   lies-within : (n at : ℕ) → at ≤ length text → (before : List Lexeme) (x : Lexeme) (s : List Lexeme) → tokensUpTo n text at ≡ before ++ x ∷ s → x .start ≤ length text
-  unfolding tokensUpTo following choose
+  unfolding tokensUpTo tokensAfter choose
   lies-within zero at h [] x s e = absurd (let z : _≡_ {A = ℕ} 0 1 = cc in omega arith)
   lies-within zero at h (y ∷ before) x s e = absurd (let z : _≡_ {A = ℕ} 0 1 = cc in omega arith)
   lies-within (suc n) at h before x s e =
@@ -125,7 +126,7 @@ module _ (text : List ℕ) where
   -- a refusal's place is in the text
   pub place-inside : (room : ℕ) {f : Refusal} → found.Turned f ≡ foundOf text room → f .start ≤ length text
   unfolding foundOf foundBy choose
-  place-inside room {f} e = go (ltb mostBytes (length text)) (ltb room (roomFor text)) (said text) refl e
+  place-inside room {f} e = go (ltb mostTextBytes (length text)) (ltb room (roomFor text)) (said text) refl e
     where
       go : (a b : Bool) (p : reader.Answer (List Policy)) → said text ≡ p
           → found.Turned f ≡ choose a (λ _. Unfit 1) (λ _. choose b (λ _. Unfit 2) (λ _. foundBy text p)) → f .start ≤ length text
@@ -139,7 +140,7 @@ module _ (text : List ℕ) where
 -- the table of a text that is not accepted is left alone
 pub same-table : (text old : List ℕ) {x : Found} → ((policies entries : ℕ) → x ≡ Accepted policies entries → ⊥) → x ≡ foundOf text (length old) → old ≡ tableAfter text old
 unfolding foundOf foundBy tableAfter tableBy choose
-same-table text old {x} not e = go (ltb mostBytes (length text)) (ltb (length old) (roomFor text)) (said text) e
+same-table text old {x} not e = go (ltb mostTextBytes (length text)) (ltb (length old) (roomFor text)) (said text) e
   where
     go : (a b : Bool) (p : reader.Answer (List Policy)) → x ≡ choose a (λ _. Unfit 1) (λ _. choose b (λ _. Unfit 2) (λ _. foundBy text p))
         → old ≡ choose a (λ _. old) (λ _. choose b (λ _. old) (λ _. tableBy p old))
@@ -169,15 +170,15 @@ new-table h (lost k) = absurd (let x = sym (k .is) ∙ h .is in let z : _≡_ {A
 -- ---- a table that begins right
 
 module _ (text table : List ℕ) where
-  pub too-long-held : mostBytes < length text → heldOf text table ≡ Wrong
+  pub too-long-held : mostTextBytes < length text → heldOf text table ≡ Wrong
   unfolding heldOf choose
   too-long-held h = rw (lt-ltb _ _ h)
 
-  pub fitting-held : length text ≤ mostBytes → heldOf text table ≡ heldBy table (said text)
+  pub fitting-held : length text ≤ mostTextBytes → heldOf text table ≡ heldBy table (said text)
   unfolding heldOf choose
   fitting-held l = rw (le-ltb _ _ l)
 
-pub lost-held : {text : List ℕ} (table : List ℕ) {p : reader.Answer (List Policy)} {f : Refusal} → Turned text p f → Wrong ≡ heldBy table p
+pub lost-held : {text : List ℕ} (table : List ℕ) {p : reader.Answer (List Policy)} {f : Refusal} → TurnedAway text p f → Wrong ≡ heldBy table p
 unfolding heldBy
 lost-held table h = rw (h .is)
 
@@ -204,7 +205,7 @@ isRight Wrong = false
 module _ (text table : List ℕ) where
   held-begins : isRight (heldOf text table) ≡ beginsOf text table
   unfolding heldOf heldBy beginsOf beginsBy choose
-  held-begins = go (ltb mostBytes (length text)) (said text)
+  held-begins = go (ltb mostTextBytes (length text)) (said text)
     where
       at-bytes : (ps : List Policy) (b : Bool) → isRight (choose b (λ _. Right (length ps) (length (policiesEntries 0 ps))) (λ _. Wrong)) ≡ b
       at-bytes ps true = refl

@@ -11,18 +11,19 @@ use Rattle.tokens.proofs.TokenLaws.{and-right}
 use Rattle.tokens.specs.Kinds as kinds
 use Rattle.tokens.specs.declared.reader.Token.{Token}
 use Rattle.tokens.specs.Tokens.{tokenAt, Reads}
+use Rattle.tokens.specs.Sizes.{mostPolicies}
 use Rattle.reading.specs.Lexemes.{Lexeme, lexeme, is, stream, tokensOf}
 use Rattle.reading.specs.Reader as reader
 use Rattle.reading.specs.Reader.{Reader, took, refuseBy, bind, onwards, mapped}
 use Rattle.reading.proofs.Stream.{tokens-from, stream-end, stream-token, next-on, next-off}
 use Rattle.grammar.specs.Policies.{Policy}
-use Rattle.grammar.specs.Rules.{isEffect, mostPolicies}
+use Rattle.grammar.specs.Rules.{isEffect}
 use Rattle.grammar.specs.Parser.{noPolicy, mayBegin, read-policy, read-next-policy, atEnd, read-text}
 use Rattle.grammar.proofs.Steps.{policies-step}
 use Rattle.table.proofs.Counting.{policies-append}
 use Rattle.table.specs.declared.Entry.{Entry}
 use Rattle.table.specs.Entries.{policyEntries, policiesEntries}
-use Rattle.parts.specs.Answers.{Turned, turnedAway, Taken, Put}
+use Rattle.parts.specs.Answers.{TurnedAway, turnedAway, Taken, Put}
 use Rattle.compiling.specs.Whole.{Told, complete, lost}
 use Rattle.parts.specs.declared.answers.Refusal.{Refusal}
 use Rattle.compiling.specs.declared.policies.Whole.the-variants.{All, Lost}
@@ -95,7 +96,7 @@ module _ {text seen T₀ T : List ℕ} {total : reader.Answer (List Policy)} {t 
         (policies-step (b .value) (stream text t) ∙ next-on text t (mayBegin (b .value)) _ _ n (effect-some e) (b .lies .high) q (begins-is true (not-false (isEffect (lexeme text t) && ltb policies mostPolicies) e)))
 
     -- a policy begins, and is refused
-    pub broken : {f : Refusal} {T₂ : List ℕ} → Turned text (read-policy (is kinds.permitWord (lexeme text t)) (stream text n)) f → Told text seen T₀ T₂ total (Lost f)
+    pub broken : {f : Refusal} {T₂ : List ℕ} → TurnedAway text (read-policy (is kinds.permitWord (lexeme text t)) (stream text n)) f → Told text seen T₀ T₂ total (Lost f)
     broken h = lost (turned-as next-policy (turned-bind atEnd (turned-bind onAndOn (turned-bind (λ p. took (b .value ++ p ∷ [])) h))))
 
     -- a policy begins, and is read

@@ -7,6 +7,7 @@ use Prim.Native.Nat.{ℕ, _*_}
 use lib.ListN.{length, drop}
 use lib.Dec.{ltb}
 use Rattle.tokens.specs.Places.{placeOf}
+use Rattle.tokens.specs.Sizes.{mostTextBytes}
 use Rattle.reading.specs.Lexemes.{choose, tokensOf}
 use Rattle.reading.specs.Reader as reader
 use Rattle.reading.specs.Reader.{took, refuse}
@@ -24,12 +25,11 @@ use Rattle.compiling.specs.declared.Held.{Held}
 use Rattle.compiling.specs.declared.Held.the-variants.{Right, Wrong}
 
 -- the most bytes of a text
-abbrev pub mostBytes : ℕ
-mostBytes = 8192
+abbrev pub tablePerByte : ℕ
+tablePerByte = 8
 
--- the bytes of table that must be lent for a text
 abbrev pub roomFor : List ℕ → ℕ
-roomFor text = 8 * length text
+roomFor text = tablePerByte * length text
 
 -- what the text's tokens say: the policies, or the number of a refusal and the tokens from the refused one on
 unfoldable pub said : List ℕ → reader.Answer (List Policy)
@@ -47,7 +47,7 @@ foundBy text (refuse n r) = Turned (refusalAt text n r)
 -- what is found where so many bytes of table are lent. 1: the text is too long; 2: the table has under 8 bytes for a byte of text; else by what the tokens say
 unfoldable pub foundOf : List ℕ → ℕ → Found
 foundOf text room =
-    choose (ltb mostBytes (length text)) (λ _. Unfit 1)
+    choose (ltb mostTextBytes (length text)) (λ _. Unfit 1)
     (λ _. choose (ltb room (roomFor text)) (λ _. Unfit 2) (λ _. foundBy text (said text)))
 
 -- a line and a column
@@ -73,7 +73,7 @@ unfoldable pub compiledOf : List ℕ → ℕ → Compiled
 compiledOf text room = toldOf text (foundOf text room)
 
 -- document 01's numbers for an answer: the refusal's, with its line and column, and the policies and the bytes used
-pub record Said : Type 0 where
+pub record CompileSaid : Type 0 where
   pub refusal : ℕ
   pub line : ℕ
   pub column : ℕ
@@ -81,9 +81,9 @@ pub record Said : Type 0 where
   pub bytes : ℕ
 
 -- what each answer says: zeros where there is nothing to say
-unfoldable pub saidOf : Compiled → Said
-saidOf (Policies policies bytes) = record { refusal = 0; line = 0; column = 0; policies = policies; bytes = bytes }
-saidOf (Refused number at) = record { refusal = number; line = at .line; column = at .column; policies = 0; bytes = 0 }
+unfoldable pub compileSaid : Compiled → CompileSaid
+compileSaid (Policies policies bytes) = record { refusal = 0; line = 0; column = 0; policies = policies; bytes = bytes }
+compileSaid (Refused number at) = record { refusal = number; line = at .line; column = at .column; policies = 0; bytes = 0 }
 
 -- the table afterwards, by what the tokens say
 unfoldable pub tableBy : reader.Answer (List Policy) → List ℕ → List ℕ
@@ -93,7 +93,7 @@ tableBy (refuse n r) old = old
 -- the table afterwards: the compiled bytes and then what was there; after a refusal all that was there
 unfoldable pub tableAfter : List ℕ → List ℕ → List ℕ
 tableAfter text old =
-    choose (ltb mostBytes (length text)) (λ _. old) (λ _. choose (ltb (length old) (roomFor text)) (λ _. old) (λ _. tableBy (said text) old))
+    choose (ltb mostTextBytes (length text)) (λ _. old) (λ _. choose (ltb (length old) (roomFor text)) (λ _. old) (λ _. tableBy (said text) old))
 
 -- what `compile` promises: its answer, and what is in the table afterwards
 pub record CompiledInto (text old new : List ℕ) (r : Compiled) : Type 0 where
@@ -107,7 +107,7 @@ heldBy table (refuse n r) = Wrong
 
 -- how many policies and entries a text has that compiles and whose table begins with its bytes; the table's room is not asked for
 unfoldable pub heldOf : List ℕ → List ℕ → Held
-heldOf text table = choose (ltb mostBytes (length text)) (λ _. Wrong) (λ _. heldBy table (said text))
+heldOf text table = choose (ltb mostTextBytes (length text)) (λ _. Wrong) (λ _. heldBy table (said text))
 
 -- whether a table begins with the bytes of what the tokens say
 unfoldable pub beginsBy : List ℕ → reader.Answer (List Policy) → Bool
@@ -116,4 +116,4 @@ beginsBy table (refuse n r) = false
 
 -- whether a text compiles and the table begins with its bytes; the table's room is not asked for
 unfoldable pub beginsOf : List ℕ → List ℕ → Bool
-beginsOf text table = choose (ltb mostBytes (length text)) (λ _. false) (λ _. beginsBy table (said text))
+beginsOf text table = choose (ltb mostTextBytes (length text)) (λ _. false) (λ _. beginsBy table (said text))

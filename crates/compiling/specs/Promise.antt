@@ -8,6 +8,7 @@ use mathlib.Core.Bool.{true}
 use mathlib.Core.List.{List, [], _∷_}
 use Prim.Native.Nat.{ℕ, _≤_}
 use lib.ListN.{length, take, drop}
+use Rattle.tokens.specs.Sizes.{mostTextBytes}
 use Rattle.reading.specs.Listed.{Lexeme, TokensOf}
 use Rattle.reading.specs.Reader as reader
 use Rattle.reading.specs.Reader.{took, refuse}
@@ -17,7 +18,7 @@ use Rattle.grammar.specs.Lowest.{RefusedBy}
 use Rattle.table.specs.Entries.{policiesEntries}
 use Rattle.slices.specs.Parts.{Begins}
 use Rattle.table.specs.Layout.{held}
-use Rattle.compiling.specs.Outcome.{mostBytes, roomFor, said, compiledBytes, nowhere, spotOf, compiledOf, saidOf, tableAfter, CompiledInto, heldOf}
+use Rattle.compiling.specs.Outcome.{roomFor, said, compiledBytes, nowhere, spotOf, compiledOf, compileSaid, tableAfter, CompiledInto, heldOf}
 use Rattle.compiling.specs.Outcome.{beginsOf}
 use Rattle.compiling.specs.declared.Spot.{Spot}
 use Rattle.compiling.specs.declared.Compiled.{Compiled}
@@ -27,7 +28,7 @@ use Rattle.compiling.specs.declared.Held.the-variants.{Right}
 -- ---- acceptance
 
 -- the text is a rule text within document 01's limits; it says so many policies, which compile to so many bytes
-pub record Belongs (text : List ℕ) (policies bytes : ℕ) : Type 0 where
+pub record BelongsAs (text : List ℕ) (policies bytes : ℕ) : Type 0 where
   pub value : List Policy
   pub belongs : SaysPolicies text value
   pub many : policies ≡ length value
@@ -36,21 +37,21 @@ pub record Belongs (text : List ℕ) (policies bytes : ℕ) : Type 0 where
 -- A text that is not too long and is lent table enough is accepted exactly when its tokens belong to the grammar; it gets the number of its policies and of
 -- their bytes.
 unfoldable pub AcceptedExactly : Type 0
-AcceptedExactly = (text : List ℕ) (room policies bytes : ℕ) → length text ≤ mostBytes → roomFor text ≤ room
-    → (compiledOf text room ≡ Policies policies bytes) ↔ Belongs text policies bytes
+AcceptedExactly = (text : List ℕ) (room policies bytes : ℕ) → length text ≤ mostTextBytes → roomFor text ≤ room
+    → (compiledOf text room ≡ Policies policies bytes) ↔ BelongsAs text policies bytes
 
 -- Refusals 1 and 2 go by the lengths of text and table alone, and come first, 1 before 2; their place is 0, 0.
 unfoldable pub UnfitExactly : Type 0
 UnfitExactly = (text : List ℕ) (room : ℕ)
-    → ((compiledOf text room ≡ Refused 1 nowhere) ↔ (¬ (length text ≤ mostBytes)))
-    × ((compiledOf text room ≡ Refused 2 nowhere) ↔ ((length text ≤ mostBytes) × (¬ (roomFor text ≤ room))))
+    → ((compiledOf text room ≡ Refused 1 nowhere) ↔ (¬ (length text ≤ mostTextBytes)))
+    × ((compiledOf text room ≡ Refused 2 nowhere) ↔ ((length text ≤ mostTextBytes) × (¬ (roomFor text ≤ room))))
 
 -- ---- refusal
 
 -- where the first of the tokens r starts; [] is the end of the text, one past the last byte
-unfoldable pub startOf : List ℕ → List Lexeme → ℕ
-startOf text [] = length text
-startOf text (x ∷ r) = x .start
+unfoldable pub tokenStart : List ℕ → List Lexeme → ℕ
+tokenStart text [] = length text
+tokenStart text (x ∷ r) = x .start
 
 -- the refusal names the first of the text's tokens `rest`, which is the first that breaks a rule, by the lowest number that applies to it, and tells its line
 -- and column
@@ -59,16 +60,16 @@ pub record RefusedThere (text : List ℕ) (number : ℕ) (at : Spot) : Type 0 wh
   pub listed : TokensOf text 0 tokens
   pub rest : List Lexeme
   pub refused : RefusedBy tokens rest number
-  pub place-is : spotOf text (startOf text rest) ≡ at
+  pub place-is : spotOf text (tokenStart text rest) ≡ at
 
 -- A text that is not too long and is lent table enough is refused by a number, with a line and a column, exactly when that holds.
 unfoldable pub RefusedExactly : Type 0
-RefusedExactly = (text : List ℕ) (room number : ℕ) (at : Spot) → length text ≤ mostBytes → roomFor text ≤ room
+RefusedExactly = (text : List ℕ) (room number : ℕ) (at : Spot) → length text ≤ mostTextBytes → roomFor text ≤ room
     → (compiledOf text room ≡ Refused number at) ↔ RefusedThere text number at
 
 -- A refusal gives its number and place, and zeros for policies and bytes.
 unfoldable pub ZerosElsewhere : Type 0
-ZerosElsewhere = (r : Compiled) → (saidOf r .refusal ≡ 0 → ⊥) → (saidOf r .policies ≡ 0) × (saidOf r .bytes ≡ 0)
+ZerosElsewhere = (r : Compiled) → (compileSaid r .refusal ≡ 0 → ⊥) → (compileSaid r .policies ≡ 0) × (compileSaid r .bytes ≡ 0)
 
 -- ---- the table
 
@@ -105,12 +106,12 @@ NoPoliciesNoBytes = (text : List ℕ) (room bytes : ℕ) → compiledOf text roo
 -- ---- one result, and a table that begins right
 
 -- Any two results that the contract of `compile` allows coincide, and so do the tables.
-unfoldable pub OneResult : Type 0
-OneResult = (text old new new′ : List ℕ) (r r′ : Compiled) → CompiledInto text old new r → CompiledInto text old new′ r′ → (r ≡ r′) × (new ≡ new′)
+unfoldable pub OneCompiled : Type 0
+OneCompiled = (text old new new′ : List ℕ) (r r′ : Compiled) → CompiledInto text old new r → CompiledInto text old new′ r′ → (r ≡ r′) × (new ≡ new′)
 
 -- the text is a rule text of at most 8,192 bytes, and the table begins with the bytes that it compiles to
 pub record Begun (text table : List ℕ) : Type 0 where
-  pub short : length text ≤ mostBytes
+  pub short : length text ≤ mostTextBytes
   pub value : List Policy
   pub belongs : SaysPolicies text value
   pub begins : Begins (compiledBytes value) table
@@ -125,8 +126,8 @@ CompiledBegins = (text old : List ℕ) (policies bytes : ℕ) → compiledOf tex
 
 -- the text is a rule text of at most 8,192 bytes that says so many policies, and the table has their entries from its beginning on, no more of them than the
 -- text has bytes
-pub record Holds (text table : List ℕ) (policies entries : ℕ) : Type 0 where
-  pub short : length text ≤ mostBytes
+pub record TableHolds (text table : List ℕ) (policies entries : ℕ) : Type 0 where
+  pub short : length text ≤ mostTextBytes
   pub value : List Policy
   pub is : said text ≡ took value []
   pub belongs : SaysPolicies text value
@@ -137,4 +138,4 @@ pub record Holds (text table : List ℕ) (policies entries : ℕ) : Type 0 where
 
 -- What a reader of a table may count on that begins right.
 unfoldable pub HeldRightly : Type 0
-HeldRightly = (text table : List ℕ) (policies entries : ℕ) → heldOf text table ≡ Right policies entries → Holds text table policies entries
+HeldRightly = (text table : List ℕ) (policies entries : ℕ) → heldOf text table ≡ Right policies entries → TableHolds text table policies entries

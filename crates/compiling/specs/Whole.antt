@@ -4,13 +4,13 @@ use mathlib.Core.Bool.{Bool, true}
 use mathlib.Core.List.{List, []}
 use Prim.Native.Nat.{ℕ, _≤_}
 use lib.ListN.{length}
+use Rattle.tokens.specs.Sizes.{mostPolicies}
 use Rattle.reading.specs.Reader as reader
 use Rattle.reading.specs.Reader.{took}
 use Rattle.grammar.specs.Policies.{Policy}
-use Rattle.grammar.specs.Rules.{mostPolicies}
 use Rattle.table.specs.Entries.{policiesEntries}
 use Rattle.table.specs.Layout.{puts}
-use Rattle.parts.specs.Answers.{Turned, Counted}
+use Rattle.parts.specs.Answers.{TurnedAway, EntriesCounted}
 use Rattle.parts.specs.declared.answers.Refusal.{Refusal}
 use Rattle.compiling.specs.declared.policies.Whole.{Whole}
 use Rattle.compiling.specs.declared.policies.Whole.the-variants.{All, Lost}
@@ -22,10 +22,10 @@ pub record Complete (text seen old new : List ℕ) (p : reader.Answer (List Poli
   pub many : policies ≡ length value
   pub few : policies ≤ mostPolicies
   pub room : free ≤ length text
-  pub counted : Counted seen (policiesEntries 0 value) 0 true free ok
+  pub counted : EntriesCounted seen (policiesEntries 0 value) 0 true free ok
   pub stored : new ≡ puts old 0 (policiesEntries 0 value)
 
 -- what is told: all the policies, or the refusal of a token
 pub data Told (text seen old new : List ℕ) (p : reader.Answer (List Policy)) : Whole → Type 0 where
   complete : {policies free : ℕ} {ok : Bool} → Complete text seen old new p policies free ok → Told text seen old new p (All policies free ok)
-  lost : {f : Refusal} → Turned text p f → Told text seen old new p (Lost f)
+  lost : {f : Refusal} → TurnedAway text p f → Told text seen old new p (Lost f)

@@ -13,9 +13,10 @@ use parts::answers::Refusal;
 use table::ENTRY_SIZE;
 use tokens::classes::class_table;
 use tokens::places::place_of;
+use tokens::sizes::MOST_TEXT_BYTES;
 
-// The most bytes of a text.
-const MOST_BYTES: usize = 8192;
+// How many bytes of table must be lent for each byte of text.
+const TABLE_PER_BYTE: usize = 8;
 
 // What a text has: so many policies and entries; or its refusal, by its size or the table's, or at a token.
 pub enum Found {
@@ -47,10 +48,10 @@ pub fn recognise(classes: &[u8; 256], text: &[u8], room: usize) -> Found
     requires { ⌜ now classes ≡ classTable ⌝ }
     ensures { λ r. ⌜ r ≡ foundOf (now (text .entry)) room ⌝ }
 {
-    if MOST_BYTES < text.len() {
+    if MOST_TEXT_BYTES < text.len() {
         return Found::Unfit(1);
     }
-    if room < 8 * text.len() {
+    if room < TABLE_PER_BYTE * text.len() {
         return Found::Unfit(2);
     }
     let mut none = [0u8; 1];
@@ -97,7 +98,7 @@ pub fn held_policies(classes: &[u8; 256], text: &[u8], table: &[u8]) -> Held
     requires { ⌜ now classes ≡ classTable ⌝ }
     ensures { λ r. ⌜ r ≡ heldOf (now (text .entry)) (now (table .entry)) ⌝ }
 {
-    if MOST_BYTES < text.len() {
+    if MOST_TEXT_BYTES < text.len() {
         return Held::Wrong;
     }
     let mut none = [0u8; 1];

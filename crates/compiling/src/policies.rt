@@ -5,6 +5,7 @@ ghost use mathlib.Core.List.{[], _∷_};
 ghost use Prim.Native.Nat.{_+_, _-_, _≤_};
 ghost use lib.ListN.{length};
 ghost use Rattle.tokens.specs.Table.{classTable};
+ghost use Rattle.tokens.specs.Sizes.{mostTextBytes};
 ghost use Rattle.reading.specs.Lexemes.{lexeme, stream, tokensOf};
 ghost use Rattle.reading.specs.Reader.{need, before};
 ghost use Rattle.grammar.specs.Parser.{noPolicy, read-principal, read-action, read-resource, read-when, read-policy, read-text};
@@ -27,12 +28,8 @@ use table::entries;
 use tokens::kinds;
 use tokens::reader::Token;
 use tokens::reader::next_token;
-
-// The most policies of a text.
-const MOST_POLICIES: usize = 64;
-
-// The most levels that a condition has inside it: the braces after `when` are the first of 32.
-const INSIDE: usize = 31;
+use tokens::sizes::MOST_INSIDE;
+use tokens::sizes::MOST_POLICIES;
 
 // What a whole text is: how many policies and entries it has, and whether the table that is seen has all these; or a refusal.
 pub enum Whole {
@@ -144,7 +141,7 @@ fn read_when(
     number: usize,
     same: bool,
 ) -> Answer
-    requires { ⌜ ReadyToRead (now classes) (now text) (number + 1) t × (length (now text) ≤ 8192) ⌝ }
+    requires { ⌜ ReadyToRead (now classes) (now text) (number + 1) t × (length (now text) ≤ mostTextBytes) ⌝ }
     ensures { λ r. ⌜ Done conditionEntries (now (text .entry)) (now (seen .entry)) (t .start - 1) number same (now (table .entry)) (now (table .exit))
         (read-when (stream (now (text .entry)) t)) r ⌝ }
 {
@@ -155,7 +152,7 @@ fn read_when(
     if next.kind != b'{' {
         return Answer::Refused(turned_away(text, next, refusals::NOT_ADMITTED));
     }
-    let inside = read_whole(classes, text, table, seen, next.end, INSIDE, number, same);
+    let inside = read_whole(classes, text, table, seen, next.end, MOST_INSIDE, number, same);
     expected(classes, text, inside, b'}')
 }
 
@@ -170,7 +167,7 @@ fn read_policy(
     number: usize,
     same: bool,
 ) -> Answer
-    requires { ⌜ ReadyToRead (now classes) (now text) (number + 1) t × (length (now text) ≤ 8192) ⌝ }
+    requires { ⌜ ReadyToRead (now classes) (now text) (number + 1) t × (length (now text) ≤ mostTextBytes) ⌝ }
     ensures { λ r. ⌜ Done policyEntries (now (text .entry)) (now (seen .entry)) (t .start - 1) number same (now (table .entry)) (now (table .exit))
         (read-policy permits (stream (now (text .entry)) t)) r ⌝ }
 {
@@ -202,7 +199,7 @@ fn read_policy(
 
 // A whole text: its entries are put into the one table and compared with the other.
 pub fn read_all(classes: &[u8; 256], text: &[u8], table: &mut [u8], seen: &[u8]) -> Whole
-    requires { ⌜ (now classes ≡ classTable) × (length (now text) ≤ 8192) ⌝ }
+    requires { ⌜ (now classes ≡ classTable) × (length (now text) ≤ mostTextBytes) ⌝ }
     ensures { λ r. ⌜ Told (now (text .entry)) (now (seen .entry)) (now (table .entry)) (now (table .exit)) (read-text (tokensOf (now (text .entry)))) r ⌝ }
 {
     let mut t = next_token(classes, text, 0);

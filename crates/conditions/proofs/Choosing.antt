@@ -16,7 +16,7 @@ use Rattle.grammar.specs.Parser.{read-conditional}
 use Rattle.table.specs.declared.Entry.{Entry}
 use Rattle.table.specs.Entries.{entry, treeEntries}
 use Rattle.table.specs.Layout.{putAt, entryIs}
-use Rattle.parts.specs.Answers.{Turned, Done, turnedAway}
+use Rattle.parts.specs.Answers.{TurnedAway, Done, turnedAway}
 use Rattle.parts.specs.declared.answers.Refusal.{Refusal}
 use Rattle.parts.specs.declared.answers.Answer.{Answer}
 use Rattle.parts.specs.declared.answers.Answer.the-variants.{Read, Refused}
@@ -90,7 +90,7 @@ module _ {text seen : List ℕ} {from first : ℕ} {same : Bool} {inner : Reader
     unfolding remaining read-conditional before mapped
     refuses {f} e = told-as e (turned-done (turned-as (g .rest) (go (g .parts) (as-refused e (d .says)))))
       where
-        go : (parts : Parts) → Turned text (inner (stream text (tokenAt text at))) f → Turned text (remaining inner parts (stream text (tokenAt text at))) f
+        go : (parts : Parts) → TurnedAway text (inner (stream text (tokenAt text at))) f → TurnedAway text (remaining inner parts (stream text (tokenAt text at))) f
         go none h = turned-bind _ (turned-bind _ h)
         go (one a) h = turned-bind _ (turned-bind _ h)
         go (two a b) h = turned-bind _ h
@@ -101,7 +101,7 @@ module _ {text seen : List ℕ} {from first : ℕ} {same : Bool} {inner : Reader
       unfolding awaited remaining read-conditional before
       other-word {f} some off q = turned-done (turned-as (g .rest) (go (g .parts) (g .word-is)))
         where
-          go : (parts : Parts) → word ≡ awaited parts → Turned text (remaining inner parts (stream text (tokenAt text at))) f
+          go : (parts : Parts) → word ≡ awaited parts → TurnedAway text (remaining inner parts (stream text (tokenAt text at))) f
           go none w = turned-bind _ (as-refused refl (fails kinds.thenWord (omega arith) e d (λ (z : t .kind ≡ kinds.thenWord). off (z ∙ sym w)) q .says))
           go (one a) w = turned-bind _ (as-refused refl (fails kinds.elseWord (omega arith) e d (λ (z : t .kind ≡ kinds.elseWord). off (z ∙ sym w)) q .says))
           go (two a b) w = absurd (some w)

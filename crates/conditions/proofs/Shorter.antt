@@ -8,12 +8,13 @@ use lib.ListN.{length}
 use borrow.Author.Tests.{not-true, not-false}
 use Rattle.reading.specs.Reader as reader
 use Rattle.table.specs.declared.Entry.{Entry}
-use Rattle.parts.specs.Answers.{refusal, Says, freeOf}
+use Rattle.tokens.specs.Tokens.{token}
+use Rattle.parts.specs.Answers.{refusal, AnswerIs, freeOf}
 use Rattle.parts.specs.declared.answers.Answer.{Answer}
 use Rattle.parts.specs.declared.answers.Answer.the-variants.{Read, Refused}
 use Rattle.parts.proofs.Writing.{free-small}
 use Rattle.conditions.specs.declared.Short.{Short}
-use Rattle.conditions.specs.Shortened.{wide, shortOf, token, tokenOf}
+use Rattle.conditions.specs.Shortened.{wide, shortOf, tokenOf}
 
 pub read-is : (a : Short) → not (a .read) ≡ false → wide a ≡ Read (tokenOf a) (a .free) (a .same)
 unfolding wide
@@ -44,5 +45,5 @@ short-plain a e = e ∙ ap shortOf (sym (short-is e))
 
 -- where something was read: no more entries than the text has bytes
 pub free-few : {A : Type 0} {es : ℕ → A → List Entry} {text seen : List ℕ} {from first : ℕ} {same : Bool} {p : reader.Answer A} (a : Short) → not (a .read) ≡ false
-    → Says es text seen from first same p (wide a) → first ≤ from → a .free ≤ length text
+    → AnswerIs es text seen from first same p (wide a) → first ≤ from → a .free ≤ length text
 free-few a e s l = let x = free-small s l in let y = ap freeOf (read-is a e) in omega arith

@@ -9,6 +9,7 @@ use lib.ListN.{length}
 use Rattle.tokens.specs.Kinds as kinds
 use Rattle.tokens.specs.Table.{classTable}
 use Rattle.tokens.specs.Tokens.{tokenAt}
+use Rattle.tokens.specs.Sizes.{mostTextBytes}
 use Rattle.reading.specs.Lexemes.{Lexeme, stream}
 use Rattle.reading.specs.Reader.{Answer}
 use Rattle.grammar.specs.Policies.{Tree}
@@ -26,7 +27,7 @@ pub record ReadyAt (classes text : List ℕ) (from at : ℕ) : Type 0 where
   pub table : classes ≡ classTable
   pub low : from ≤ at
   pub high : at ≤ length text
-  pub small : length text ≤ 8192
+  pub small : length text ≤ mostTextBytes
 
 -- the promise of a reader that reads from the place `at` on what begins after the place `from`; its answer is short
 abbrev pub DoneFrom : List ℕ → List ℕ → ℕ → ℕ → Count → List ℕ → List ℕ → (List Lexeme → Answer Tree) → Short → Type 0

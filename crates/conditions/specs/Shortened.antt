@@ -1,15 +1,12 @@
 -- What a short answer says. Definitions only.
 use mathlib.Core.Bool.{Bool, true, false, cond}
 use Prim.Native.Nat.{ℕ}
+use Rattle.tokens.specs.Tokens.{token}
 use Rattle.tokens.specs.declared.reader.Token.{Token}
 use Rattle.parts.specs.Answers.{refusal}
 use Rattle.parts.specs.declared.answers.Answer.{Answer}
 use Rattle.parts.specs.declared.answers.Answer.the-variants.{Read, Refused}
 use Rattle.conditions.specs.declared.Short.{Short}
-
--- a token of these three
-abbrev pub token : ℕ → ℕ → ℕ → Token
-token kind start end = record { kind = kind; start = start; end = end }
 
 -- the token after what was read
 abbrev pub tokenOf : Short → Token

@@ -8,13 +8,15 @@ ghost use mathlib.Core.List.{[]};
 ghost use Prim.Native.Nat.{_+_, _-_, _<_, _≤_};
 ghost use lib.ListN.{length};
 ghost use Rattle.tokens.specs.Table.{classTable};
-ghost use Rattle.tokens.specs.Tokens.{tokenAt, Reads};
+ghost use Rattle.tokens.specs.Tokens.{token, tokenAt, Reads};
+ghost use Rattle.tokens.specs.Sizes.{mostTextBytes};
 ghost use Rattle.reading.specs.Lexemes.{lexeme, stream};
 ghost use Rattle.grammar.specs.Parser.{noLevel, read-condition, read-conjunction, read-disjunction, read-negated, read-bracketed, read-conditional};
 ghost use Rattle.table.specs.Entries.{treeEntries};
+ghost use Rattle.table.specs.Layout.{fieldNumbers};
 ghost use Rattle.parts.specs.Answers.{ReadyToRead, Done, freeOf, turnedAway};
 ghost use Rattle.conditions.specs.Joining.{ReadyAt, Closes, Joins, wordAfter, DoneFrom};
-ghost use Rattle.conditions.specs.Shortened.{wide, shortOf, token, tokenOf, withEntries};
+ghost use Rattle.conditions.specs.Shortened.{wide, shortOf, tokenOf, withEntries};
 use leaves::read_operator;
 use leaves::read_rooted;
 use parts::answers::Answer;
@@ -51,7 +53,7 @@ pub struct Count {
 
 // An answer as a short one.
 fn shortened(a: Answer) -> Short
-    requires { ⌜ freeOf a < 65536 ⌝ }
+    requires { ⌜ freeOf a < fieldNumbers ⌝ }
     ensures { λ r. ⌜ r ≡ shortOf a ⌝ }
 {
     match a {
@@ -149,7 +151,7 @@ fn word_after(word: u8) -> u8
 
 // One entry more after what was read.
 fn closed(table: &mut [u8], seen: &[u8], a: Short, x: Entry) -> Short
-    requires { ⌜ a .free < 65535 ⌝ }
+    requires { ⌜ a .free < fieldNumbers - 1 ⌝ }
     ensures { λ r. ⌜ Closes (now (seen .entry)) a x (now (table .entry)) (now (table .exit)) r ⌝ }
 {
     let ok = append(table, seen, a.free as usize, a.same, x);
@@ -158,7 +160,7 @@ fn closed(table: &mut [u8], seen: &[u8], a: Short, x: Entry) -> Short
 
 // The entries after a part of a chain: where it is not the first, one more joins it to those before.
 fn joined(table: &mut [u8], seen: &[u8], free: u16, same: bool, more: bool, x: Entry) -> Count
-    requires { ⌜ free < 65535 ⌝ }
+    requires { ⌜ free < fieldNumbers - 1 ⌝ }
     ensures { λ r. ⌜ Joins (now (seen .entry)) more x free same (now (table .entry)) (now (table .exit)) r ⌝ }
 {
     if more {
@@ -217,7 +219,7 @@ fn read_plain(
     number: usize,
     same: bool,
 ) -> Short
-    requires { ⌜ ReadyToRead (now classes) (now (now text)) number (token kind start end) × (length (now (now text)) ≤ 8192) ⌝ }
+    requires { ⌜ ReadyToRead (now classes) (now (now text)) number (token kind start end) × (length (now (now text)) ≤ mostTextBytes) ⌝ }
     ensures done { λ r. ⌜ Done treeEntries (now (now (text .entry))) (now (now (seen .entry))) start number same (now (table .entry)) (now (table .exit))
         (read-condition 0 (stream (now (now (text .entry))) (token kind start end))) (wide r) ⌝ }
     ensures plain { λ r. ⌜ r ≡ shortOf (wide r) ⌝ }

@@ -14,7 +14,7 @@ use Rattle.views.specs.Values.{baseBag}
 use Rattle.meaning.specs.Targets.{Request, typeIn, isTyped, isSystem, isSubject, isAction, isResource}
 use Rattle.meaning.specs.Decisions.{policiesDecide, decisionOf}
 use Rattle.meaning.specs.declared.Decision.the-variants.{System}
-use Rattle.deciding.specs.Answers.{wordsIn, viewIn, viewOf, heldDecide, answerOf}
+use Rattle.deciding.specs.Answers.{wordsIn, viewIn, viewOf, heldDecide, decideAnswer}
 use Rattle.deciding.specs.declared.Answer.the-variants.{Decided, Refused}
 
 -- ---- the type's number of a subject or a resource
@@ -44,46 +44,46 @@ module _ (types : List (List ℕ)) (s : List ℕ) (n : ℕ) (e : n ≡ cond (isT
 -- ---- the answer
 
 module _ (text table bag : List ℕ) (q : Request) where
-  pub the-system : isSystem (q .subject) ≡ true → Decided System ≡ answerOf text table bag q
-  unfolding answerOf
+  pub the-system : isSystem (q .subject) ≡ true → Decided System ≡ decideAnswer text table bag q
+  unfolding decideAnswer
   the-system e = rw e
 
   module _ (other : isSystem (q .subject) ≡ false) where
-    pub refused-21 : isSubject (q .subject) ≡ false → Refused 21 ≡ answerOf text table bag q
-    unfolding answerOf
+    pub refused-21 : isSubject (q .subject) ≡ false → Refused 21 ≡ decideAnswer text table bag q
+    unfolding decideAnswer
     refused-21 e = rw (other, e)
 
     module _ (subject : isSubject (q .subject) ≡ true) where
-      pub refused-22 : isAction (q .action) ≡ false → Refused 22 ≡ answerOf text table bag q
-      unfolding answerOf
+      pub refused-22 : isAction (q .action) ≡ false → Refused 22 ≡ decideAnswer text table bag q
+      unfolding decideAnswer
       refused-22 e = rw (other, subject, e)
 
       module _ (action : isAction (q .action) ≡ true) where
-        pub refused-23 : isResource (q .resource) ≡ false → Refused 23 ≡ answerOf text table bag q
-        unfolding answerOf
+        pub refused-23 : isResource (q .resource) ≡ false → Refused 23 ≡ decideAnswer text table bag q
+        unfolding decideAnswer
         refused-23 e = rw (other, subject, action, e)
 
         module _ (resource : isResource (q .resource) ≡ true) where
-          pub refused-24 : isBag bag ≡ false → Refused 24 ≡ answerOf text table bag q
-          unfolding answerOf
+          pub refused-24 : isBag bag ≡ false → Refused 24 ≡ decideAnswer text table bag q
+          unfolding decideAnswer
           refused-24 e = rw (other, subject, action, resource, e)
 
           module _ (form : isBag bag ≡ true) where
-            pub refused-20 : beginsOf text table ≡ false → Refused 20 ≡ answerOf text table bag q
-            unfolding answerOf
+            pub refused-20 : beginsOf text table ≡ false → Refused 20 ≡ decideAnswer text table bag q
+            unfolding decideAnswer
             refused-20 e = rw (other, subject, action, resource, form, e)
 
-            pub decided-then : beginsOf text table ≡ true → Decided (policiesDecide (viewOf bag) q (wordsIn text)) ≡ answerOf text table bag q
-            unfolding answerOf decisionOf
+            pub decided-then : beginsOf text table ≡ true → Decided (policiesDecide (viewOf bag) q (wordsIn text)) ≡ decideAnswer text table bag q
+            unfolding decideAnswer decisionOf
             decided-then e = rw (other, subject, action, resource, form, e)
 
-            pub as-held : (p : Sections) → sectionsOf bag ≡ In p → heldDecide text table (look (baseBag bag p)) q ≡ answerOf text table bag q
+            pub as-held : (p : Sections) → sectionsOf bag ≡ In p → heldDecide text table (look (baseBag bag p)) q ≡ decideAnswer text table bag q
             unfolding heldDecide viewIn
             as-held p d = go (beginsOf text table) refl
               where
                 view-is : viewOf bag ≡ look (baseBag bag p)
                 view-is = rw d
 
-                go : (b : Bool) → beginsOf text table ≡ b → cond b (Decided (policiesDecide (look (baseBag bag p)) q (wordsIn text))) (Refused 20) ≡ answerOf text table bag q
+                go : (b : Bool) → beginsOf text table ≡ b → cond b (Decided (policiesDecide (look (baseBag bag p)) q (wordsIn text))) (Refused 20) ≡ decideAnswer text table bag q
                 go true e = rw (← view-is) (decided-then e)
                 go false e = refused-20 e

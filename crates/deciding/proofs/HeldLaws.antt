@@ -15,7 +15,7 @@ use Rattle.stored.specs.ReadBack.{policiesAt}
 use Rattle.stored.specs.Ready.{ReadyPolicies}
 use Rattle.stored.proofs.Theorems.{compiled-says, compiled-ready}
 use Rattle.compiling.specs.Outcome.{said, heldOf}
-use Rattle.compiling.specs.Promise.{HeldRightly, Holds}
+use Rattle.compiling.specs.Promise.{HeldRightly, TableHolds}
 use Rattle.compiling.specs.declared.Held.the-variants.{Right, Wrong}
 use Rattle.compiling.proofs.Outcomes.{right-begins, wrong-begins}
 use Rattle.compiling.proofs.Promised.{held-rightly}
@@ -41,7 +41,7 @@ unfolding rowView chosenOf columnsFirst
 plain-row s p heads values = refl
 
 module _ (text table : List ℕ) (policies entries : ℕ) (h : heldOf text table ≡ Right policies entries) where
-  holds : Holds text table policies entries
+  holds : TableHolds text table policies entries
   unfolding HeldRightly
   holds = held-rightly text table policies entries h
 

@@ -14,7 +14,7 @@ use Rattle.meaning.specs.Decisions.{satisfied, firstOf, byNumbers, forbids, per
 use Rattle.meaning.specs.declared.Decision.{Decision}
 use Rattle.meaning.proofs.WordLaws.{first-words}
 use Rattle.table.specs.declared.Entry.{Entry}
-use Rattle.stored.specs.ReadBack.{policyBy, policiesIn, policiesBy, policyOf, policiesAt}
+use Rattle.stored.specs.ReadBack.{policyBy, policiesUpTo, policiesBy, policyAt, policiesAt}
 use Rattle.stored.specs.Ready.{PoliciesReadyBy, LastBy, Last}
 use Rattle.stored.proofs.Evaluating.{last-of}
 
@@ -84,7 +84,7 @@ module _ (t : List ℕ) (view : View) (q : Request) where
       rw (first-words t (forbids view q) 1 ps, first-words t (permits view q) 1 ps, or-none (firstOf (λ p. forbids view q (policyWords t p)) 1 ps), or-none (firstOf (λ p. permits view q (policyWords t p)) 1 ps))
 
   pub none-left : (table : List ℕ) (end forbid permit : ℕ) → end ≤ 0 → byNumbers forbid permit ≡ decidesFrom t view q (policiesAt table end) forbid permit
-  unfolding decidesFrom policiesIn firstOf orElse
+  unfolding decidesFrom policiesUpTo firstOf orElse
   none-left table zero forbid permit l = refl
   none-left table (suc end) forbid permit l = absurd (omega arith)
 

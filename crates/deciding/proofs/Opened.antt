@@ -2,8 +2,8 @@
 use Rattle.compiling.proofs.Opened.{compiling-opened}
 use Rattle.meaning.proofs.Opened.{meaning-opened}
 use Rattle.views.proofs.Opened.{views-opened}
-use Rattle.deciding.specs.Answers.{answerOf, saidOf, policiesIn, viewIn}
+use Rattle.deciding.specs.Answers.{decideAnswer, decideSaid, policiesIn, viewIn}
 
 unfoldable pub deciding-opened : Unit {0}
-unfolding compiling-opened meaning-opened views-opened answerOf saidOf policiesIn viewIn
+unfolding compiling-opened meaning-opened views-opened decideAnswer decideSaid policiesIn viewIn
 deciding-opened = tt

@@ -10,7 +10,7 @@ use Rattle.compiling.proofs.Promised.{begins-exactly}
 use Rattle.bags.proofs.Exactly.{bag-exactly, not-a-bag}
 use Rattle.bags.specs.Sections.{isBag}
 use Rattle.meaning.specs.Targets.{Request, isSystem, isSubject, isAction, isResource}
-use Rattle.deciding.specs.Answers.{answerOf, saidOf}
+use Rattle.deciding.specs.Answers.{decideAnswer, decideSaid}
 use Rattle.deciding.specs.Promise.{DecideCall, RequestRefused, bad-subject, bad-action, bad-resource, DecideRefused, never-the-system, bad-request, no-bag, not-compiled, none-wrong, DecideRefusedExactly, AnsweredAlike}
 use Rattle.deciding.specs.declared.Answer.{Answer}
 use Rattle.deciding.specs.declared.Answer.the-variants.{Decided, Refused}
@@ -43,13 +43,13 @@ module _ (text table bag : List ℕ) (q : Request) where
   abbrev call : DecideCall
   call = record { text = text; table = table; bag = bag; request = q }
 
-  told : DecideRefused call (saidOf (answerOf text table bag q) .refusal)
-  unfolding saidOf
+  told : DecideRefused call (decideSaid (decideAnswer text table bag q) .refusal)
+  unfolding decideSaid
   told =
       go (isSystem (q .subject)) (isSubject (q .subject)) (isAction (q .action)) (isResource (q .resource)) (isBag bag) (beginsOf text table) refl refl refl refl refl refl
     where
       go : (a b c d e f : Bool) → isSystem (q .subject) ≡ a → isSubject (q .subject) ≡ b → isAction (q .action) ≡ c → isResource (q .resource) ≡ d → isBag bag ≡ e
-          → beginsOf text table ≡ f → DecideRefused call (saidOf (answerOf text table bag q) .refusal)
+          → beginsOf text table ≡ f → DecideRefused call (decideSaid (decideAnswer text table bag q) .refusal)
       go true b c d e f s t u v w x = rw (← the-system text table bag q s) (never-the-system s)
       go false false c d e f s t u v w x = rw (← refused-21 text table bag q s t) (bad-request (bad-subject s t))
       go false true false d e f s t u v w x = rw (← refused-22 text table bag q s t u) (bad-request (bad-action s t u))
@@ -63,14 +63,14 @@ module _ (text table bag : List ℕ) (q : Request) where
           rw (← decided-then text table bag q s t u v w x)
           (none-wrong (record { other = s; subject-is = t; action-is = u; resource-is = v }) (bag-exactly bag .0 w) (begun text table x))
 
-  bad-request-told : {n : ℕ} → RequestRefused q n → saidOf (answerOf text table bag q) .refusal ≡ n
-  unfolding saidOf
+  bad-request-told : {n : ℕ} → RequestRefused q n → decideSaid (decideAnswer text table bag q) .refusal ≡ n
+  unfolding decideSaid
   bad-request-told (bad-subject s t) = rw (← refused-21 text table bag q s t)
   bad-request-told (bad-action s t u) = rw (← refused-22 text table bag q s t u)
   bad-request-told (bad-resource s t u v) = rw (← refused-23 text table bag q s t u v)
 
-  refusal-is : {n : ℕ} → DecideRefused call n → saidOf (answerOf text table bag q) .refusal ≡ n
-  unfolding saidOf
+  refusal-is : {n : ℕ} → DecideRefused call n → decideSaid (decideAnswer text table bag q) .refusal ≡ n
+  unfolding decideSaid
   refusal-is (never-the-system s) = rw (← the-system text table bag q s)
   refusal-is (bad-request r) = bad-request-told r
   refusal-is (no-bag f w) = rw (← refused-24 text table bag q (f .other) (f .subject-is) (f .action-is) (f .resource-is) (not-a-bag bag .1 w))
@@ -85,13 +85,13 @@ decide-refused-exactly c number =
     ((λ e. subst (DecideRefused c) e (told (c .text) (c .table) (c .bag) (c .request))), refusal-is (c .text) (c .table) (c .bag) (c .request))
 
 -- a refusal gives its number, and zeros elsewhere
-pub zeros-elsewhere : (a : Answer) → (saidOf a .refusal ≡ 0 → ⊥) → (saidOf a .outcome ≡ 0) × (saidOf a .policy ≡ 0)
-unfolding saidOf
+pub zeros-elsewhere : (a : Answer) → (decideSaid a .refusal ≡ 0 → ⊥) → (decideSaid a .outcome ≡ 0) × (decideSaid a .policy ≡ 0)
+unfolding decideSaid
 zeros-elsewhere (Decided d) n = absurd (n refl)
 zeros-elsewhere (Refused number) n = (refl, refl)
 
 -- ---- what a text says
 
 pub answered-alike : AnsweredAlike
-unfolding AnsweredAlike answerOf
+unfolding AnsweredAlike decideAnswer
 answered-alike text text' table table' bag q same b b' = rw (begins-then text table b, begins-then text' table' b', same)

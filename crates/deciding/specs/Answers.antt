@@ -46,8 +46,8 @@ unfoldable pub heldDecide : List ℕ → List ℕ → View → Request → Answe
 heldDecide text table view q = cond (beginsOf text table) (Decided (policiesDecide view q (wordsIn text))) (Refused 20)
 
 -- the answer: the system first, with nothing else looked at; then refusals 21, 22, 23, 24 and 20; else what is decided
-unfoldable pub answerOf : List ℕ → List ℕ → List ℕ → Request → Answer
-answerOf text table bag q =
+unfoldable pub decideAnswer : List ℕ → List ℕ → List ℕ → Request → Answer
+decideAnswer text table bag q =
     cond (isSystem (q .subject)) (Decided System)
     (cond (not (isSubject (q .subject))) (Refused 21)
     (cond (not (isAction (q .action))) (Refused 22)
@@ -56,16 +56,16 @@ answerOf text table bag q =
     (cond (not (beginsOf text table)) (Refused 20) (Decided (decisionOf (viewOf bag) q (wordsIn text))))))))
 
 -- document 01's numbers: of the refusal, the outcome and the policy, with 0 for what there is none of
-pub record Said : Type 0 where
+pub record DecideSaid : Type 0 where
   pub refusal : ℕ
   pub outcome : ℕ
   pub policy : ℕ
 
 -- what an answer says in these numbers
-unfoldable pub saidOf : Answer → Said
-saidOf (Decided d) = record { refusal = 0; outcome = outcomeOf d; policy = policyOf d }
-saidOf (Refused number) = record { refusal = number; outcome = 0; policy = 0 }
+unfoldable pub decideSaid : Answer → DecideSaid
+decideSaid (Decided d) = record { refusal = 0; outcome = outcomeOf d; policy = policyOf d }
+decideSaid (Refused number) = record { refusal = number; outcome = 0; policy = 0 }
 
 -- yes: outcome 1 or 4
 unfoldable pub saysYes : Answer → Bool
-saysYes a = eqb (saidOf a .outcome) 1 || eqb (saidOf a .outcome) 4
+saysYes a = eqb (decideSaid a .outcome) 1 || eqb (decideSaid a .outcome) 4

@@ -8,7 +8,7 @@ use Prim.Native.Nat.{ℕ}
 use Rattle.compiling.specs.Promise.{Begun}
 use Rattle.bags.specs.Forms.{ABag, NoBag}
 use Rattle.meaning.specs.Targets.{Request, isSystem, isSubject, isAction, isResource}
-use Rattle.deciding.specs.Answers.{wordsIn, answerOf, saidOf}
+use Rattle.deciding.specs.Answers.{wordsIn, decideAnswer, decideSaid}
 
 -- what a call for a decision is lent: rule text and table, bag, request
 pub record DecideCall : Type 0 where
@@ -44,11 +44,11 @@ pub data DecideRefused (c : DecideCall) : ℕ → Type 0 where
 -- Each refusal is given exactly when document 01 says.
 unfoldable pub DecideRefusedExactly : Type 0
 DecideRefusedExactly = (c : DecideCall) (number : ℕ)
-    → (saidOf (answerOf (c .text) (c .table) (c .bag) (c .request)) .refusal ≡ number) ↔ DecideRefused c number
+    → (decideSaid (decideAnswer (c .text) (c .table) (c .bag) (c .request)) .refusal ≡ number) ↔ DecideRefused c number
 
 -- ---- what a text says
 
 -- Two texts that say the same, each with its table, get the same answers, wherever they say it and whatever else stands in them.
 unfoldable pub AnsweredAlike : Type 0
 AnsweredAlike = (text text' table table' bag : List ℕ) (q : Request) → wordsIn text ≡ wordsIn text' → Begun text table → Begun text' table'
-    → answerOf text table bag q ≡ answerOf text' table' bag q
+    → decideAnswer text table bag q ≡ decideAnswer text' table' bag q

@@ -7,7 +7,7 @@ ghost use Rattle.bags.specs.Sections.{Sectioned};
 ghost use Rattle.views.specs.Meaning.{look};
 ghost use Rattle.views.specs.Values.{baseBag};
 ghost use Rattle.targets.specs.Matching.{request, TypesOf};
-ghost use Rattle.deciding.specs.Answers.{answerOf, heldDecide};
+ghost use Rattle.deciding.specs.Answers.{decideAnswer, heldDecide};
 use crate::row::decision;
 use bags::sections::Divided;
 use bags::sections::Sections;
@@ -72,7 +72,7 @@ pub fn decide<'a>(
     action: &'a [u8],
     resource: &[u8],
 ) -> Answer
-    ensures { λ r. ⌜ r ≡ answerOf (now (text .entry)) (now (table .entry)) (now (bag .entry))
+    ensures { λ r. ⌜ r ≡ decideAnswer (now (text .entry)) (now (table .entry)) (now (bag .entry))
         (request (now (subject .entry)) (now (action .entry)) (now (resource .entry))) ⌝ }
 {
     if is_system(subject) {

@@ -4,7 +4,7 @@ ghost use mathlib.Core.Path.{_≡_};
 ghost use mathlib.Core.Bool.{cond};
 ghost use lib.ListN.{length};
 ghost use Rattle.bags.specs.Sections.{Sectioned};
-ghost use Rattle.stored.specs.ReadBack.{policyOf, policiesAt};
+ghost use Rattle.stored.specs.ReadBack.{policyAt, policiesAt};
 ghost use Rattle.stored.specs.Ready.{ReadyPolicies, Last};
 ghost use Rattle.views.specs.Meaning.{look};
 ghost use Rattle.views.specs.Values.{baseBag};
@@ -18,6 +18,7 @@ use bags::sections::Sections;
 use evaluating::evaluate;
 use meaning::Decision;
 use meaning::Verdict;
+use questions::sizes::MOST_COLUMNS;
 use table::Entry;
 use table::entries;
 use table::entry_at;
@@ -44,14 +45,14 @@ pub fn condition_holds<'a>(
     s: &'a [u8],
     p: Sections,
     n: usize,
-    heads: &[usize; 6],
-    values: &[usize; 6],
+    heads: &[usize; MOST_COLUMNS],
+    values: &[usize; MOST_COLUMNS],
     action: &'a [u8],
 ) -> bool
     requires { ⌜ Last (now text) (now table) end x ⌝ }
     requires { ⌜ RowStands (now s) p n (now heads) (now values) ⌝ }
     ensures { λ r. ⌜ r ≡ conditionHolds (withAction (now (action .entry)) (rowView (now (s .entry)) p n (now (heads .entry)) (now (values .entry))))
-        (policyWords (now (text .entry)) (policyOf (now (table .entry)) end x) .condition) ⌝ }
+        (policyWords (now (text .entry)) (policyAt (now (table .entry)) end x) .condition) ⌝ }
 {
     // a condition would begin before the policy's own entry
     if x.second == end - 1 {
@@ -68,7 +69,7 @@ fn is_satisfied<'a>(
     x: Entry,
     bag: &'a [u8],
     p: Sections,
-    none: &[usize; 6],
+    none: &[usize; MOST_COLUMNS],
     subject: &[u8],
     action: &'a [u8],
     resource: &[u8],
@@ -78,7 +79,7 @@ fn is_satisfied<'a>(
     requires { ⌜ Sectioned (now bag) p ⌝ }
     requires { ⌜ TypesOf types (now subject) (now resource) ⌝ }
     ensures { λ r. ⌜ r ≡ satisfied (look (baseBag (now (bag .entry)) p)) (request (now (subject .entry)) (now (action .entry)) (now (resource .entry)))
-        (policyWords (now (text .entry)) (policyOf (now (table .entry)) end x)) ⌝ }
+        (policyWords (now (text .entry)) (policyAt (now (table .entry)) end x)) ⌝ }
 {
     if !target_matches(text, table, end, x, subject, action, resource, types) {
         return false;
@@ -128,7 +129,7 @@ pub fn decision<'a>(
     ensures { λ r. ⌜ r ≡ policiesDecide (look (baseBag (now (bag .entry)) p)) (request (now (subject .entry)) (now (action .entry)) (now (resource .entry)))
         (wordsOf (now (text .entry)) (policiesAt (now (table .entry)) entries)) ⌝ }
 {
-    let none = [0usize; 6];
+    let none = [0usize; MOST_COLUMNS];
     let mut end = entries;
     let mut number = policies;
     let mut forbid = 0;

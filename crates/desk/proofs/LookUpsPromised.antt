@@ -10,7 +10,7 @@ use lib.Ieee.{Float, ofBits, eq}
 use lib.ListN.{length}
 use denote.Ref.{RefT, now}
 use Rattle.slices.specs.Same.{same}
-use Rattle.slices.specs.Order.{Before}
+use Rattle.slices.specs.Order.{SortsBefore}
 use Rattle.slices.proofs.Decided.{one-answer, no-to}
 use Rattle.slices.proofs.Order.{before-trans, not-before-itself}
 use Rattle.slices.specs.Parts.{part, IsPart}
@@ -25,10 +25,10 @@ use Rattle.bags.specs.declared.sections.Divided.the-variants.{In, Broken}
 use Rattle.bags.proofs.SectionLaws.{entry-at, section-at, sections-at}
 use Rattle.bags.proofs.Ascent.{ascending-decides}
 use Rattle.bags.proofs.ValueLaws.{Ended, string, number, flag, list, value-at}
-use Rattle.lookups.specs.Values.{nought, unit, numberOf, valueAt, Whole}
+use Rattle.lookups.specs.Values.{nought, unit, valueNumber, valueAt, ValueWhole}
 use Rattle.lookups.specs.Values as values
 use Rattle.lookups.specs.Lookups as lookups
-use Rattle.lookups.specs.Lookups.{lookIn, entryAt, sectionAt, baseOf, bagOf, divided, lookupOf, startOf, lengthOf}
+use Rattle.lookups.specs.Lookups.{lookIn, bagEntryAt, sectionAt, baseOf, bagOf, divided, lookupOf, startOf, lengthOf}
 use Rattle.lookups.specs.declared.values.Value.{Value}
 use Rattle.lookups.specs.declared.Answer.{Answer}
 use Rattle.lookups.specs.declared.Answer.the-variants.{Found, Refused}
@@ -47,19 +47,19 @@ use Rattle.desk.specs.Promises.{StringAllows, Means, a-string, a-number,
 
 -- the number is that of the kind, and what is absent has place 0
 record Told (bag : List ℕ) (v : Value) : Type 0 where
-  counted : v .number ≡ numberOf (v .kind) bag (v .place)
+  counted : v .number ≡ valueNumber (v .kind) bag (v .place)
   nowhere-then : v .kind ≡ 0 → v .place ≡ 0
 
 module _ (bag : List ℕ) where
   absent-told : Told bag values.absent
-  unfolding numberOf
+  unfolding valueNumber
   absent-told = record { counted = refl; nowhere-then = λ k. refl }
 
   value-told : (k : ℕ) → Told bag (valueAt bag k)
   unfolding valueAt
   value-told k = go (eqb (byte bag k) 0) refl
     where
-      go : (b : Bool) → eqb (byte bag k) 0 ≡ b → Told bag (cond b values.absent (record { kind = byte bag k; number = numberOf (byte bag k) bag (k + 1); place = k + 1 }))
+      go : (b : Bool) → eqb (byte bag k) 0 ≡ b → Told bag (cond b values.absent (record { kind = byte bag k; number = valueNumber (byte bag k) bag (k + 1); place = k + 1 }))
       go true q = absent-told
       go false q = record { counted = refl; nowhere-then = λ z. absurd (eqb-false (byte bag k) 0 q z) }
 
@@ -68,9 +68,9 @@ module _ (bag : List ℕ) where
   unfolding valueAt
   value-there k = go (eqb (byte bag k) 0)
     where
-      go : (b : Bool) → (cond b values.absent (record { kind = byte bag k; number = numberOf (byte bag k) bag (k + 1); place = k + 1 }) .kind ≡ 0 → ⊥)
-          → (cond b values.absent (record { kind = byte bag k; number = numberOf (byte bag k) bag (k + 1); place = k + 1 }) .kind ≡ byte bag k)
-          × (cond b values.absent (record { kind = byte bag k; number = numberOf (byte bag k) bag (k + 1); place = k + 1 }) .place ≡ k + 1)
+      go : (b : Bool) → (cond b values.absent (record { kind = byte bag k; number = valueNumber (byte bag k) bag (k + 1); place = k + 1 }) .kind ≡ 0 → ⊥)
+          → (cond b values.absent (record { kind = byte bag k; number = valueNumber (byte bag k) bag (k + 1); place = k + 1 }) .kind ≡ byte bag k)
+          × (cond b values.absent (record { kind = byte bag k; number = valueNumber (byte bag k) bag (k + 1); place = k + 1 }) .place ≡ k + 1)
       go true n = absurd (n refl)
       go false n = (refl, refl)
 
@@ -87,10 +87,10 @@ module _ (bag : List ℕ) where
 
 -- ---- what is found is the value of an entry with the path, or nothing
 
-apart : {p q : List ℕ} {ps : List (List ℕ)} → Ascending (p ∷ q ∷ ps) → Before p q × Ascending (q ∷ ps)
+apart : {p q : List ℕ} {ps : List (List ℕ)} → Ascending (p ∷ q ∷ ps) → SortsBefore p q × Ascending (q ∷ ps)
 apart (more b r) = (b, r)
 
-another : {p q path : List ℕ} → Before p q → q ≡ path → p ≡ path → ⊥
+another : {p q path : List ℕ} → SortsBefore p q → q ≡ path → p ≡ path → ⊥
 another {p} {q} b k s = let z : q ≡ p = k ∙ sym s in not-before-itself (rw z at b)
 
 behind : {p : List ℕ} {ps : List (List ℕ)} → Ascending (p ∷ ps) → Ascending ps
@@ -109,7 +109,7 @@ module _ (bag path : List ℕ) where
     somewhere : {p : Sections} {start entry : ℕ} → sectionsOf bag ≡ In p → SectionOf p root start → EntryOf bag (byte bag start) (start + 1) entry → pathAt bag entry ≡ path
         → Under root (valueAt bag (kindAt bag entry))
 
-  among-entries : (n at : ℕ) → Among n at (lookIn values.absent (each n (entryEnd bag) (entryAt bag) at) path)
+  among-entries : (n at : ℕ) → Among n at (lookIn values.absent (each n (entryEnd bag) (bagEntryAt bag) at) path)
   unfolding each lookIn
   among-entries zero at = none-there
   among-entries (suc n) at = go (entryEnd bag at) refl (among-entries n)
@@ -122,8 +122,8 @@ module _ (bag path : List ℕ) where
       pick q true k rest = one-there (the-first q) (same-decides (pathAt bag at) path .sound k)
       pick q false k rest = rest
 
-      go : (a : After) → entryEnd bag at ≡ a → ((e : ℕ) → Among n e (lookIn values.absent (each n (entryEnd bag) (entryAt bag) e) path))
-          → Among (suc n) at (lookIn values.absent (following a λ e. entryAt bag at e ∷ each n (entryEnd bag) (entryAt bag) e) path)
+      go : (a : After) → entryEnd bag at ≡ a → ((e : ℕ) → Among n e (lookIn values.absent (each n (entryEnd bag) (bagEntryAt bag) e) path))
+          → Among (suc n) at (lookIn values.absent (following a λ e. bagEntryAt bag at e ∷ each n (entryEnd bag) (bagEntryAt bag) e) path)
       go (At e) q rest = pick q (same (pathAt bag at) path) refl (later q (rest e))
       go Bad q rest = none-there
 
@@ -162,14 +162,14 @@ module _ (bag path : List ℕ) where
       record { sections = p; divided = d; start = start; section = s; entry = entry; among = m; path-is = k; kind-is = w .0; place-is = w .1 }
 
   -- an entry behind a path stands after it
-  later-after : {p : List ℕ} {n at entry : ℕ} → EntryOf bag n at entry → Ascending (p ∷ pathsOf n bag at) → Before p (pathAt bag entry)
+  later-after : {p : List ℕ} {n at entry : ℕ} → EntryOf bag n at entry → Ascending (p ∷ pathsOf n bag at) → SortsBefore p (pathAt bag entry)
   unfolding each
   later-after (the-first q) a = apart (rw q at a) .0
   later-after (a-later q m) a = let w = apart (rw q at a) in before-trans (w .0) (later-after m (w .1))
 
   -- where an entry with the path stands, its value is found: no other entry of the section has this path
   found-among : {n at entry : ℕ} → EntryOf bag n at entry → pathAt bag entry ≡ path → Ascending (pathsOf n bag at)
-      → lookIn values.absent (each n (entryEnd bag) (entryAt bag) at) path ≡ valueAt bag (kindAt bag entry)
+      → lookIn values.absent (each n (entryEnd bag) (bagEntryAt bag) at) path ≡ valueAt bag (kindAt bag entry)
   unfolding each lookIn
   found-among {at = at} (the-first {next = e} q) k a = rw (q, same-decides (pathAt bag at) path .complete k)
   found-among {at = at} (a-later {n = n} {next = e} q m) k a =
@@ -211,9 +211,9 @@ module _ (bag path : List ℕ) where
 -- ---- what is found, by its kind
 
 module _ (bag : List ℕ) (kind : ℕ) (x : Float) (place : ℕ) where
-  by-kind : (e : ℕ) → x ≡ numberOf kind bag place → Ended kind bag place e
+  by-kind : (e : ℕ) → x ≡ valueNumber kind bag place → Ended kind bag place e
       → Means bag (record { refusal = 0; kind = kind; number = x; place = place }) (datumIn bag (record { kind = kind; number = x; place = place }))
-  unfolding datumOf numberOf eq ofBits
+  unfolding datumOf valueNumber eq ofBits
   by-kind e c (string j w) = rw j (a-string refl (c ∙ rw j))
   by-kind e c (number j w) = rw j (a-number refl (c ∙ rw j))
   by-kind e c (flag j w) = rw (c, j) (go (eqb (byte bag place) 1))
@@ -223,15 +223,15 @@ module _ (bag : List ℕ) (kind : ℕ) (x : Float) (place : ℕ) where
       go false = flag-off refl refl
   by-kind e c (list j w) = rw j (a-list refl (c ∙ rw j))
 
-  absent-means : kind ≡ 0 → x ≡ numberOf kind bag place → place ≡ 0
+  absent-means : kind ≡ 0 → x ≡ valueNumber kind bag place → place ≡ 0
       → Means bag (record { refusal = 0; kind = kind; number = x; place = place }) (datumIn bag (record { kind = kind; number = x; place = place }))
-  unfolding datumOf numberOf
+  unfolding datumOf valueNumber
   absent-means k c p = rw k (none-found refl (c ∙ rw k) p)
 
-means : (bag : List ℕ) (v : Value) → Told bag v → Whole bag v → Means bag (foundAs (lookups.said (Found v))) (datumIn bag v)
+means : (bag : List ℕ) (v : Value) → Told bag v → ValueWhole bag v → Means bag (foundAs (lookups.lookupSaid (Found v))) (datumIn bag v)
 means bag v t w = go (eqb (v .kind) 0) refl
   where
-    go : (b : Bool) → eqb (v .kind) 0 ≡ b → Means bag (foundAs (lookups.said (Found v))) (datumIn bag v)
+    go : (b : Bool) → eqb (v .kind) 0 ≡ b → Means bag (foundAs (lookups.lookupSaid (Found v))) (datumIn bag v)
     go true q = let k = eqb-true (v .kind) 0 q in absent-means bag (v .kind) (v .number) (v .place) k (t .counted) (t .nowhere-then k)
     go false q = let e = w (eqb-false (v .kind) 0 q) in by-kind bag (v .kind) (v .number) (v .place) (e .0) (t .counted) (value-at (v .kind) bag (v .place) (e .0) (e .1))
 
@@ -248,8 +248,8 @@ module _ (bag : List ℕ) (root : ℕ) (path : List ℕ) where
       v : Value
       v = lookIn values.absent (bagOf bag root) path
 
-      go : (b : Bool) → (foundAs (lookups.said (cond b (Found v) (Refused 24))) .kind ≡ 0 → ⊥)
-          → StandsIn bag root path (foundAs (lookups.said (cond b (Found v) (Refused 24))) .kind) (foundAs (lookups.said (cond b (Found v) (Refused 24))) .place)
+      go : (b : Bool) → (foundAs (lookups.lookupSaid (cond b (Found v) (Refused 24))) .kind ≡ 0 → ⊥)
+          → StandsIn bag root path (foundAs (lookups.lookupSaid (cond b (Found v) (Refused 24))) .kind) (foundAs (lookups.lookupSaid (cond b (Found v) (Refused 24))) .place)
       go true n = stands-in bag path (under-bag bag path root) n
       go false n = absurd (n refl)
 
@@ -278,7 +278,7 @@ module _ (bag : List ℕ) (root : ℕ) (path : List ℕ) where
   unfolding lookupSays stringSays startOf lengthOf
   string-empty = go (lookupOf bag root path)
     where
-      go : (a : Answer) → (foundAs (lookups.said a) .kind ≡ 1 → ⊥) → _≡_ {A = DeskString} (record { start = startOf a; length = lengthOf bag a }) (record { start = 0; length = 0 })
+      go : (a : Answer) → (foundAs (lookups.lookupSaid a) .kind ≡ 1 → ⊥) → _≡_ {A = DeskString} (record { start = startOf a; length = lengthOf bag a }) (record { start = 0; length = 0 })
       go (Found v) n = rw (ne-eqb (v .kind) 1 n)
       go (Refused m) n = refl
 
@@ -291,7 +291,7 @@ module _ (bag : List ℕ) (root : ℕ) (path : List ℕ) where
       v : Value
       v = lookIn values.absent (bagOf bag root) path
 
-      go : (b : Bool) → isBag bag ≡ b → foundAs (lookups.said (cond b (Found v) (Refused 24))) .kind ≡ 1
+      go : (b : Bool) → isBag bag ≡ b → foundAs (lookups.lookupSaid (cond b (Found v) (Refused 24))) .kind ≡ 1
           → (viewOf bag root path ≡ text (part bag (startOf (cond b (Found v) (Refused 24))) (lengthOf bag (cond b (Found v) (Refused 24)))))
           × (startOf (cond b (Found v) (Refused 24)) + lengthOf bag (cond b (Found v) (Refused 24)) ≤ length bag)
       go true form k = rw (← bag-means bag path root, k) (refl, string-inside bag root path v (sym (found bag root path form)) k)
@@ -302,7 +302,7 @@ module _ (bag : List ℕ) (root : ℕ) (path : List ℕ) where
   unfolding lookupSays stringSays startOf lengthOf
   string-placed = go (lookupOf bag root path)
     where
-      go : (a : Answer) → foundAs (lookups.said a) .kind ≡ 1 → (startOf a ≡ foundAs (lookups.said a) .place + 1) × (lengthOf bag a ≡ byte bag (foundAs (lookups.said a) .place))
+      go : (a : Answer) → foundAs (lookups.lookupSaid a) .kind ≡ 1 → (startOf a ≡ foundAs (lookups.lookupSaid a) .place + 1) × (lengthOf bag a ≡ byte bag (foundAs (lookups.lookupSaid a) .place))
       go (Found v) k = let e : v .kind ≡ 1 = k in rw e (refl, refl)
       go (Refused n) k = absurd (omega arith)
 

@@ -19,7 +19,7 @@ use Rattle.tokens.proofs.FormLaws.{mark-passes}
 use Rattle.tokens.proofs.KindLaws.{kind-among}
 use Rattle.tokens.proofs.ReadLaws.{reads}
 use Rattle.tokens.proofs.Longest.{longest-token}
-use Rattle.reading.specs.Lexemes.{Lexeme, lexeme, choose, following, tokensUpTo, tokensFrom, tokensOf}
+use Rattle.reading.specs.Lexemes.{Lexeme, lexeme, choose, tokensAfter, tokensUpTo, tokensFrom, tokensOf}
 use Rattle.reading.proofs.Listed.{tokens-are}
 use Rattle.grammar.specs.Lowest.{Applies, no-token, reserved, bare, no-type, not-admitted, limit, AppliesAt, token, end}
 use Rattle.placing.specs.Placed.{Each, none-left, and-each}
@@ -51,7 +51,7 @@ record Kinded (x : Lexeme) : Type 0 where
   low : 3 ≤ x .kind
 
 kinded : (text : List ℕ) (n at : ℕ) → at ≤ length text → Each Kinded (tokensUpTo n text at)
-unfolding tokensUpTo following choose
+unfolding tokensUpTo tokensAfter choose
 kinded text zero at h = none-left
 kinded text (suc n) at h = go (eqb (tokenAt text at .kind) 0) refl (kinded text n (tokenAt text at .end) (reads text at h .high))
   where

@@ -28,7 +28,7 @@ use Rattle.meaning.specs.Decisions as meaning
 use Rattle.meaning.specs.declared.Decision.{Decision}
 use Rattle.meaning.specs.declared.Decision.the-variants.{Allowed, Forbidden, Nothing, System}
 use Rattle.meaning.proofs.Deciding as meaning-proofs
-use Rattle.deciding.specs.Answers.{wordsIn, viewIn, viewOf, answerOf, saidOf}
+use Rattle.deciding.specs.Answers.{wordsIn, viewIn, viewOf, decideAnswer, decideSaid}
 use Rattle.deciding.specs.Promise.{DecideCall, Wellformed, RequestRefused, bad-subject, bad-action, bad-resource, DecideRefused, never-the-system, bad-request, no-bag, not-compiled, none-wrong, DecideRefusedExactly, AnsweredAlike}
 use Rattle.deciding.specs.declared.Answer.the-variants.{Decided}
 use Rattle.deciding.proofs.Answering.{the-system}
@@ -260,7 +260,7 @@ module _ (c : DecideCall) where
 
   pub decide-zeros : (decisionFor c .refusal ≡ 0 → ⊥) → (decisionFor c .outcome ≡ 0) × (decisionFor c .policy ≡ 0)
   unfolding decideSays
-  decide-zeros = zeros-elsewhere (answerOf (c .text) (c .table) (c .bag) (c .request))
+  decide-zeros = zeros-elsewhere (decideAnswer (c .text) (c .table) (c .bag) (c .request))
 
   -- ---- a request that is not refused
 
@@ -286,13 +286,13 @@ module _ (c : DecideCall) where
   abbrev decision-there : Decision
   decision-there = decidedOver (c .text) view (c .request)
 
-  answered : Heard → answerOf (c .text) (c .table) (c .bag) (c .request) ≡ Decided decision-there
-  unfolding answerOf decisionOf
+  answered : Heard → decideAnswer (c .text) (c .table) (c .bag) (c .request) ≡ Decided decision-there
+  unfolding decideAnswer decisionOf
   answered (of-the-system s) = rw s
   answered (of-another f w b) = rw (f .other, f .subject-is, f .action-is, f .resource-is, bag-exactly (c .bag) .1 w, begins-then (c .text) (c .table) b)
 
   outcome-told : Heard → (decisionFor c .outcome ≡ outcomeOf decision-there) × (decisionFor c .policy ≡ policyOf decision-there)
-  unfolding decideSays saidOf
+  unfolding decideSays decideSaid
   outcome-told h = rw (answered h) (refl, refl)
 
   outcome-there : Heard → OutcomeIs (c .text) view (c .request) (outcomeOf decision-there) (policyOf decision-there)
@@ -339,7 +339,7 @@ module _ (c : DecideCall) where
       (λ x. g .0 (y .1 x), λ x. y .0 (g .1 x))
 
   pub system-names-none : isSystem (c .request .subject) ≡ true → decisionFor c ≡ record { refusal = 0; outcome = 4; policy = 0 }
-  unfolding decideSays saidOf outcomeOf policyOf
+  unfolding decideSays decideSaid outcomeOf policyOf
   system-names-none s = rw (← the-system (c .text) (c .table) (c .bag) (c .request) s)
 
 -- ---- look-ups
@@ -354,7 +354,7 @@ module _ (bag : List ℕ) (root : ℕ) (path : List ℕ) where
   unfolding lookupSays lookupOf
   looked = go (isBag bag) refl
     where
-      go : (b : Bool) → isBag bag ≡ b → Looked (foundAs (lookups.said (cond b (Found (lookIn absent (bagOf bag root) path)) (Refused 24))))
+      go : (b : Bool) → isBag bag ≡ b → Looked (foundAs (lookups.lookupSaid (cond b (Found (lookIn absent (bagOf bag root) path)) (Refused 24))))
       go true e = looked-up e
       go false e = refused-there e
 

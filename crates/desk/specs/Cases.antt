@@ -6,6 +6,7 @@ use Prim.Native.String.{String}
 use lib.ListN.{length, take}
 use Rattle.slices.specs.Ascii.{bytes}
 use Rattle.compiling.specs.Promise.{bytesFor}
+use Rattle.compiling.specs.Outcome.{roomFor}
 use Rattle.meaning.specs.Targets.{Request}
 use Rattle.bags.specs.Forms.{Contents, BagBytes}
 use Rattle.questions.specs.Forms.{Column, QuestionBytes}
@@ -17,13 +18,13 @@ use Rattle.desk.specs.declared.DeskCompiled.{DeskCompiled}
 use Rattle.desk.specs.declared.DeskDecision.{DeskDecision}
 
 -- a table of n bytes
-abbrev pub blank : ℕ → List ℕ
-blank zero = []
-blank (suc n) = 0 ∷ blank n
+abbrev pub zeros : ℕ → List ℕ
+zeros zero = []
+zeros (suc n) = 0 ∷ zeros n
 
 -- what compiling answers where just enough table is lent
 abbrev pub compiled : List ℕ → DeskCompiled
-compiled text = compileSays text (blank (8 * length text))
+compiled text = compileSays text (zeros (roomFor text))
 
 -- a refusal with its line and column
 abbrev pub refusedAt : ℕ → ℕ → ℕ → DeskCompiled
@@ -93,8 +94,8 @@ gradeThree = (1 ∷ 5 ∷ []) ++ bytes "grade" ++ (2 ∷ 0 ∷ 0 ∷ 0 ∷ 0 ∷
 pub record WorkedExample : Type 0 where
   -- rows 9; 3 1 1; 4 1 1; allowed 2
   pub rows : rowsSay question ≡ 9
-  pub listed : sheetSays rules (bytesFor rules) question K7 0 (blank 54) 0 ≡ record { refusal = 0; written = 2; next = 9 }
-  pub written : take 12 (sheetLeaves rules (bytesFor rules) question K7 0 (blank 54) 0) ≡ 3 ∷ 0 ∷ 0 ∷ 0 ∷ 1 ∷ 1 ∷ 4 ∷ 0 ∷ 0 ∷ 0 ∷ 1 ∷ 1 ∷ []
+  pub listed : sheetSays rules (bytesFor rules) question K7 0 (zeros 54) 0 ≡ record { refusal = 0; written = 2; next = 9 }
+  pub written : take 12 (sheetLeaves rules (bytesFor rules) question K7 0 (zeros 54) 0) ≡ 3 ∷ 0 ∷ 0 ∷ 0 ∷ 1 ∷ 1 ∷ 4 ∷ 0 ∷ 0 ∷ 0 ∷ 1 ∷ 1 ∷ []
   -- row 3, second choice and first, is the bag that knows grade 3 and nothing else, and is decided so
   pub row-three : (contents base : Contents) (columns : List Column) → BagBytes gradeThree contents → QuestionBytes question base columns
       → (rowOf (counts columns) (1 ∷ 0 ∷ []) ≡ 3) × Shows contents base columns (1 ∷ 0 ∷ [])

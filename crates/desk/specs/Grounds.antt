@@ -13,9 +13,10 @@ use Rattle.slices.specs.Decides.{Decides}
 use Rattle.tokens.specs.Forms.{StandsAt}
 use Rattle.tokens.specs.Tokens.{tokenAt}
 use Rattle.tokens.specs.declared.reader.Token.{Token}
+use Rattle.tokens.specs.Sizes.{mostDigits}
 use Rattle.reading.specs.Listed.{Lexeme, TokensOf}
 use Rattle.reading.specs.Lexemes.{tokensOf}
-use Rattle.numbers.specs.Literals.{Literal, WellFormed, written, signed, quotient, allDigits, places, numberIn}
+use Rattle.numbers.specs.Literals.{NumberLiteral, WellFormed, written, signed, quotient, allDigits, places, numberIn}
 use Rattle.patterns.specs.Like.{Matches}
 use Rattle.patterns.specs.Likes.{likes}
 use Rattle.grammar.specs.Policies.{Policy}
@@ -34,6 +35,7 @@ use Rattle.bags.specs.declared.sections.Divided.the-variants.{In}
 use Rattle.lookups.specs.Values.{nought}
 use Rattle.questions.specs.Questions.{Question, headOf, cell, isQuestion}
 use Rattle.questions.specs.Forms.{Column, QuestionBytes, AQuestion}
+use Rattle.questions.specs.Sizes.{mostColumns, mostCandidates}
 use Rattle.views.specs.Meaning.{Datum, Bag, asBag, Chosen, present, look, hasPath, rowBag, columnsFirst}
 use Rattle.views.specs.Rows.{rowView, bagOfRow, Chooses, pickedAll}
 use Rattle.deciding.specs.Answers.{viewOf}
@@ -48,12 +50,12 @@ notThere = record { refusal = 0; kind = 0; number = nought; place = 0 }
 
 -- the places that code holds for a row of a question: where its columns start, where each candidate's kind byte stands, and where the chosen ones' do;
 -- six columns, eight candidates
-pub record Held (question : List ℕ) (p : Sections) (choices heads : List ℕ) (grid : List (List ℕ)) (values : List ℕ) : Type 0 where
+pub record RowHeld (question : List ℕ) (p : Sections) (choices heads : List ℕ) (grid : List (List ℕ)) (values : List ℕ) : Type 0 where
   pub is-question : Question question p
   pub chooses : Chooses (columnsIn question p) question (firstIn p) choices
-  pub heads-are : (i : ℕ) → i < 6 → getD heads i 0 ≡ cond (ltb i (columnsIn question p)) (headOf question (firstIn p) i) 0
-  pub grid-is : (i j : ℕ) → i < 6 → j < 8 → getD (getD grid i []) j 0 ≡ cell question (firstIn p) (columnsIn question p) i j
-  pub values-are : (i : ℕ) → i < 6 → getD values i 0 ≡ cond (ltb i (columnsIn question p)) (getD (getD grid i []) (getD choices i 0) 0) 0
+  pub heads-are : (i : ℕ) → i < mostColumns → getD heads i 0 ≡ cond (ltb i (columnsIn question p)) (headOf question (firstIn p) i) 0
+  pub grid-is : (i j : ℕ) → i < mostColumns → j < mostCandidates → getD (getD grid i []) j 0 ≡ cell question (firstIn p) (columnsIn question p) i j
+  pub values-are : (i : ℕ) → i < mostColumns → getD values i 0 ≡ cond (ltb i (columnsIn question p)) (getD (getD grid i []) (getD choices i 0) 0) 0
 
 -- the theorems, each after document 01's words
 pub record Grounds : Type 0 where
@@ -64,9 +66,9 @@ pub record Grounds : Type 0 where
   pub tokens-stand : (text : List ℕ) → TokensOf text 0 (tokensOf text)
   pub one-list : (text : List ℕ) (ts us : List Lexeme) → TokensOf text 0 ts → TokensOf text 0 us → ts ≡ us
   -- A number literal of digits N with k after the point: its value is N divided by ten to the k, rounded once to binary64, negated under a minus.
-  pub written-value : (l : Literal) → WellFormed l → numberIn (written l) ≡ signed (l .negative) (quotient (allDigits l) (places l))
+  pub written-value : (l : NumberLiteral) → WellFormed l → numberIn (written l) ≡ signed (l .negative) (quotient (allDigits l) (places l))
   -- the one division of two whole numbers is that quotient
-  pub rounded-once : (n k : ℕ) → n ≤ 10 ^ 15 → k ≤ 15 → div binary64 (ofInt binary64 (pos n)) (ofInt binary64 (pos (10 ^ k))) ≡ quotient n k
+  pub rounded-once : (n k : ℕ) → n ≤ 10 ^ mostDigits → k ≤ mostDigits → div binary64 (ofInt binary64 (pos n)) (ofInt binary64 (pos (10 ^ k))) ≡ quotient n k
   -- `like` matches as document 01 says.
   pub likes-decides : (pattern s : List ℕ) → Decides (Matches pattern s) (likes pattern s)
   -- The strings, numbers and paths of a text's policies lie in the text and have their forms and sizes there.
@@ -98,7 +100,7 @@ pub record Grounds : Type 0 where
       → look (rowBag base columns) root path ≡ columnsFirst columns (look base) root path
   -- So does what code shows of a row, by the places that it holds.
   pub row-shows : (question : List ℕ) (p : Sections) (choices heads : List ℕ) (grid : List (List ℕ)) (values : List ℕ) (root : ℕ) (path : List ℕ)
-      → Held question p choices heads grid values
+      → RowHeld question p choices heads grid values
       → rowView question p (columnsIn question p) heads values root path ≡ look (bagOfRow question p (columnsIn question p) (firstIn p) choices) root path
   -- `has`: an entry with exactly that path, in a bag (a row without columns) and in a row.
   pub has-is-presence : (s : List ℕ) (p : Sections) (n at : ℕ) (choices : List ℕ) (root : ℕ) (path : List ℕ) → sectionsOf s ≡ In p

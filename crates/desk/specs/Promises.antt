@@ -11,10 +11,11 @@ use Prim.Native.Nat.{ℕ, suc, _+_, _*_, _≤_, _<_}
 use lib.ListN.{length, take, drop}
 use denote.Ref.{RefT, now}
 use Rattle.slices.specs.Parts.{IsPart, part}
+use Rattle.tokens.specs.Sizes.{mostTextBytes, mostPolicies}
 use Rattle.numbers.specs.Bits.{numberAt}
 use Rattle.grammar.specs.Policies.{Policy}
 use Rattle.grammar.specs.Grammar.{SaysPolicies}
-use Rattle.compiling.specs.Outcome.{mostBytes, roomFor, compiledBytes, spot}
+use Rattle.compiling.specs.Outcome.{roomFor, compiledBytes, spot}
 use Rattle.compiling.specs.Promise.{RefusedThere, Begun}
 use Rattle.bags.specs.Forms.{Contents, BagBytes, NoBag}
 use Rattle.bags.specs.Reading.{byte}
@@ -24,6 +25,7 @@ use Rattle.bags.specs.declared.sections.Sections.{Sections}
 use Rattle.bags.specs.declared.sections.Divided.the-variants.{In}
 use Rattle.questions.specs.Forms.{Column, QuestionBytes, NoQuestion}
 use Rattle.questions.specs.Questions.{product}
+use Rattle.questions.specs.Sizes.{mostRows}
 use Rattle.views.specs.Meaning as views
 use Rattle.views.specs.Meaning.{View, Datum, asBag, look, rowBag}
 use Rattle.views.specs.Values.{stringAt, listAt}
@@ -67,7 +69,7 @@ pub record DemandOne : Type 0 where
 
 -- the text has at most 8,192 bytes, and it is a rule text that says these policies
 pub record Says (text : List ℕ) (ps : List Policy) : Type 0 where
-  pub short : length text ≤ mostBytes
+  pub short : length text ≤ mostTextBytes
   pub belongs : SaysPolicies text ps
 
 -- the text is a rule text within the limits
@@ -139,7 +141,7 @@ pub record DemandTwo : Type 0 where
       → OutcomeIs text view q outcome policy → OutcomeIs text view q outcome′ policy′ → (outcome ≡ outcome′) × (policy ≡ policy′)
   pub system-names-none : (c : DecideCall) → isSystem (c .request .subject) ≡ true → decisionFor c ≡ record { refusal = 0; outcome = 4; policy = 0 }
   -- a text has at most 64 policies, so that a policy's number fits its byte in a sheet
-  pub policy-few : (text : List ℕ) (view : View) (q : Request) (outcome policy : ℕ) → OutcomeIs text view q outcome policy → policy ≤ 64
+  pub policy-few : (text : List ℕ) (view : View) (q : Request) (outcome policy : ℕ) → OutcomeIs text view q outcome policy → policy ≤ mostPolicies
   -- the words that the policies say decide, without the text's other bytes: two texts that say the same, each with its table, get the same decisions
   pub words-decide : (text text′ table table′ bag : List ℕ) (q : Request) → SayAlike text text′ → Begun text table → Begun text′ table′
       → decideSays text table bag q ≡ decideSays text′ table′ bag q
@@ -223,7 +225,7 @@ pub record DemandThree : Type 0 where
   -- a question has as many rows as its columns' candidates have combinations, at most 262,144
   pub rows-counted : (question : List ℕ) (base : Contents) (columns : List Column) → QuestionBytes question base columns
       → rowsSay question ≡ product (counts columns)
-  pub rows-few : (question : List ℕ) → rowsSay question ≤ 262144
+  pub rows-few : (question : List ℕ) → rowsSay question ≤ mostRows
   -- each combination has a row of its own, each row is a combination's, and the combination that comes first has the lower row
   pub row-within : (ns choices : List ℕ) → Combination ns choices → rowOf ns choices < product ns
   pub row-there : (ns : List ℕ) (row : ℕ) → row < product ns → Combination ns (choicesAt ns row) × (rowOf ns (choicesAt ns row) ≡ row)
@@ -231,7 +233,7 @@ pub record DemandThree : Type 0 where
   pub first-slowest : (ns choices choices′ : List ℕ) → Combination ns choices → Combination ns choices′
       → Sooner choices choices′ ↔ (rowOf ns choices < rowOf ns choices′)
   -- the four bytes of a row say its number
-  pub row-read : (row outcome policy : ℕ) → row ≤ 262144 → littleEndian (take 4 (sixBytes row outcome policy)) ≡ row
+  pub row-read : (row outcome policy : ℕ) → row ≤ mostRows → littleEndian (take 4 (sixBytes row outcome policy)) ≡ row
   -- whoever follows the pages gets on, is refused no page, and gets to the last row
   pub goes-on : (c : SheetCall) → pageFor c .refusal ≡ 0
       → (c .start < rowsSay (c .question) → c .start < pageFor c .next) × (pageFor c .next ≤ rowsSay (c .question))
@@ -314,10 +316,10 @@ pub record LookUps : Type 0 where
 
 -- when each number is given, and what stands beside it
 pub record Refusals : Type 0 where
-  pub too-long : (text table : List ℕ) → (compileSays text table .refusal ≡ 1) ↔ (mostBytes < length text)
-  pub no-room : (text table : List ℕ) → (compileSays text table .refusal ≡ 2) ↔ ((length text ≤ mostBytes) × (length table < roomFor text))
+  pub too-long : (text table : List ℕ) → (compileSays text table .refusal ≡ 1) ↔ (mostTextBytes < length text)
+  pub no-room : (text table : List ℕ) → (compileSays text table .refusal ≡ 2) ↔ ((length text ≤ mostTextBytes) × (length table < roomFor text))
   -- 3 to 16, where the sizes are right: exactly by the number, at the line and column, of the one token at which a rule is first broken
-  pub token-exactly : (text table : List ℕ) (number line column : ℕ) → length text ≤ mostBytes → roomFor text ≤ length table → 2 < number
+  pub token-exactly : (text table : List ℕ) (number line column : ℕ) → length text ≤ mostTextBytes → roomFor text ≤ length table → 2 < number
       → (compileSays text table ≡ record { refusal = number; line = line; column = column; policies = 0; bytes = 0 })
       ↔ RefusedThere text number (spot line column)
   pub decide-exactly : (c : DecideCall) (number : ℕ) → (decisionFor c .refusal ≡ number) ↔ DecideRefused c number

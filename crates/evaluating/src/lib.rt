@@ -10,6 +10,7 @@ ghost use Rattle.evaluating.specs.Ways.{Settling, firstMet, partMet, end
 use bags::sections::Sections;
 use meaning::Verdict;
 use operators::flat;
+use questions::sizes::MOST_COLUMNS;
 use table::Entry;
 use table::entries;
 use table::entry_in;
@@ -202,8 +203,8 @@ fn evaluate_by<'a>(
     s: &'a [u8],
     p: Sections,
     n: usize,
-    heads: &[usize; 6],
-    values: &[usize; 6],
+    heads: &[usize; MOST_COLUMNS],
+    values: &[usize; MOST_COLUMNS],
     action: &'a [u8],
 ) -> Verdict
     requires { ⌜ Ready (now text) (now table) end ⌝ }
@@ -261,8 +262,8 @@ pub fn evaluate<'a>(
     s: &'a [u8],
     p: Sections,
     n: usize,
-    heads: &[usize; 6],
-    values: &[usize; 6],
+    heads: &[usize; MOST_COLUMNS],
+    values: &[usize; MOST_COLUMNS],
     action: &'a [u8],
 ) -> Verdict
     requires { ⌜ Ready (now text) (now table) end ⌝ }

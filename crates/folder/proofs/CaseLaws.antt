@@ -6,7 +6,7 @@ use native.Mathlib.Omega.{arith}
 use lib.ListN.{length, getD, take, drop, length-drop, drop-of-length-le, List·getD-eq-default}
 use lib.Seq.{drop-drop, drop-nil, take-nil, take-all, getD-drop}
 use Rattle.folder.specs.declared.cases.Part.{Part}
-use Rattle.folder.specs.Cases.{sizeOf, partOf, behind, Case, caseOf, pastCase, casesIn, casesOf, PartAt}
+use Rattle.folder.specs.Cases.{partSize, partOf, behindPart, Case, caseOf, pastCase, casesIn, casesOf, PartAt}
 
 -- ---- a part
 
@@ -19,7 +19,7 @@ module _ (s : List ℕ) (at : ℕ) where
   past-part : (size : ℕ) → drop (2 + size) (drop at s) ≡ drop (at + 2 + size) s
   past-part size = let e : at + (2 + size) ≡ at + 2 + size = omega arith in drop-drop (2 + size) at s ∙ ap (λ (n : ℕ). drop n s) e
 
-  size-there : {low high : ℕ} → low ≡ getD s at 0 → high ≡ getD s (at + 1) 0 → sizeOf (drop at s) ≡ low + 256 * high
+  size-there : {low high : ℕ} → low ≡ getD s at 0 → high ≡ getD s (at + 1) 0 → partSize (drop at s) ≡ low + 256 * high
   size-there {low} {high} e f =
       let z : at + 0 ≡ at = omega arith in
       let g : getD (drop at s) 0 0 ≡ low = getD-drop at s 0 0 ∙ ap (λ (n : ℕ). getD s n 0) z ∙ sym e in
@@ -28,10 +28,10 @@ module _ (s : List ℕ) (at : ℕ) where
 
   -- where less than a length is left, the part is empty
   pub no-part : at ≤ length s → length s - at < 2 → PartAt s at (record { start = length s; end = length s })
-  unfolding partOf behind
+  unfolding partOf behindPart
   no-part h short =
       let none : drop 2 (drop at s) ≡ [] = past-length ∙ drop-of-length-le s {i = at + 2} (omega arith) in
-      let size : ℕ = sizeOf (drop at s) in
+      let size : ℕ = partSize (drop at s) in
       let gone : drop (2 + size) (drop at s) ≡ [] = past-part size ∙ drop-of-length-le s {i = at + 2 + size} (omega arith) in
       let here : drop (length s) s ≡ [] = drop-of-length-le s {i = length s} (omega arith) in
       record {
@@ -46,7 +46,7 @@ module _ (s : List ℕ) (at : ℕ) where
   module _ {low high : ℕ} (e : low ≡ getD s at 0) (f : high ≡ getD s (at + 1) 0) (room : 2 ≤ length s - at) where
     -- a part that is cut short ends where the bytes end
     pub part-cut : length s - at - 2 < low + 256 * high → PartAt s at (record { start = at + 2; end = length s })
-    unfolding partOf behind
+    unfolding partOf behindPart
     part-cut short =
         let size = size-there e f in
         let here : drop (length s) s ≡ [] = drop-of-length-le s {i = length s} (omega arith) in
@@ -63,7 +63,7 @@ module _ (s : List ℕ) (at : ℕ) where
 
     -- a whole one
     pub part-whole : low + 256 * high ≤ length s - at - 2 → PartAt s at (record { start = at + 2; end = at + 2 + (low + 256 * high) })
-    unfolding partOf behind
+    unfolding partOf behindPart
     part-whole long =
         let size = size-there e f in
         let n : at + 2 + (low + 256 * high) - (at + 2) ≡ low + 256 * high = omega arith in
@@ -79,13 +79,13 @@ module _ (s : List ℕ) (at : ℕ) where
 -- ---- cases
 
 -- the bytes behind a case are fewer
-shorter : (s : List ℕ) → length (behind s) ≤ length s - 2
-unfolding behind
-shorter s = omega (arith, length-drop (2 + sizeOf s) s)
+shorter : (s : List ℕ) → length (behindPart s) ≤ length s - 2
+unfolding behindPart
+shorter s = omega (arith, length-drop (2 + partSize s) s)
 
 fewer : (s : List ℕ) → length (pastCase s) ≤ length s - 2
 unfolding pastCase
-fewer s = omega (arith, shorter s, shorter (behind s), shorter (behind (behind s)), shorter (behind (behind (behind s))))
+fewer s = omega (arith, shorter s, shorter (behindPart s), shorter (behindPart (behindPart s)), shorter (behindPart (behindPart (behindPart s))))
 
 -- more turns than bytes make no difference
 same-cases : (turns more : ℕ) (s : List ℕ) → length s ≤ turns → length s ≤ more → casesIn turns s ≡ casesIn more s
@@ -124,4 +124,4 @@ module _ {s : List ℕ} {at : ℕ} {p q r t : Part} (subject : PartAt s at p) (a
 
   pub case-past : drop (t .end) s ≡ pastCase (drop at s)
   unfolding pastCase
-  case-past = bag .rest ∙ ap behind (resource .rest ∙ ap behind (action .rest ∙ ap behind (subject .rest)))
+  case-past = bag .rest ∙ ap behindPart (resource .rest ∙ ap behindPart (action .rest ∙ ap behindPart (subject .rest)))

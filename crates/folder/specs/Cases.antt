@@ -6,16 +6,16 @@ use lib.ListN.{length, getD, take, drop}
 use Rattle.folder.specs.declared.cases.Part.{Part}
 
 -- the length of the first part, the low byte first; a byte that is missing counts as 0
-abbrev pub sizeOf : List ℕ → ℕ
-sizeOf s = getD s 0 0 + 256 * getD s 1 0
+abbrev pub partSize : List ℕ → ℕ
+partSize s = getD s 0 0 + 256 * getD s 1 0
 
 -- the first part: so many bytes behind its length, or as many as there are
 unfoldable pub partOf : List ℕ → List ℕ
-partOf s = take (sizeOf s) (drop 2 s)
+partOf s = take (partSize s) (drop 2 s)
 
 -- the bytes behind it
-unfoldable pub behind : List ℕ → List ℕ
-behind s = drop (2 + sizeOf s) s
+unfoldable pub behindPart : List ℕ → List ℕ
+behindPart s = drop (2 + partSize s) s
 
 -- what is asked: a request of three parts, over a bag
 pub record Case : Type 0 where
@@ -26,11 +26,16 @@ pub record Case : Type 0 where
 
 -- the first case: its parts in this order
 unfoldable pub caseOf : List ℕ → Case
-caseOf s = record { subject = partOf s; action = partOf (behind s); resource = partOf (behind (behind s)); bag = partOf (behind (behind (behind s))) }
+caseOf s = record {
+  subject = partOf s;
+  action = partOf (behindPart s);
+  resource = partOf (behindPart (behindPart s));
+  bag = partOf (behindPart (behindPart (behindPart s)));
+}
 
 -- the bytes behind it
 unfoldable pub pastCase : List ℕ → List ℕ
-pastCase s = behind (behind (behind (behind s)))
+pastCase s = behindPart (behindPart (behindPart (behindPart s)))
 
 -- the cases one after the other, as long as there are bytes, and at most so many
 unfoldable pub casesIn : ℕ → List ℕ → List Case
@@ -45,7 +50,7 @@ casesOf s = casesIn (length s) s
 -- the part that starts at a place lies inside the bytes, and the bytes behind it are those from its end on
 pub record PartAt (s : List ℕ) (at : ℕ) (p : Part) : Type 0 where
   pub bytes : take (p .end - p .start) (drop (p .start) s) ≡ partOf (drop at s)
-  pub rest : drop (p .end) s ≡ behind (drop at s)
+  pub rest : drop (p .end) s ≡ behindPart (drop at s)
   pub low : at ≤ p .start
   pub within : p .start ≤ p .end
   pub high : p .end ≤ length s

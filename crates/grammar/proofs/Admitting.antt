@@ -11,17 +11,18 @@ use borrow.Author.Tests.{eqb-true, eqb-false}
 use Rattle.slices.specs.Same as strings
 use Rattle.tokens.specs.Kinds as kinds
 use Rattle.tokens.proofs.TokenLaws.{never, and-left, and-right, or-cases}
+use Rattle.tokens.specs.Sizes.{mostLiterals}
 use Rattle.reading.specs.Lexemes.{Lexeme, is}
 use Rattle.reading.specs.Reads.{Chain.alone, Chain.more}
 use Rattle.reading.specs.Reader.{Answer, took, refuse}
 use Rattle.reading.proofs.Readers.{goes-took, goes-refused}
 use Rattle.reading.proofs.Local.{Alike, same}
 use Rattle.grammar.specs.Policies.{Root, Operand, Policy}
-use Rattle.grammar.specs.Rules.{principalTypes, resourceTypes, typeAmong, isRoot, rootOf, mostLiterals}
+use Rattle.grammar.specs.Rules.{principalTypes, resourceTypes, typeAmong, isRoot, rootOf}
 use Rattle.grammar.specs.Grammar.{lifting, Beyond, sizesBefore, unlimited, Path, first, next, APath, Attribute, rooted, RuleText}
 use Rattle.grammar.specs.Parser.{read-text}
-use Rattle.grammar.specs.Numbers.{behind, atName, atType, atPattern, afterPolicy, atCondition, leftRoot, afterLeft, afterAction, oneMore, numberOf, numberAt, NumberedRightly}
-use Rattle.grammar.specs.Promise.{Sofar, RefusedRightly, AcceptedExactly}
+use Rattle.grammar.specs.Numbers.{lastPasses, atName, atType, atPattern, afterPolicy, atCondition, leftRoot, afterLeft, afterAction, oneMore, numberOfToken, numberOfFirst, NumberedRightly}
+use Rattle.grammar.specs.Promise.{Sofar, RefusedRightly, TokensAcceptedExactly}
 use Rattle.grammar.specs.Lowest.{Under, Admitted, SomeAdmitted, NameMustStand, EndsInOperand}
 use Rattle.grammar.proofs.Begun.{made, Exempt}
 use Rattle.grammar.proofs.Viable.{Opened, viable-text}
@@ -116,8 +117,8 @@ where-cut (x ∷ b) y (q ∷ p) r e = go (where-cut b y p r (cc))
     go (before-last h k) = before-last (rw (f, h)) k
     go (sooner z t u h k) = sooner z t u h (rw (f, k))
 
-pub by-number : (b : List Lexeme) (y : Lexeme) → Sofar b → 11 ≤ numberOf (reverse b) y → Admitted b y
-unfolding AcceptedExactly RefusedRightly NumberedRightly numberAt
+pub by-number : (b : List Lexeme) (y : Lexeme) → Sofar b → 11 ≤ numberOfToken (reverse b) y → Admitted b y
+unfolding TokensAcceptedExactly RefusedRightly NumberedRightly numberOfFirst
 by-number b y alive l = go (read-text (b ++ y ∷ [])) refl
   where
     go : (a : Answer (List Policy)) → read-text (b ++ y ∷ []) ≡ a → Admitted b y
@@ -143,18 +144,18 @@ some-row true l m h k = h
 some-row false l m h k = k
 
 name-no-type : (c : List Lexeme) → atName c ≡ true → atType c ≡ false
-unfolding behind
+unfolding lastPasses
 name-no-type [] e = absurd (never e)
 name-no-type (y ∷ c) e = ⊎-elim (λ (f : is kinds.dot y ≡ true). rw (eqb-true (y .kind) kinds.dot f)) (λ (f : is kinds.hasWord y ≡ true). rw (eqb-true (y .kind) kinds.hasWord f)) (or-cases (is kinds.dot y) (is kinds.hasWord y) e)
 
-name-limited : (c : List Lexeme) (y : Lexeme) → atName c ≡ true → y .kind ≡ kinds.name → 11 ≤ numberOf c y
-unfolding numberOf
+name-limited : (c : List Lexeme) (y : Lexeme) → atName c ≡ true → y .kind ≡ kinds.name → 11 ≤ numberOfToken c y
+unfolding numberOfToken
 name-limited c y a e =
     rw (e, a, name-no-type c a)
     (no-row (afterLeft c) 8 _ (some-row (afterAction c) 11 _ (omega arith) (some-row (atCondition c && false) 12 _ (omega arith) (some-row (atPattern c && false) 13 _ (omega arith) (some-row (oneMore mostLiterals c (record { kind = kinds.name; start = y .start; end = y .end; bytes = y .bytes })) 14 _ (omega arith) (some-row (afterPolicy c && false) 15 16 (omega arith) (omega arith)))))))
 
-bang-limited : (c : List Lexeme) → atCondition c ≡ true → 11 ≤ numberOf c (made kinds.bang)
-unfolding numberOf
+bang-limited : (c : List Lexeme) → atCondition c ≡ true → 11 ≤ numberOfToken c (made kinds.bang)
+unfolding numberOfToken
 bang-limited c a =
     rw a (no-row (atName c) 7 _ (no-row (afterLeft c) 8 _ (no-row (atType c) 9 _ (some-row (atName c && is kinds.name (made kinds.bang) && afterAction c) 11 12 (omega arith) (omega arith)))))
 
@@ -177,7 +178,7 @@ stands-name b h =
     ⊎-elim (λ e. e) (λ e. absurd (never (sym no-bytes ∙ e .1))) (name-place y (a .under .on) b (walk-admitted b y a) refl)
 
 pub type-stands : (b : List Lexeme) → Sofar b → atType (reverse b) ≡ true → SomeAdmitted kinds.name b
-unfolding behind
+unfolding lastPasses
 type-stands b alive t = go (alive .on) (alive .belongs) (type-next (alive .on) b refl (walk-policies _ (alive .belongs) []) t)
   where
     go : (on : List Lexeme) → RuleText (sizesBefore on) (b ++ on) (alive .policies) → NameFirst on → SomeAdmitted kinds.name b

@@ -6,12 +6,12 @@ use mathlib.Core.Logic.{inl}
 use Prim.Native.Nat.{ℕ, suc, _+_, _≤_, _<_}
 use native.Mathlib.Omega.{arith}
 use lib.ListN.{length}
+use Rattle.tokens.specs.Sizes.{mostInside}
 use Rattle.reading.specs.Lexemes.{Lexeme}
 use Rattle.reading.specs.Reads.{Reading, Chain, Chain.alone, Chain.more, Onto, Onto.onto, Before, Before.ended, After, After.begun}
 use Rattle.reading.specs.Reader.{Reader, need, before, mapped, onwards, chain}
 use Rattle.reading.proofs.Local.{Alike}
 use Rattle.reading.proofs.Readers.{Goes, good, goes-weaker, goes-bind, goes-need, goes-onwards}
-use Rattle.grammar.specs.Rules.{mostInside}
 use Rattle.grammar.specs.Grammar.{Limit, Limits, sizesTo, lifting}
 
 -- What the grammar reads, under each limits.

@@ -11,16 +11,17 @@ use lib.ListN.{length}
 use borrow.Author.Tests.{eqb-true, eq-eqb, ne-eqb, leb-true}
 use Rattle.tokens.specs.Kinds as kinds
 use Rattle.tokens.proofs.TokenLaws.{never, and-left, and-right, or-cases}
+use Rattle.tokens.specs.Sizes.{mostPolicies, mostInside}
 use Rattle.reading.specs.Lexemes.{Lexeme, is, choose}
 use Rattle.reading.specs.Reads.{Reading, Chain, Chain.alone, Chain.more, Onto, Onto.onto, Before.ended, After.begun}
 use Rattle.reading.specs.Reader.{Answer, took, Reader, refuseBy, numbered, bind, on, need, mapped, upTo, onwards}
 use Rattle.reading.proofs.Readers.{Shrinks, shrinks-onto, Without, on-without, on-token, on-other}
 use Rattle.reading.proofs.Complete.{Nearly, exact, excused, nearly-bind, nearly-on, Complete, complete-mapped, complete-before, complete-chain}
 use Rattle.grammar.specs.Policies.{Span, Root, Literal, truth, Operand, attribute, literal, Tree, within, contains, both, either, Part, typed, Actions, Policy}
-use Rattle.grammar.specs.Rules.{isEffect, isRoot, rootOf, isTruth, isLiteral, literalOf, isComparator, isContains, whichOf, deepens, principalTypes, resourceTypes, typeOf, isType, mostPolicies, mostInside}
+use Rattle.grammar.specs.Rules.{isEffect, isRoot, rootOf, isTruth, isLiteral, literalOf, isComparator, isContains, whichOf, deepens, principalTypes, resourceTypes, typeOf, isType}
 use Rattle.grammar.specs.Grammar.{Limit, a-name, a-pattern, a-literal, a-policy, limitNumber, kept, Limits, Path, spanned, FirstName, first, NextName, next, APath, rooted, AnOperand, given, Element, element, Literals, Simple, comparison, likeness, listed, held, call, having, Conjunction, Disjunction, ConditionOver, simple, negation, bracketed, conditional, Nothing, Condition, Typed, ResourceRest, ActionRest, When, PolicyRest, Policies, policy, RuleText}
 use Rattle.grammar.specs.Grammar as grammar
-use Rattle.grammar.specs.Parser.{Way, calling, noName, noLevel, noPolicy, fits, read-first-name, goesOn, read-next-name, read-way, noExit, spannedBy, read-path, read-attribute, read-operand, isElement, read-element, read-list, read-bare, read-in, isLike, read-pattern, read-operator, read-call, read-rest, read-rooted, read-simple, read-joined, read-conjunction, read-disjunction, read-negated, read-bracketed, read-conditional, read-deeper, read-condition, read-conditions, read-type, read-principal, read-action, read-resource, read-when, read-policy, mayBegin, read-next-policy, atEnd, read-text}
+use Rattle.grammar.specs.Parser.{Way, calling, noName, noLevel, noPolicy, nameFits, read-first-name, goesOn, read-next-name, read-way, noExit, spannedBy, read-path, read-attribute, read-operand, isElement, read-element, read-list, read-bare, read-in, isLike, read-pattern, read-operator, read-call, read-rest, read-rooted, read-simple, read-joined, read-conjunction, read-disjunction, read-negated, read-bracketed, read-conditional, read-deeper, read-condition, read-conditions, read-type, read-principal, read-action, read-resource, read-when, read-policy, mayBegin, read-next-policy, atEnd, read-text}
 use Rattle.grammar.specs.Parser as parser
 use Rattle.grammar.proofs.Begun.{made}
 use Rattle.grammar.proofs.Limits.{name-number, string-number, literal-number, effect-number, level-number}
@@ -96,13 +97,13 @@ none-read f (more j e h) = none-read f j
 
 -- a name more, or the word that ends a path
 data NextWay (L : Limits) (exit : Lexeme → Bool) (root : Root) : Way → List Lexeme → List Lexeme → Way → Type 0 where
-  onward : {i r : List Lexeme} {p q : Path} → NextName L root p i r q → NextWay L exit root (parser.Way.plain p) i r (parser.Way.plain q)
-  exits : {x : Lexeme} {r : List Lexeme} {p : Path} → exit x ≡ true → NextWay L exit root (parser.Way.plain p) (x ∷ r) r (calling p (whichOf x))
+  onward : {i r : List Lexeme} {p q : Path} → NextName L root p i r q → NextWay L exit root (parser.Way.uncalled p) i r (parser.Way.uncalled q)
+  exits : {x : Lexeme} {r : List Lexeme} {p : Path} → exit x ≡ true → NextWay L exit root (parser.Way.uncalled p) (x ∷ r) r (calling p (whichOf x))
 
 abbrev Ways : Limits → (Lexeme → Bool) → Root → Reading Way
-Ways L exit root = Chain goesOn (Onto (λ p. parser.Way.plain p) (FirstName L root)) (λ w d. NextWay L exit root w)
+Ways L exit root = Chain goesOn (Onto (λ p. parser.Way.uncalled p) (FirstName L root)) (λ w d. NextWay L exit root w)
 
-ways-of : {L : Limits} {exit : Lexeme → Bool} {root : Root} {i r : List Lexeme} {p : Path} → APath L root i r p → Ways L exit root i r (parser.Way.plain p)
+ways-of : {L : Limits} {exit : Lexeme → Bool} {root : Root} {i r : List Lexeme} {p : Path} → APath L root i r p → Ways L exit root i r (parser.Way.uncalled p)
 unfolding goesOn
 ways-of (alone h) = alone (onto h)
 ways-of (more j e h) = more (ways-of j) e (onward h)
@@ -122,15 +123,15 @@ module _ {L : Limits} {Z : ℕ → List Lexeme → Type 0} (ok : Excuses L Z) wh
   no-policy-there ps x r t c u = rw (effect-number x t) (ok .over (a-policy (length ps)) x r c u)
 
   fitting : {A : Type 0} {a : A} {s : List Lexeme} (root : Root) (used : ℕ) (f : Lexeme → Reader A) (x : Lexeme) (r : List Lexeme) → x .kind ≡ kinds.name → L .Asks (a-name root used x) r
-      → Nearly Z a s (f x r) → Nearly Z a s (on (fits root used) f (refuseBy (noName root)) (x ∷ r))
-  unfolding fits
+      → Nearly Z a s (f x r) → Nearly Z a s (on (nameFits root used) f (refuseBy (noName root)) (x ∷ r))
+  unfolding nameFits
   fitting root used f x r e l h = nearly-on _ _ _ x r h (λ u. rw (name-number root x e) (ok .over (a-name root used x) x r l (rw (eq-eqb _ _ e) at u)))
 
-  complete-first : (root : Root) → Complete Z Any (read-first-name root) (Onto (λ p. parser.Way.plain p) (FirstName L root))
+  complete-first : (root : Root) → Complete Z Any (read-first-name root) (Onto (λ p. parser.Way.uncalled p) (FirstName L root))
   unfolding read-first-name
   complete-first root = record { at = go }
     where
-      go : {i r : List Lexeme} {w : Way} → Onto (λ p. parser.Way.plain p) (FirstName L root) i r w → Any r → Nearly Z w r (read-first-name root i)
+      go : {i r : List Lexeme} {w : Way} → Onto (λ p. parser.Way.uncalled p) (FirstName L root) i r w → Any r → Nearly Z w r (read-first-name root i)
       go (onto (first e l)) u = fitting root 0 _ _ _ e l exact
 
   module _ (exit : Lexeme → Bool) (pass : Passes exit) (root : Root) where
@@ -146,7 +147,7 @@ module _ {L : Limits} {Z : ℕ → List Lexeme → Type 0} (ok : Excuses L Z) wh
     unfolding read-way
     complete-ways j w = complete-chain goesOn _ _ (complete-first root) complete-next (λ w d. shrinks-next-way L exit root w) (λ w x m e. tt) j tt w
 
-    complete-plain : {i r : List Lexeme} {p : Path} → APath L root i r p → NoDot r → Nearly Z (parser.Way.plain p) r (read-way exit root i)
+    complete-plain : {i r : List Lexeme} {p : Path} → APath L root i r p → NoDot r → Nearly Z (parser.Way.uncalled p) r (read-way exit root i)
     unfolding goesOn
     complete-plain j w = complete-ways (ways-of j) w
 
@@ -171,7 +172,7 @@ module _ {L : Limits} {Z : ℕ → List Lexeme → Type 0} (ok : Excuses L Z) wh
   unfolding read-operand
   complete-operand (given (rooted {x = x} {d = d} t e j)) w =
       rw (on-other isLiteral _ _ x _ (root-no-literal x t), on-token isRoot _ _ x _ t) (complete-attribute (rootOf x) attribute d e j w)
-  complete-operand (grammar.AnOperand.plain {x = x} {r = r} t) w = rw (on-token isLiteral _ _ x r t) exact
+  complete-operand (grammar.AnOperand.literally {x = x} {r = r} t) w = rw (on-token isLiteral _ _ x r t) exact
 
   module _ (sort : Lexeme → Bool) (sorts : (x : Lexeme) → sort x ≡ true → isLiteral x ≡ true) where
     complete-element : (ls : List Literal) → Complete Z Any (read-element sort ls) (Element L sort ls)
@@ -194,7 +195,7 @@ module _ {L : Limits} {Z : ℕ → List Lexeme → Type 0} (ok : Excuses L Z) wh
   complete-left deeper (given (rooted {x = x} {d = d} t e j)) w k =
       rw (on-other isLiteral _ _ x _ (root-no-literal x t), on-token isRoot _ _ x _ t, on-token (is kinds.dot) _ _ d _ (eq-eqb _ _ e))
       (nearly-bind _ (complete-plain isContains contains-passes (rootOf x) j w) k)
-  complete-left deeper (grammar.AnOperand.plain {x = x} {r = r} t) w k = rw (on-token isLiteral _ _ x r t) k
+  complete-left deeper (grammar.AnOperand.literally {x = x} {r = r} t) w k = rw (on-token isLiteral _ _ x r t) k
 
   complete-bare : (a : Operand) (r : List Lexeme) → Free r → read-operator a r ≡ read-bare a r
   unfolding read-operator

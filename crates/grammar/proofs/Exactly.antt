@@ -6,16 +6,16 @@ use Prim.Native.Nat.{ℕ, _≤_, _<_}
 use native.Mathlib.Omega.{arith}
 use lib.ListN.{length}
 use Rattle.tokens.proofs.TokenLaws.{never}
+use Rattle.tokens.specs.Sizes.{mostInside}
 use Rattle.reading.specs.Lexemes.{Lexeme, tokensOf}
 use Rattle.reading.specs.Reader.{Answer, took}
 use Rattle.reading.proofs.Listed.{tokens-stand, tokens-are}
 use Rattle.reading.proofs.Readers.{goes-took}
 use Rattle.reading.proofs.Complete.{Nearly, exact, excused}
-use Rattle.grammar.specs.Rules.{mostInside}
 use Rattle.grammar.specs.Policies.{Policy}
 use Rattle.grammar.specs.Grammar.{limitNumber, sizes, lifting, Beyond, sizesBefore, SaysPolicies}
 use Rattle.grammar.specs.Parser.{read-text}
-use Rattle.grammar.specs.Promise.{AcceptedExactly, Unambiguous}
+use Rattle.grammar.specs.Promise.{TokensAcceptedExactly, Unambiguous}
 use Rattle.grammar.proofs.Limits.{limit-low}
 use Rattle.grammar.proofs.Viable.{viable-text}
 use Rattle.grammar.proofs.Completeness.{Excuses, complete-text}
@@ -43,20 +43,20 @@ exactly : {A : Type 0} {a : A} {r : List Lexeme} {x : Answer A} → Nearly (λ n
 exactly exact = refl
 exactly (excused z) = absurd z
 
-pub accepted-exactly : AcceptedExactly
-unfolding AcceptedExactly
-accepted-exactly i ps = (λ e. goes-took (rw e at (viable-text 0 i)) .1, λ h. exactly (complete-text strictly i h))
+pub tokens-accepted-exactly : TokensAcceptedExactly
+unfolding TokensAcceptedExactly
+tokens-accepted-exactly i ps = (λ e. goes-took (rw e at (viable-text 0 i)) .1, λ h. exactly (complete-text strictly i h))
 
 pub one-reading : Unambiguous
-unfolding Unambiguous AcceptedExactly
-one-reading i ps qs a b = let x = accepted-exactly i ps .1 a in let y = accepted-exactly i qs .1 b in cc
+unfolding Unambiguous TokensAcceptedExactly
+one-reading i ps qs a b = let x = tokens-accepted-exactly i ps .1 a in let y = tokens-accepted-exactly i qs .1 b in cc
 
 -- A text of bytes says the policies that the reader finds in its tokens, and no others.
 pub says-exactly : (text : List ℕ) (ps : List Policy) → (read-text (tokensOf text) ≡ took ps []) ↔ SaysPolicies text ps
-unfolding AcceptedExactly
+unfolding TokensAcceptedExactly
 says-exactly text ps = (
-  λ e. record { tokens = tokensOf text; listed = tokens-stand text; belongs = accepted-exactly (tokensOf text) ps .0 e },
-  λ s. rw (tokens-are text (s .listed)) (accepted-exactly (s .tokens) ps .1 (s .belongs)),
+  λ e. record { tokens = tokensOf text; listed = tokens-stand text; belongs = tokens-accepted-exactly (tokensOf text) ps .0 e },
+  λ s. rw (tokens-are text (s .listed)) (tokens-accepted-exactly (s .tokens) ps .1 (s .belongs)),
 )
 
 -- and one list of them

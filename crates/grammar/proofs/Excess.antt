@@ -5,10 +5,10 @@ use mathlib.Core.List.{List, [], _∷_, _++_, append-cancel-right}
 use Prim.Native.Nat.{ℕ, _≤_, _<_}
 use native.Mathlib.Omega.{arith}
 use lib.ListN.{length}
+use Rattle.tokens.specs.Sizes.{mostInside}
 use Rattle.reading.specs.Lexemes.{Lexeme}
 use Rattle.reading.specs.Reader.{refuse}
 use Rattle.reading.proofs.Local.{same}
-use Rattle.grammar.specs.Rules.{mostInside}
 use Rattle.grammar.specs.Grammar.{lifting, Beyond}
 use Rattle.grammar.specs.Parser.{read-text}
 use Rattle.grammar.specs.Lowest.{Under}

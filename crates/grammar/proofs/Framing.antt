@@ -39,7 +39,7 @@ module _ (L : Limits) where
     where
       go : {i r : List Lexeme} {a : Operand} → AnOperand L i r a → length r < length i
       go (given h) = shrinks-attribute .at h
-      go (grammar.AnOperand.plain t) = omega arith
+      go (grammar.AnOperand.literally t) = omega arith
 
   pub shrinks-element : (sort : Lexeme → Bool) (ls : List Literal) → Shrinks (Element L sort ls)
   shrinks-element sort ls = record { at = go }
@@ -129,7 +129,7 @@ framed-operand = record { at = go }
   where
     go : {L M : Limits} {r s i m n : List Lexeme} {a : Operand} → Eases L M r s → AnOperand L i m a → Swap r s m n → Moved (AnOperand M) r s i n a
     go e (given h) w = let q = framed-attribute .at e h w in (_, q .1, given (q .2))
-    go e (grammar.AnOperand.plain t) w = (_, step w, grammar.AnOperand.plain t)
+    go e (grammar.AnOperand.literally t) w = (_, step w, grammar.AnOperand.literally t)
 
 pub framed-element : (sort : Lexeme → Bool) (ls : List Literal) → Framed (λ L. Element L sort ls)
 framed-element sort ls = record { at = go }

@@ -9,19 +9,20 @@ use lib.ListN.{length, length-append}
 use borrow.Author.Tests.{eqb-true, ltb-true}
 use Rattle.tokens.specs.Kinds as kinds
 use Rattle.tokens.proofs.TokenLaws.{never, and-left, and-right}
+use Rattle.tokens.specs.Sizes.{mostLiterals}
 use Rattle.reading.specs.Lexemes.{Lexeme, is}
 use Rattle.reading.specs.Reader.{took, refuse, Reader, numbered, refuseBy, ten, bind, on, before, onwards}
 use Rattle.reading.proofs.Readers.{Without}
 use Rattle.grammar.specs.Policies.{Span, Root, Literal, text, number, truth, Operand, attribute, literal, Which, Tree, among, within, contains, both, either, Policy}
-use Rattle.grammar.specs.Rules.{isEffect, isRoot, rootOf, isLiteral, literalOf, isComparator, isContains, principalTypes, resourceTypes, mostLiterals}
+use Rattle.grammar.specs.Rules.{isEffect, isRoot, rootOf, isLiteral, literalOf, isComparator, isContains, principalTypes, resourceTypes}
 use Rattle.grammar.specs.Grammar.{Path}
-use Rattle.grammar.specs.Parser.{Way, plain, calling, noName, noOperator, noType, noLevel, noPattern, tooMany, noPolicy, fits, read-first-name, goesOn, read-next-name, read-way, noExit, read-path, read-attribute, read-operand, isElement, read-element, read-list, read-bare, read-in, isLike, read-pattern, read-operator, read-call, read-rest, read-rooted, read-simple, read-joined, read-conjunction, read-disjunction, read-negated, read-bracketed, read-conditional, read-deeper, read-condition, read-conditions, read-type, read-principal, read-action, read-resource, read-when, read-policy, mayBegin, read-next-policy, atEnd, read-text}
-use Rattle.grammar.specs.Numbers.{behind, atCondition, afterLeft, actionIn, oneMore, numberOf, numberAt, NumberedRightly}
+use Rattle.grammar.specs.Parser.{Way, uncalled, calling, noName, noOperator, noType, noLevel, noPattern, tooMany, noPolicy, nameFits, read-first-name, goesOn, read-next-name, read-way, noExit, read-path, read-attribute, read-operand, isElement, read-element, read-list, read-bare, read-in, isLike, read-pattern, read-operator, read-call, read-rest, read-rooted, read-simple, read-joined, read-conjunction, read-disjunction, read-negated, read-bracketed, read-conditional, read-deeper, read-condition, read-conditions, read-type, read-principal, read-action, read-resource, read-when, read-policy, mayBegin, read-next-policy, atEnd, read-text}
+use Rattle.grammar.specs.Numbers.{lastPasses, atCondition, afterLeft, actionIn, oneMore, numberOfToken, numberOfFirst, NumberedRightly}
 use Rattle.grammar.proofs.Begun.{made}
 use Rattle.grammar.proofs.Completeness.{other-kind}
 use Rattle.grammar.proofs.Steps.{policies-step}
 use Rattle.grammar.proofs.Telling.{Past, here, step, Places, Told, good, stops, Tells, tells-weaker, tells-took, tells-refuseBy, tells-bind, Stepped, stepped, tells-on, Plain, tells-ten, tells-need, tells-before, tells-mapped, tells-onwards, tells-chain}
-use Rattle.grammar.proofs.Spots.{Spot, Quiet, AtCondition, Left, quiet-ten, begins-deepest, begins-ten, left-bare, type-number, pattern-number, policy-number, opens, at-kind, quiet-root, quiet-literal, quiet-comparator, quiet-contains, quiet-effect, quiet-round, quiet-comma, at-left, begins-round, OnPath, dotted, had, longer, path-number, Named, named, named-place, InList, opened, further, element-number}
+use Rattle.grammar.proofs.Spots.{TestsAt, Quiet, AtCondition, Left, quiet-ten, begins-deepest, begins-ten, left-bare, type-number, pattern-number, policy-number, opens, at-kind, quiet-root, quiet-literal, quiet-comparator, quiet-contains, quiet-effect, quiet-round, quiet-comma, at-left, begins-round, OnPath, dotted, had, longer, path-number, Named, named, named-place, InList, opened, further, element-number}
 
 -- places by what stands before them
 abbrev At : (List Lexeme → Type 0) → Places
@@ -35,28 +36,28 @@ quietly = record { at = λ c i h x. quiet-ten h x }
 
 -- behind a token of the kind k, which is no name, no comma and no `(`
 behind-kind : (k : ℕ) → (eqb k kinds.name ≡ false) × (eqb k kinds.comma ≡ false) × (eqb k kinds.leftRound ≡ false) → {P : Places} {x : Lexeme} {c i : List Lexeme} → x .kind ≡ k → Stepped x P c i
-    → Spot (eqb k kinds.dot || eqb k kinds.hasWord) false (eqb k kinds.isWord) (opens k) (eqb k kinds.likeWord) (eqb k kinds.semicolon) c
+    → TestsAt (eqb k kinds.dot || eqb k kinds.hasWord) false (eqb k kinds.isWord) (opens k) (eqb k kinds.likeWord) (eqb k kinds.semicolon) c
 behind-kind k h e (stepped q) = at-kind k h _ _ e
 
 -- ---- paths
 
 -- behind a path after the root, or behind the word of a call
 data AfterWay (left : Bool) (root : Root) : Way → List Lexeme → Type 0 where
-  plainly : {p : Path} {c : List Lexeme} → Named left root c → AfterWay left root (plain p) c
+  plainly : {p : Path} {c : List Lexeme} → Named left root c → AfterWay left root (uncalled p) c
   called : {p : Path} {w : Which} {x : Lexeme} {c : List Lexeme} → isContains x ≡ true → AfterWay left root (calling p w) (x ∷ c)
 
 module _ (left : Bool) (root : Root) where
   tells-first : Tells (At (OnPath left root)) (read-first-name root) (λ w c r. AfterWay left root w c)
-  unfolding read-first-name fits
+  unfolding read-first-name nameFits
   tells-first = tells-on _ _ _ (λ x t. tells-took _ (λ c i h. go (eqb-true _ _ (and-left _ _ t)) h)) (tells-refuseBy (noName root) (λ c r x h. path-number (h .0) x))
     where
-      go : {x : Lexeme} {p : Path} {c i : List Lexeme} → x .kind ≡ kinds.name → Stepped x (At (OnPath left root)) c i → AfterWay left root (plain p) c
+      go : {x : Lexeme} {p : Path} {c i : List Lexeme} → x .kind ≡ kinds.name → Stepped x (At (OnPath left root)) c i → AfterWay left root (uncalled p) c
       go e (stepped h) = plainly (named h e)
 
   tells-next : (exit : Lexeme → Bool) → ((x : Lexeme) → exit x ≡ true → isContains x ≡ true) → (w : Way) (d : Lexeme) → goesOn w d ≡ true
       → Tells (Stepped d (λ c r. AfterWay left root w c)) (read-next-name exit root w) (λ w c r. AfterWay left root w c)
-  unfolding read-next-name fits goesOn
-  tells-next exit f (plain p) d e = tells-weaker {Pre = At (OnPath left root)}
+  unfolding read-next-name nameFits goesOn
+  tells-next exit f (uncalled p) d e = tells-weaker {Pre = At (OnPath left root)}
       (tells-on _ _ _ (λ x t. tells-took _ (λ c i h. exits (f x t) h))
       (tells-on _ _ _ (λ x t. tells-took _ (λ c i h. go (eqb-true _ _ (and-left _ _ t)) h)) (tells-refuseBy (noName root) (λ c r x h. path-number (h .0 .0) x))))
       (λ c i h. on-path (eqb-true _ _ e) h) (λ w c i h. h)
@@ -64,10 +65,10 @@ module _ (left : Bool) (root : Root) where
       exits : {x : Lexeme} {p : Path} {w : Which} {c i : List Lexeme} → isContains x ≡ true → Stepped x (At (OnPath left root)) c i → AfterWay left root (calling p w) c
       exits t (stepped h) = called t
 
-      go : {x : Lexeme} {p : Path} {c i : List Lexeme} → x .kind ≡ kinds.name → Stepped x (λ c i. OnPath left root c × Without exit i) c i → AfterWay left root (plain p) c
+      go : {x : Lexeme} {p : Path} {c i : List Lexeme} → x .kind ≡ kinds.name → Stepped x (λ c i. OnPath left root c × Without exit i) c i → AfterWay left root (uncalled p) c
       go k (stepped h) = plainly (named (h .0) k)
 
-      on-path : {d : Lexeme} {c i : List Lexeme} → d .kind ≡ kinds.dot → Stepped d (λ c r. AfterWay left root (plain p) c) c i → OnPath left root c
+      on-path : {d : Lexeme} {c i : List Lexeme} → d .kind ≡ kinds.dot → Stepped d (λ c r. AfterWay left root (uncalled p) c) c i → OnPath left root c
       on-path k (stepped (plainly (named h q))) = longer h q k
   tells-next exit f (calling p w) d e = absurd (never e)
 
@@ -115,7 +116,7 @@ tells-operand =
 
 -- behind one part of a target, or a list
 abbrev BehindPart : List Lexeme → Type 0
-BehindPart c = Quiet c × (behind isLiteral c ≡ false)
+BehindPart c = Quiet c × (lastPasses isLiteral c ≡ false)
 
 -- behind a literal of a list that so has the literals ls
 data Listed (sort : Lexeme → Bool) (ls : List Literal) : List Lexeme → Type 0 where
@@ -132,7 +133,7 @@ module _ (sort : Lexeme → Bool) (sorts : (x : Lexeme) → sort x ≡ true → 
           listed (h .0) (omega arith) (omega arith) (sorts x (and-left _ _ t))
 
   tells-list : Tells (At (InList sort 0)) (read-list sort) (Ends BehindPart)
-  unfolding read-list behind
+  unfolding read-list lastPasses
   tells-list = tells-before kinds.rightSquare _
       (tells-chain (λ ls. is kinds.comma) _ (λ ls y e. tells-weaker (tells-element ls) (λ c i h. go (eqb-true _ _ e) h) (λ ks c i h. h)) _
       (tells-weaker (tells-element []) (λ c i h. (h, omega arith)) (λ ks c i h. h)))
@@ -162,10 +163,10 @@ tells-in a =
 
 -- the last token is not action
 abbrev NoAction : List Lexeme → Type 0
-NoAction c = behind (is kinds.actionWord) c ≡ false
+NoAction c = lastPasses (is kinds.actionWord) c ≡ false
 
 no-action-in : (w : Lexeme) (c : List Lexeme) → NoAction c → actionIn (w ∷ c) ≡ false
-unfolding behind actionIn
+unfolding lastPasses actionIn
 no-action-in w [] e = refl
 no-action-in w (a ∷ c) e = rw e (and-false (is kinds.inWord w))
 
@@ -189,7 +190,7 @@ data Called : List Lexeme → Type 0 where
   word : {x : Lexeme} {c : List Lexeme} → isContains x ≡ true → Called (x ∷ c)
 
 tells-call : (w : Which) (root : Root) (p : Span) → Tells (At Called) (read-call w root p) (Ends Quiet)
-unfolding read-call behind actionIn
+unfolding read-call lastPasses actionIn
 tells-call w root p =
     tells-need kinds.leftRound _ (record { at = λ c i h x. quiet-ten (quiet h) x }) (λ o e.
     tells-need kinds.leftSquare _ (record { at = λ c i h x. quiet-ten (round e h) x }) (λ l e′.
@@ -206,10 +207,10 @@ tells-call w root p =
     list {o = o} e e′ (stepped (stepped (word {x = x} {c = c} t))) = opened {c = o ∷ x ∷ c} e′ (λ y. rw e)
 
 tells-rest : (root : Root) (w : Way) → Tells (λ c i. AfterWay true root w c) (read-rest root w) (Ends Quiet)
-unfolding read-rest read-bare behind
-tells-rest root (plain p) = tells-weaker (tells-operator _ Left (tells-refuseBy noOperator (λ c r x h. left-bare h x))) (λ c i h. go h) (λ t c i h. h)
+unfolding read-rest read-bare lastPasses
+tells-rest root (uncalled p) = tells-weaker (tells-operator _ Left (tells-refuseBy noOperator (λ c r x h. left-bare h x))) (λ c i h. go h) (λ t c i h. h)
   where
-    go : {p : Path} {c : List Lexeme} → AfterWay true root (plain p) c → Left c × NoAction c
+    go : {p : Path} {c : List Lexeme} → AfterWay true root (uncalled p) c → Left c × NoAction c
     go (plainly (named h e)) = (named-place (named h e), rw e)
 tells-rest root (calling p w) = tells-weaker (tells-call w root _) (λ c i h. go h) (λ t c i h. h)
   where
@@ -248,7 +249,7 @@ tells-bare (text s) = tells-ten quietly
 tells-bare (number s) = tells-ten quietly
 
 tells-simple : (deeper : Reader Tree) → Tells (λ c i. (AtCondition c × Without isLiteral i) × Without isRoot i) deeper (Ends Quiet) → Tells (At AtCondition) (read-simple deeper) (Ends Quiet)
-unfolding read-simple behind
+unfolding read-simple lastPasses
 tells-simple deeper d =
     tells-on _ _ _ (λ x t. tells-weaker (tells-operator _ Quiet (tells-bare (literalOf x))) (λ c i h. go t h) (λ u c i h. h))
     (tells-on _ _ _ (λ x t. tells-weaker (tells-rooted (rootOf x)) (λ c i h. root t h) (λ u c i h. h)) d)
@@ -310,14 +311,14 @@ stepped-after e (stepped h) = after e
 
 -- behind a token of this kind there is no literal, and nothing to tell
 after-part : (k : ℕ) → isLiteral (made k) ≡ false → ((x : Lexeme) (c : List Lexeme) → x .kind ≡ k → Quiet (x ∷ c)) → {c : List Lexeme} → Behind k c → BehindPart c
-unfolding behind
+unfolding lastPasses
 after-part k f q (after {x = x} e) = (q x _ e, rw e f)
 
 tells-type : (types : List (List ℕ)) → Tells (At (Behind kinds.isWord)) (read-type types) (Ends BehindPart)
-unfolding read-type behind afterLeft
+unfolding read-type lastPasses afterLeft
 tells-type types = tells-on _ _ _ (λ x t. tells-took _ (λ c i h. go (eqb-true _ _ (and-left _ _ t)) h)) (tells-refuseBy noType (λ c r x h. type-number (place (h .0)) x))
   where
-    place : {c : List Lexeme} → Behind kinds.isWord c → Spot false false true false false false c
+    place : {c : List Lexeme} → Behind kinds.isWord c → TestsAt false false true false false false c
     place (after e) = at-kind kinds.isWord (refl, refl, refl) _ _ e
 
     go : {x : Lexeme} {c i : List Lexeme} → x .kind ≡ kinds.name → Stepped x (At (Behind kinds.isWord)) c i → BehindPart c
@@ -363,10 +364,10 @@ data Effect : List Lexeme → Type 0 where
 
 -- behind a policy
 abbrev Policed : List Lexeme → Type 0
-Policed = Spot false false false false false true
+Policed = TestsAt false false false false false true
 
 tells-policy : (permits : Bool) → Tells (At Effect) (read-policy permits) (Ends Policed)
-unfolding read-policy behind
+unfolding read-policy lastPasses
 tells-policy permits =
     tells-need kinds.leftRound _ (record { at = λ c i h x. quiet-ten (effect-quiet h) x }) (λ x e.
     tells-need kinds.principalWord _ (record { at = λ c i h x. quiet-ten (round e h) x }) (λ x e.
@@ -412,12 +413,12 @@ tells-policies = record { at = λ c i h. rw (policies-step [] i) (first .at c i 
         (λ x t. tells-bind _ (tells-next-policy [] x t) (λ ps. tells-weaker (tells-onwards mayBegin read-next-policy {Inv = Ends Policed} tells-next-policy ps) (λ c i h. h) (λ qs c i h. policed h)))
         (tells-took [] (λ c i h. rw (h .0) (none (h .1))))
 
-no-policy-first : (x : Lexeme) → mayBegin [] x ≡ false → numbered noPolicy x ≡ numberOf [] x
-unfolding numbered noPolicy numberOf mayBegin behind afterLeft atCondition oneMore
+no-policy-first : (x : Lexeme) → mayBegin [] x ≡ false → numbered noPolicy x ≡ numberOfToken [] x
+unfolding numbered noPolicy numberOfToken mayBegin lastPasses afterLeft atCondition oneMore
 no-policy-first x f = rw (rw (and-true (isEffect x)) at f)
 
 tells-end : (ps : List Policy) → Tells (Between ps) (atEnd ps) (λ qs c i. Unit {0})
-unfolding atEnd refuseBy numberAt Without
+unfolding atEnd refuseBy numberOfFirst Without
 tells-end ps = record { at = go }
   where
     go : {ps : List Policy} (c i : List Lexeme) → Between ps c i → Told (λ qs c i. Unit {0}) c i (atEnd ps i)
@@ -445,5 +446,5 @@ pub numbered-rightly : NumberedRightly
 unfolding NumberedRightly
 numbered-rightly b r n e = go b (rw e at (tells-text .at [] (b ++ r) refl))
   where
-    go : {r : List Lexeme} {n : ℕ} (b : List Lexeme) → Told {A = List Policy} (λ ps c i. Unit {0}) [] (b ++ r) (refuse n r) → n ≡ numberAt (reverse b) r
-    go {r = r} b (stops w q) = q ∙ ap (λ (c : List Lexeme). numberAt c r) (past-is b w refl)
+    go : {r : List Lexeme} {n : ℕ} (b : List Lexeme) → Told {A = List Policy} (λ ps c i. Unit {0}) [] (b ++ r) (refuse n r) → n ≡ numberOfFirst (reverse b) r
+    go {r = r} b (stops w q) = q ∙ ap (λ (c : List Lexeme). numberOfFirst c r) (past-is b w refl)

@@ -10,7 +10,7 @@ use Rattle.reading.proofs.Complete.{Nearly, excused}
 use Rattle.reading.proofs.Local.{Alike, ends, same, Near, near-took, near-refuseBy, near-bind, near-on, near-need, near-mapped, near-before, near-onwards, near-chain}
 use Rattle.grammar.specs.Policies.{Span, Root, Literal, text, number, truth, Operand, attribute, literal, Which, Tree, both, either, Policy}
 use Rattle.grammar.specs.Grammar.{Limits, RuleText}
-use Rattle.grammar.specs.Parser.{Way, plain, calling, noPolicy, read-first-name, read-next-name, read-way, read-path, read-attribute, read-operand, read-element, read-list, read-bare, read-in, read-pattern, read-operator, read-call, read-rest, read-rooted, read-simple, read-joined, read-conjunction, read-disjunction, read-negated, read-bracketed, read-conditional, read-deeper, read-condition, read-conditions, read-type, read-principal, read-action, read-resource, read-when, read-policy, read-next-policy, atEnd, read-text}
+use Rattle.grammar.specs.Parser.{Way, uncalled, calling, noPolicy, read-first-name, read-next-name, read-way, read-path, read-attribute, read-operand, read-element, read-list, read-bare, read-in, read-pattern, read-operator, read-call, read-rest, read-rooted, read-simple, read-joined, read-conjunction, read-disjunction, read-negated, read-bracketed, read-conditional, read-deeper, read-condition, read-conditions, read-type, read-principal, read-action, read-resource, read-when, read-policy, read-next-policy, atEnd, read-text}
 use Rattle.grammar.proofs.Steps.{way-takes, element-takes, condition-takes, conjunction-takes, policy-takes}
 use Rattle.grammar.proofs.Completeness.{Excuses, complete-text}
 
@@ -24,7 +24,7 @@ near-first root i = near-on _ _ _ i (λ x r e. near-took _ r) (near-refuseBy _ i
 
 near-next : (exit : Lexeme → Bool) (root : Root) (w : Way) → Nears (read-next-name exit root w)
 unfolding read-next-name
-near-next exit root (plain p) i = near-on _ _ _ i (λ x r e. near-took _ r) (near-on _ _ _ i (λ x r e. near-took _ r) (near-refuseBy _ i))
+near-next exit root (uncalled p) i = near-on _ _ _ i (λ x r e. near-took _ r) (near-on _ _ _ i (λ x r e. near-took _ r) (near-refuseBy _ i))
 near-next exit root (calling p w) i = near-refuseBy _ i
 
 near-way : (exit : Lexeme → Bool) (root : Root) → Nears (read-way exit root)
@@ -73,7 +73,7 @@ near-call w root p i = near-need _ _ i (λ m. near-need _ _ m (λ n. near-before
 
 near-rest : (root : Root) (w : Way) → Nears (read-rest root w)
 unfolding read-rest
-near-rest root (plain p) i = near-operator _ i
+near-rest root (uncalled p) i = near-operator _ i
 near-rest root (calling p w) i = near-call _ _ _ i
 
 near-rooted : (root : Root) → Nears (read-rooted root)

@@ -8,15 +8,16 @@ use native.Mathlib.Omega.{arith}
 use lib.Dec.{ltb}
 use borrow.Author.Tests.{eqb-true, eq-eqb, ltb-true, ltb-false, lt-ltb}
 use Rattle.tokens.specs.Kinds as kinds
+use Rattle.tokens.specs.Sizes.{mostLiterals}
 use Rattle.reading.specs.Lexemes.{Lexeme, is}
 use Rattle.reading.specs.Reader.{Answer, took, refuse}
 use Rattle.reading.proofs.Readers.{goes-took}
 use Rattle.grammar.specs.Policies.{Policy}
-use Rattle.grammar.specs.Rules.{isEffect, isReserved, endsBare, deepens, mostLiterals}
+use Rattle.grammar.specs.Rules.{isEffect, isReserved, endsBare, deepens}
 use Rattle.grammar.specs.Parser.{read-text}
-use Rattle.grammar.specs.Numbers.{atName, afterLeft, atType, atCondition, atPattern, afterPolicy, afterAction, oneMore, numberOf, numberAt, NumberedRightly}
+use Rattle.grammar.specs.Numbers.{atName, afterLeft, atType, atCondition, atPattern, afterPolicy, afterAction, oneMore, numberOfToken, numberOfFirst, NumberedRightly}
 use Rattle.grammar.specs.Promise.{Sofar, RefusedRightly, OnePlace}
-use Rattle.grammar.specs.Lowest.{Admitted, Applies, no-token, reserved, bare, no-type, not-admitted, limit, AppliesAt, token, end, NumberedLowest, OneNumber, RefusedBy, RefusedExactly}
+use Rattle.grammar.specs.Lowest.{Admitted, Applies, no-token, reserved, bare, no-type, not-admitted, limit, AppliesAt, token, end, NumberedLowest, OneNumber, RefusedBy, TokensRefusedExactly}
 use Rattle.grammar.proofs.Viable.{viable-text}
 use Rattle.grammar.proofs.Theorems.{refused-rightly, no-text-refused, one-place}
 use Rattle.grammar.proofs.Excess.{goes-on-nowhere}
@@ -51,8 +52,8 @@ own-row {c = c} x m h = go (ltb (x .kind) 7) refl
     go true e = own (ltb-true _ _ e)
     go false e = h
 
-row-of : (c : List Lexeme) (x : Lexeme) → Row c x (numberOf c x)
-unfolding numberOf
+row-of : (c : List Lexeme) (x : Lexeme) → Row c x (numberOfToken c x)
+unfolding numberOfToken
 row-of c x =
     own-row x _
     (either-row (atName c) (isReserved x) 7 _ seven
@@ -78,20 +79,20 @@ next-bound true l m n h k = h
 next-bound false l m n h k = k
 
 module _ (c : List Lexeme) (x : Lexeme) where
-  own-bound : x .kind < 7 → numberOf c x ≤ x .kind
-  unfolding numberOf
+  own-bound : x .kind < 7 → numberOfToken c x ≤ x .kind
+  unfolding numberOfToken
   own-bound l = rw (lt-ltb (x .kind) 7 l) (omega arith)
 
-  seven-bound : atName c ≡ true → isReserved x ≡ true → numberOf c x ≤ 7
-  unfolding numberOf
+  seven-bound : atName c ≡ true → isReserved x ≡ true → numberOfToken c x ≤ 7
+  unfolding numberOfToken
   seven-bound e f = first-bound x _ 7 (omega arith) (rw (e, f) (omega arith))
 
-  eight-bound : afterLeft c ≡ true → endsBare x ≡ true → numberOf c x ≤ 8
-  unfolding numberOf
+  eight-bound : afterLeft c ≡ true → endsBare x ≡ true → numberOfToken c x ≤ 8
+  unfolding numberOfToken
   eight-bound e f = first-bound x _ 8 (omega arith) (next-bound (atName c && isReserved x) 7 _ 8 (omega arith) (rw (e, f) (omega arith)))
 
-  nine-bound : atType c ≡ true → x .kind ≡ kinds.name → numberOf c x ≤ 9
-  unfolding numberOf
+  nine-bound : atType c ≡ true → x .kind ≡ kinds.name → numberOfToken c x ≤ 9
+  unfolding numberOfToken
   nine-bound e f =
       first-bound x _ 9 (omega arith)
       (next-bound (atName c && isReserved x) 7 _ 9 (omega arith)
@@ -99,7 +100,7 @@ module _ (c : List Lexeme) (x : Lexeme) where
 
 -- ---- the theorem
 
-module _ (b : List Lexeme) (x : Lexeme) (s : List Lexeme) (n : ℕ) (e : read-text (b ++ x ∷ s) ≡ refuse n (x ∷ s)) (q : n ≡ numberOf (reverse b) x) where
+module _ (b : List Lexeme) (x : Lexeme) (s : List Lexeme) (n : ℕ) (e : read-text (b ++ x ∷ s) ≡ refuse n (x ∷ s)) (q : n ≡ numberOfToken (reverse b) x) where
   -- what stands before x breaks no rule
   alive : Sofar b
   unfolding RefusedRightly
@@ -140,14 +141,14 @@ module _ (b : List Lexeme) (x : Lexeme) (s : List Lexeme) (n : ℕ) (e : read-te
       go false d = ltb-false m n d
 
 pub numbered-lowest : NumberedLowest
-unfolding NumberedLowest NumberedRightly numberAt
+unfolding NumberedLowest NumberedRightly numberOfFirst
 numbered-lowest b [] n e = rw (numbered-rightly b [] n e) (record { applies = end; least = λ m h. at-end m h })
   where
     at-end : (m : ℕ) → AppliesAt b [] m → 10 ≤ m
     at-end m end = omega arith
 numbered-lowest b (x ∷ s) n e = record { applies = token own-row-applies; least = λ m h. at-token m h }
   where
-    q : n ≡ numberOf (reverse b) x
+    q : n ≡ numberOfToken (reverse b) x
     q = numbered-rightly b (x ∷ s) n e
 
     own-row-applies : Applies b x n
@@ -162,9 +163,9 @@ one-number b r n m h k = let x = h .least m (k .applies) in let y = k .least n (
 
 -- ---- refusal, exactly
 
-pub refused-exactly : RefusedExactly
-unfolding RefusedExactly NumberedLowest OneNumber OnePlace RefusedRightly
-refused-exactly i r n = (by, λ t. back t (read-text i) refl)
+pub tokens-refused-exactly : TokensRefusedExactly
+unfolding TokensRefusedExactly NumberedLowest OneNumber OnePlace RefusedRightly
+tokens-refused-exactly i r n = (by, λ t. back t (read-text i) refl)
   where
     by : read-text i ≡ refuse n r → RefusedBy i r n
     by e = let w = refused-rightly i r n e in record { rightly = w; lowest = numbered-lowest (w .before) r n (rw (← w .split) e) }

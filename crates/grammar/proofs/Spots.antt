@@ -9,17 +9,18 @@ use borrow.Author.Tests.{eqb-true, eq-eqb, ne-eqb, ltb-false, not-true}
 use Rattle.tokens.specs.Bytes.{oneOf}
 use Rattle.tokens.specs.Kinds as kinds
 use Rattle.tokens.proofs.TokenLaws.{never, every, one-passes}
+use Rattle.tokens.specs.Sizes.{mostLiterals}
 use Rattle.reading.specs.Lexemes.{Lexeme, is}
 use Rattle.reading.specs.Reader.{numbered, ten}
 use Rattle.grammar.specs.Policies.{Root, Root.Principal, Root.Resource, Root.Env, Root.Action}
-use Rattle.grammar.specs.Rules.{isEffect, isReserved, isRoot, rootOf, isLiteral, isComparator, isContains, endsBare, deepens, mostLiterals}
+use Rattle.grammar.specs.Rules.{isEffect, isReserved, isRoot, rootOf, isLiteral, isComparator, isContains, endsBare, deepens}
 use Rattle.grammar.specs.Parser.{noName, noOperator, noType, noLevel, noPattern, tooMany, noPolicy}
-use Rattle.grammar.specs.Numbers.{behind, atName, atType, atPattern, afterPolicy, atCondition, leftRoot, afterLeft, afterAction, actionIn, oneMore, numberOf}
+use Rattle.grammar.specs.Numbers.{lastPasses, atName, atType, atPattern, afterPolicy, atCondition, leftRoot, afterLeft, afterAction, actionIn, oneMore, numberOfToken}
 use Rattle.grammar.proofs.Begun.{made}
 use Rattle.grammar.proofs.Completeness.{other-kind}
 
 -- what the tests say of a place that is none of a literal in a list
-pub record Spot (n l t b p s : Bool) (c : List Lexeme) : Type 0 where
+pub record TestsAt (n l t b p s : Bool) (c : List Lexeme) : Type 0 where
   pub name : atName c ≡ n
   pub left : afterLeft c ≡ l
   pub type : atType c ≡ t
@@ -30,47 +31,47 @@ pub record Spot (n l t b p s : Bool) (c : List Lexeme) : Type 0 where
 
 -- where no test holds, where a condition must begin, behind an attribute as left operand
 abbrev pub Quiet : List Lexeme → Type 0
-Quiet = Spot false false false false false false
+Quiet = TestsAt false false false false false false
 
 abbrev pub AtCondition : List Lexeme → Type 0
-AtCondition = Spot false false false true false false
+AtCondition = TestsAt false false false true false false
 
 abbrev pub Left : List Lexeme → Type 0
-Left = Spot false true false false false false
+Left = TestsAt false true false false false false
 
 -- ---- numbers
 
-number-is : {n l t b p s : Bool} {c : List Lexeme} → Spot n l t b p s c → (x : Lexeme) → numberOf c x
+number-is : {n l t b p s : Bool} {c : List Lexeme} → TestsAt n l t b p s c → (x : Lexeme) → numberOfToken c x
     ≡ cond (ltb (x .kind) 7) (x .kind) (cond (n && isReserved x) 7 (cond (l && endsBare x) 8 (cond (t && is kinds.name x) 9 (cond (n && is kinds.name x && afterAction c) 11
     (cond (b && deepens x) 12 (cond (p && is kinds.string x) 13 (cond (s && isEffect x) 15 (cond (n && is kinds.name x) 16 10))))))))
-unfolding numberOf
+unfolding numberOfToken
 number-is h x = rw (h .name, h .left, h .type, h .begins, h .pattern, h .policy, h .list x)
 
-pub quiet-ten : {c : List Lexeme} → Quiet c → (x : Lexeme) → numbered ten x ≡ numberOf c x
+pub quiet-ten : {c : List Lexeme} → Quiet c → (x : Lexeme) → numbered ten x ≡ numberOfToken c x
 unfolding numbered
 quiet-ten h x = sym (number-is h x)
 
-pub begins-deepest : {c : List Lexeme} → AtCondition c → (x : Lexeme) → numbered noLevel x ≡ numberOf c x
+pub begins-deepest : {c : List Lexeme} → AtCondition c → (x : Lexeme) → numbered noLevel x ≡ numberOfToken c x
 unfolding numbered noLevel
 begins-deepest h x = sym (number-is h x)
 
-pub begins-ten : {c : List Lexeme} → AtCondition c → (x : Lexeme) → deepens x ≡ false → numbered ten x ≡ numberOf c x
+pub begins-ten : {c : List Lexeme} → AtCondition c → (x : Lexeme) → deepens x ≡ false → numbered ten x ≡ numberOfToken c x
 unfolding numbered
 begins-ten h x e = rw (number-is h x, e)
 
-pub left-bare : {c : List Lexeme} → Left c → (x : Lexeme) → numbered noOperator x ≡ numberOf c x
+pub left-bare : {c : List Lexeme} → Left c → (x : Lexeme) → numbered noOperator x ≡ numberOfToken c x
 unfolding numbered noOperator
 left-bare h x = sym (number-is h x)
 
-pub type-number : {c : List Lexeme} → Spot false false true false false false c → (x : Lexeme) → numbered noType x ≡ numberOf c x
+pub type-number : {c : List Lexeme} → TestsAt false false true false false false c → (x : Lexeme) → numbered noType x ≡ numberOfToken c x
 unfolding numbered noType
 type-number h x = sym (number-is h x)
 
-pub pattern-number : {c : List Lexeme} → Spot false false false false true false c → (x : Lexeme) → numbered noPattern x ≡ numberOf c x
+pub pattern-number : {c : List Lexeme} → TestsAt false false false false true false c → (x : Lexeme) → numbered noPattern x ≡ numberOfToken c x
 unfolding numbered noPattern
 pattern-number h x = sym (number-is h x)
 
-pub policy-number : {c : List Lexeme} → Spot false false false false false true c → (x : Lexeme) → numbered noPolicy x ≡ numberOf c x
+pub policy-number : {c : List Lexeme} → TestsAt false false false false false true c → (x : Lexeme) → numbered noPolicy x ≡ numberOfToken c x
 unfolding numbered noPolicy
 policy-number h x = sym (number-is h x)
 
@@ -80,7 +81,7 @@ isAction Resource = false
 isAction Env = false
 isAction Action = true
 
-on-path-number : {c : List Lexeme} → Spot true false false false false false c → (root : Root) → afterAction c ≡ isAction root → (x : Lexeme) → numbered (noName root) x ≡ numberOf c x
+on-path-number : {c : List Lexeme} → TestsAt true false false false false false c → (root : Root) → afterAction c ≡ isAction root → (x : Lexeme) → numbered (noName root) x ≡ numberOfToken c x
 unfolding numbered noName
 on-path-number {c = c} h root e x = go (is kinds.name x) root refl ∙ sym (rw e at (number-is h x))
   where
@@ -111,8 +112,8 @@ opens k = eqb k kinds.leftBrace || eqb k kinds.bang || eqb k kinds.ifWord || eqb
 
 -- behind a token of the kind k, which is no name, no comma and no `(`
 pub at-kind : (k : ℕ) → (eqb k kinds.name ≡ false) × (eqb k kinds.comma ≡ false) × (eqb k kinds.leftRound ≡ false) → (y : Lexeme) (c : List Lexeme) → y .kind ≡ k
-    → Spot (eqb k kinds.dot || eqb k kinds.hasWord) false (eqb k kinds.isWord) (opens k) (eqb k kinds.likeWord) (eqb k kinds.semicolon) (y ∷ c)
-unfolding behind atCondition
+    → TestsAt (eqb k kinds.dot || eqb k kinds.hasWord) false (eqb k kinds.isWord) (opens k) (eqb k kinds.likeWord) (eqb k kinds.semicolon) (y ∷ c)
+unfolding lastPasses atCondition
 at-kind k h y c e = record {
   name = rw e;
   left = no-left y c (rw e (h .0));
@@ -131,7 +132,7 @@ telling =
 
 -- behind a token that passes a test which they all fail
 quiet-by : (test : ℕ → Bool) → every (λ k. not (test k)) telling ≡ true → (y : Lexeme) (c : List Lexeme) → test (y .kind) ≡ true → Quiet (y ∷ c)
-unfolding behind atCondition
+unfolding lastPasses atCondition
 quiet-by test f y c t = record {
   name = rw (no kinds.dot refl, no kinds.hasWord refl);
   left = no-left y c (no kinds.name refl);
@@ -167,28 +168,28 @@ quiet-effect y c t = quiet-by (λ k. isEffect (made k)) refl y c t
 
 -- what a bracket stands behind that is a target's or a call's
 abbrev pub other : List Lexeme → Bool
-other = behind (λ z. isEffect z || isContains z)
+other = lastPasses (λ z. isEffect z || isContains z)
 
 pub quiet-round : (y : Lexeme) (c : List Lexeme) → y .kind ≡ kinds.leftRound → other c ≡ true → Quiet (y ∷ c)
-unfolding behind atCondition
+unfolding lastPasses atCondition
 quiet-round y c e f = record { name = rw e; left = no-left y c (rw e); type = rw e; begins = rw (e, f); pattern = rw e; policy = rw e; list = no-list y c (rw e) }
 
-pub quiet-comma : (y : Lexeme) (c : List Lexeme) → y .kind ≡ kinds.comma → behind isLiteral c ≡ false → Quiet (y ∷ c)
-unfolding behind atCondition oneMore
+pub quiet-comma : (y : Lexeme) (c : List Lexeme) → y .kind ≡ kinds.comma → lastPasses isLiteral c ≡ false → Quiet (y ∷ c)
+unfolding lastPasses atCondition oneMore
 quiet-comma y c e f = record { name = rw e; left = no-left y c (rw e); type = rw e; begins = rw e; pattern = rw e; policy = rw e; list = go c f }
   where
-    go : (c : List Lexeme) → behind isLiteral c ≡ false → (x : Lexeme) → oneMore mostLiterals (y ∷ c) x ≡ false
+    go : (c : List Lexeme) → lastPasses isLiteral c ≡ false → (x : Lexeme) → oneMore mostLiterals (y ∷ c) x ≡ false
     go [] f x = refl
     go (l ∷ c) f x = rw (e, f)
 
 -- behind a name: it goes by what the name is of
-pub at-left : (l : Bool) (y : Lexeme) (c : List Lexeme) → y .kind ≡ kinds.name → afterLeft (y ∷ c) ≡ l → Spot false l false false false false (y ∷ c)
-unfolding behind atCondition
+pub at-left : (l : Bool) (y : Lexeme) (c : List Lexeme) → y .kind ≡ kinds.name → afterLeft (y ∷ c) ≡ l → TestsAt false l false false false false (y ∷ c)
+unfolding lastPasses atCondition
 at-left l y c e f = record { name = rw e; left = f; type = rw e; begins = rw e; pattern = rw e; policy = rw e; list = no-list y c (rw e) }
 
 -- where a condition begins no target's or call's bracket can stand
 pub no-other : (c : List Lexeme) → atCondition c ≡ true → other c ≡ false
-unfolding behind atCondition
+unfolding lastPasses atCondition
 no-other [] f = refl
 no-other (z ∷ c) f =
     rw (
@@ -200,7 +201,7 @@ no-other (z ∷ c) f =
 
 -- a bracket where a condition begins
 pub begins-round : (y : Lexeme) {c : List Lexeme} → y .kind ≡ kinds.leftRound → AtCondition c → AtCondition (y ∷ c)
-unfolding behind atCondition
+unfolding lastPasses atCondition
 begins-round y {c = c} e h = record { name = rw e; left = no-left y c (rw e); type = rw e; begins = rw (e, no-other c (h .begins)); pattern = rw e; policy = rw e; list = no-list y c (rw e) }
 
 -- ---- paths
@@ -211,7 +212,7 @@ pub data OnPath (left : Bool) : Root → List Lexeme → Type 0 where
   had : {x h : Lexeme} {c : List Lexeme} → isRoot x ≡ true → h .kind ≡ kinds.hasWord → left ≡ false → OnPath left (rootOf x) (h ∷ x ∷ c)
   longer : {root : Root} {n d : Lexeme} {c : List Lexeme} → OnPath left root c → n .kind ≡ kinds.name → d .kind ≡ kinds.dot → OnPath left root (d ∷ n ∷ c)
 
-path-place : {left : Bool} {root : Root} {c : List Lexeme} → OnPath left root c → Spot true false false false false false c
+path-place : {left : Bool} {root : Root} {c : List Lexeme} → OnPath left root c → TestsAt true false false false false false c
 path-place (dotted {d = d} t e k) = at-kind kinds.dot (refl, refl, refl) d _ e
 path-place (had {h = h} t e k) = at-kind kinds.hasWord (refl, refl, refl) h _ e
 path-place (longer {d = d} h k e) = at-kind kinds.dot (refl, refl, refl) d _ e
@@ -235,7 +236,7 @@ path-action (dotted {x = x} t e k) = rw (e, t) (sym (root-kind x t))
 path-action (had {x = x} t e k) = rw (e, t) (sym (root-kind x t))
 path-action (longer h k e) = rw (e, k) (path-action h)
 
-pub path-number : {left : Bool} {root : Root} {c : List Lexeme} → OnPath left root c → (x : Lexeme) → numbered (noName root) x ≡ numberOf c x
+pub path-number : {left : Bool} {root : Root} {c : List Lexeme} → OnPath left root c → (x : Lexeme) → numbered (noName root) x ≡ numberOfToken c x
 path-number {root = root} h x = on-path-number (path-place h) root (path-action h) x
 
 after-name : {left : Bool} {root : Root} {c : List Lexeme} → OnPath left root c → (n : Lexeme) → n .kind ≡ kinds.name → afterLeft (n ∷ c) ≡ left
@@ -254,7 +255,7 @@ after-name (longer {n = m} {d = d} {c = c} h k e) n f = rw (eq-eqb (n .kind) kin
 pub data Named (left : Bool) (root : Root) : List Lexeme → Type 0 where
   named : {n : Lexeme} {c : List Lexeme} → OnPath left root c → n .kind ≡ kinds.name → Named left root (n ∷ c)
 
-pub named-place : {left : Bool} {root : Root} {c : List Lexeme} → Named left root c → Spot false left false false false false c
+pub named-place : {left : Bool} {root : Root} {c : List Lexeme} → Named left root c → TestsAt false left false false false false c
 named-place (named {n = n} h e) = at-left _ n _ e (after-name h n e)
 
 -- ---- lists
@@ -278,17 +279,17 @@ no-more (further h t e) zero x g = rw e
 no-more (further h t e) (suc n) x g = rw (e, t) (no-more h n x g)
 
 in-list-number : (c : List Lexeme) → atName c ≡ false → afterLeft c ≡ false → atType c ≡ false → atCondition c ≡ false → atPattern c ≡ false → afterPolicy c ≡ false
-    → (x : Lexeme) → numberOf c x ≡ cond (ltb (x .kind) 7) (x .kind) (cond (oneMore mostLiterals c x) 14 10)
-unfolding numberOf
+    → (x : Lexeme) → numberOfToken c x ≡ cond (ltb (x .kind) 7) (x .kind) (cond (oneMore mostLiterals c x) 14 10)
+unfolding numberOfToken
 in-list-number c n l t b p s x = rw (n, l, t, b, p, s)
 
-list-number : {sort : Lexeme → Bool} {k : ℕ} {c : List Lexeme} → InList sort k c → (x : Lexeme) → numberOf c x ≡ cond (ltb (x .kind) 7) (x .kind) (cond (oneMore mostLiterals c x) 14 10)
-unfolding behind atCondition
+list-number : {sort : Lexeme → Bool} {k : ℕ} {c : List Lexeme} → InList sort k c → (x : Lexeme) → numberOfToken c x ≡ cond (ltb (x .kind) 7) (x .kind) (cond (oneMore mostLiterals c x) 14 10)
+unfolding lastPasses atCondition
 list-number (opened {s = s} {c = c} e f) x = in-list-number (s ∷ c) (rw e) (no-left s c (rw e)) (rw e) (rw e) (rw e) (rw e) x
 list-number (further {y = y} {l = l} {c = c} h t e) x = in-list-number (y ∷ l ∷ c) (rw e) (no-left y (l ∷ c) (rw e)) (rw e) (rw e) (rw e) (rw e) x
 
 pub element-number : {sort : Lexeme → Bool} {k : ℕ} {c : List Lexeme} → InList sort k c → k ≤ mostLiterals → (x : Lexeme) → (sort x && ltb k mostLiterals) ≡ false
-    → numbered (tooMany sort) x ≡ numberOf c x
+    → numbered (tooMany sort) x ≡ numberOfToken c x
 unfolding numbered tooMany
 element-number {sort = sort} {k = k} {c = c} h l x f = rw (list-number h x) (go (sort x) refl)
   where

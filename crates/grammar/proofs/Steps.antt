@@ -11,7 +11,7 @@ use Rattle.reading.specs.Reader.{took, Reader, ten, bind, on, mapped, onwards}
 use Rattle.reading.proofs.Readers.{Goes, good, goes-took, goes-on, goes-refuseBy, Shrinks, shrinks-onto, Takes, takes, onwards-step}
 use Rattle.grammar.specs.Policies.{Root, Literal, Tree, both, either, Policy}
 use Rattle.grammar.specs.Grammar.{sizes}
-use Rattle.grammar.specs.Parser.{Way, plain, calling, noName, tooMany, goesOn, read-next-name, read-element, read-conjunction, read-condition, mayBegin, read-next-policy}
+use Rattle.grammar.specs.Parser.{Way, uncalled, calling, noName, tooMany, goesOn, read-next-name, read-element, read-conjunction, read-condition, mayBegin, read-next-policy}
 use Rattle.grammar.proofs.Begun.{Family, Viable, viable-mapped}
 use Rattle.grammar.proofs.Framing.{shrinks-conjunction, shrinks-condition, shrinks-policy, framed-condition}
 use Rattle.grammar.proofs.Viable.{viable-condition, viable-conjunction, viable-policy}
@@ -23,7 +23,7 @@ unfolding read-next-name
 way-takes exit root w = record { at = λ i r a e. goes-took (rw e at (go w i)) }
   where
     go : (w : Way) (i : List Lexeme) → Goes (λ a r. length r < length i) (λ n r. Unit {0}) (read-next-name exit root w i)
-    go (plain p) i =
+    go (uncalled p) i =
         goes-on _ _ _ _ _ i (λ x r e t. rw e (good {r = r} (omega arith))) (goes-on _ _ _ _ _ i (λ x r e t. rw e (good {r = r} (omega arith))) (goes-refuseBy (noName root) i (λ e. tt) (λ x r e. tt)))
     go (calling p w) i = goes-refuseBy ten i (λ e. tt) (λ x r e. tt)
 

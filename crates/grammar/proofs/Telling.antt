@@ -8,7 +8,7 @@ use borrow.Author.Tests.{eqb-true}
 use Rattle.reading.specs.Lexemes.{Lexeme, is, choose}
 use Rattle.reading.specs.Reader.{Answer, took, refuse, Reader, numbered, refuseBy, ten, bind, on, need, before, mapped, upTo, onwards, chain}
 use Rattle.reading.proofs.Readers.{Without}
-use Rattle.grammar.specs.Numbers.{numberOf, numberAt}
+use Rattle.grammar.specs.Numbers.{numberOfToken, numberOfFirst}
 
 -- Of two lists, the tokens before a place, the last first, and those behind it: the place d, r is reached from the place c, i.
 pub data Past (d r : List Lexeme) : List Lexeme → List Lexeme → Type 0 where
@@ -25,7 +25,7 @@ Places = List Lexeme → List Lexeme → Type 0
 -- An answer at the place c, i: what was taken ends at a place of which Post holds, and a refusal has the table's number at its place.
 pub data Told {A : Type 0} (Post : A → Places) (c i : List Lexeme) : Answer A → Type 0 where
   good : {a : A} {d r : List Lexeme} → Past d r c i → Post a d r → Told Post c i (took a r)
-  stops : {n : ℕ} {d r : List Lexeme} → Past d r c i → n ≡ numberAt d r → Told Post c i (refuse n r)
+  stops : {n : ℕ} {d r : List Lexeme} → Past d r c i → n ≡ numberOfFirst d r → Told Post c i (refuse n r)
 
 -- p so answers at each place of which Pre holds.
 pub record Tells {A : Type 0} (Pre : Places) (p : Reader A) (Post : A → Places) : Type 0 where
@@ -47,8 +47,8 @@ module _ {A : Type 0} {Pre : Places} where
   pub tells-took : (a : A) {Post : A → Places} → ((c i : List Lexeme) → Pre c i → Post a c i) → Tells Pre (took a) Post
   tells-took a f = record { at = λ c i h. good here (f c i h) }
 
-  pub tells-refuseBy : (number : Lexeme → ℕ) {Post : A → Places} → ((c r : List Lexeme) (x : Lexeme) → Pre c (x ∷ r) → numbered number x ≡ numberOf c x) → Tells Pre (refuseBy number) Post
-  unfolding refuseBy numberAt
+  pub tells-refuseBy : (number : Lexeme → ℕ) {Post : A → Places} → ((c r : List Lexeme) (x : Lexeme) → Pre c (x ∷ r) → numbered number x ≡ numberOfToken c x) → Tells Pre (refuseBy number) Post
+  unfolding refuseBy numberOfFirst
   tells-refuseBy number {Post = Post} f = record { at = go }
     where
       go : (c i : List Lexeme) → Pre c i → Told Post c i (refuseBy number i)
@@ -82,7 +82,7 @@ tells-on {A = A} {Pre = Pre} k f g {Post = Post} t u = record { at = go }
 
 -- a refusal by 10, for no other reason
 pub record Plain (Pre : Places) : Type 0 where
-  pub at : (c i : List Lexeme) → Pre c i → (x : Lexeme) → numbered ten x ≡ numberOf c x
+  pub at : (c i : List Lexeme) → Pre c i → (x : Lexeme) → numbered ten x ≡ numberOfToken c x
 
 pub tells-ten : {A : Type 0} {Pre : Places} {Post : A → Places} → Plain Pre → Tells Pre (refuseBy ten) Post
 tells-ten p = tells-refuseBy ten (λ c r x h. p .at c (x ∷ r) h x)

@@ -13,15 +13,16 @@ use Rattle.slices.specs.Ascii.{bytes}
 use Rattle.slices.specs.Same.{same}
 use Rattle.tokens.specs.Kinds as kinds
 use Rattle.tokens.proofs.TokenLaws.{never, and-left, and-right}
+use Rattle.tokens.specs.Sizes.{mostLiterals, mostPolicies}
 use Rattle.reading.specs.Lexemes.{Lexeme, is}
 use Rattle.reading.specs.Reads.{Reading, Chain, Chain.alone, Chain.more, Onto, Onto.onto, Before, Before.ended, After, After.begun}
 use Rattle.reading.specs.Reader.{Answer, Reader, refuseBy, mapped, chain}
 use Rattle.reading.proofs.Readers.{Goes, good, goes-weaker, goes-below, goes-ten, goes-bind, goes-on, goes-need, goes-need-bind, goes-onwards}
 use Rattle.grammar.specs.Policies.{Span, Root, Literal, Operand, attribute, literal, Tree, compare, among, within, contains, has, choice, both, either, Part, Actions, oneOf, Policy}
-use Rattle.grammar.specs.Rules.{inside, isEffect, isRoot, rootOf, isLiteral, literalOf, isComparator, comparatorOf, isContains, whichOf, deepens, principalTypes, resourceTypes, typeAmong, isType, admitted, mostLiterals, mostPolicies, isPattern}
+use Rattle.grammar.specs.Rules.{inside, isEffect, isRoot, rootOf, isLiteral, literalOf, isComparator, comparatorOf, isContains, whichOf, deepens, principalTypes, resourceTypes, typeAmong, isType, admitted, isPattern}
 use Rattle.grammar.specs.Grammar.{a-policy, Limits, pathNumber, Path, firstPath, spanned, first, NextName, next, APath, Attribute, rooted, AnOperand, given, Element, element, Literals, Listing, Simple, comparison, likeness, listed, held, call, having, Conjunction, Disjunction, ConditionOver, simple, negation, bracketed, conditional, Condition, Typed, ResourceRest, ActionRest, When, PolicyRest, Policies, policy, RuleText}
 use Rattle.grammar.specs.Grammar as grammar
-use Rattle.grammar.specs.Parser.{Way, calling, noName, noOperator, noType, noLevel, noPattern, tooMany, noPolicy, fits, read-first-name, goesOn, read-next-name, read-way, noExit, spannedBy, read-path, read-attribute, read-operand, isElement, read-element, read-list, read-bare, read-in, isLike, read-pattern, read-operator, read-call, read-rest, read-rooted, read-simple, read-joined, read-conjunction, read-disjunction, read-negated, read-bracketed, read-conditional, read-deeper, read-condition, read-conditions, read-type, read-principal, read-action, read-resource, read-when, read-policy, mayBegin, read-next-policy, atEnd, read-text}
+use Rattle.grammar.specs.Parser.{Way, calling, noName, noOperator, noType, noLevel, noPattern, tooMany, noPolicy, nameFits, read-first-name, goesOn, read-next-name, read-way, noExit, spannedBy, read-path, read-attribute, read-operand, isElement, read-element, read-list, read-bare, read-in, isLike, read-pattern, read-operator, read-call, read-rest, read-rooted, read-simple, read-joined, read-conjunction, read-disjunction, read-negated, read-bracketed, read-conditional, read-deeper, read-condition, read-conditions, read-type, read-principal, read-action, read-resource, read-when, read-policy, mayBegin, read-next-policy, atEnd, read-text}
 use Rattle.grammar.specs.Parser as parser
 use Rattle.grammar.proofs.Begun.{Family, made, Swap, here, Moved, Eases, taken, Exempt, beyond, Kept, eased, few, beyond-few, Framed, framed-onto, framed-before, framed-chain, Then, followed, Possible, possible-onto, possible-before, possible-after, possible-then, possible-chain, Begun, begun-weaker, begun-first, begun-start, begun-more, begun-next, begun-inside, begun-left, begun-right, Viable, viable-mapped, viable-before, viable-after, viable-onwards, viable-chain}
 use Rattle.grammar.proofs.Limits.{name-number, string-number, literal-number, effect-number, level-number, bare-below, type-below, name-below, pattern-below, literal-below, effect-below, level-below, Chosen, chosen-beyond, goes-limit}
@@ -31,7 +32,7 @@ use Rattle.grammar.proofs.Framing.{same-depth, framed-names, framed-att
 
 -- a path, or a path, a dot and a word that ends it
 pub data AWay (L : Limits) (exit : Lexeme → Bool) (root : Root) : List Lexeme → List Lexeme → Way → Type 0 where
-  path : {i r : List Lexeme} {p : Path} → APath L root i r p → AWay L exit root i r (parser.Way.plain p)
+  path : {i r : List Lexeme} {p : Path} → APath L root i r p → AWay L exit root i r (parser.Way.uncalled p)
   left : {i r : List Lexeme} {d x : Lexeme} {p : Path} → APath L root i (d ∷ x ∷ r) p → d .kind ≡ kinds.dot → exit x ≡ true → AWay L exit root i r (calling p (whichOf x))
 
 -- what f makes of the attribute that x begins
@@ -94,15 +95,15 @@ module _ (extra : ℕ) where
     goes-name i f = goes-limit (noName root) (is kinds.name) (pathNumber root) (made kinds.name) refl (λ x t. name-number root x (eqb-true _ _ t)) (name-below root) i f
 
     viable-first : (exit : Lexeme → Bool) (i : List Lexeme) → Goes (λ w r. AWay (taken extra) exit root i r w) (Begun extra (λ L. APath L root) i) (read-first-name root i)
-    unfolding read-first-name fits
+    unfolding read-first-name nameFits
     viable-first exit i =
         goes-on _ _ _ _ _ i (λ x r e t. rw e (good (path (alone (first (eqb-true _ _ (and-left _ _ t)) (and-right (is kinds.name x) (admitted root 0 x) t))))))
         (goes-name i (λ n c. begun-first [] (λ w. (c .token ∷ w, _, c .kept w, alone (first (eqb-true _ _ (c .passes)) (inr (chosen-beyond c w)))))))
 
     viable-next : (exit : Lexeme → Bool) (i m : List Lexeme) (w : Way) (d : Lexeme) → AWay (taken extra) exit root i (d ∷ m) w → goesOn w d ≡ true
         → Goes (λ v r. AWay (taken extra) exit root i r v) (Begun extra (λ L. APath L root) i) (read-next-name exit root w m)
-    unfolding read-next-name fits goesOn
-    viable-next exit i m (parser.Way.plain p) d (path j) e =
+    unfolding read-next-name nameFits goesOn
+    viable-next exit i m (parser.Way.uncalled p) d (path j) e =
         goes-on _ _ _ _ _ m (λ x r e′ t. good (left (rw e′ at j) (eqb-true _ _ e) t))
         (goes-on _ _ _ _ _ m
         (λ x r e′ t. good (path (more j e (rw e′ (next (eqb-true _ _ (and-left _ _ t)) (and-right (is kinds.name x) (admitted root _ x) t))))))
@@ -136,13 +137,13 @@ module _ (extra : ℕ) where
       go k (onto j) = via (rooted t k j)
 
   some-operand : Possible extra AnOperand
-  some-operand = record { text = λ w. made kinds.trueWord ∷ w; tree = _; reads = λ n s w. grammar.AnOperand.plain refl }
+  some-operand = record { text = λ w. made kinds.trueWord ∷ w; tree = _; reads = λ n s w. grammar.AnOperand.literally refl }
 
   viable-operand : Viable extra read-operand AnOperand
   unfolding read-operand
   viable-operand = record {
     at = λ i.
-        goes-on _ _ _ _ _ i (λ x r e t. rw e (good (grammar.AnOperand.plain t)))
+        goes-on _ _ _ _ _ i (λ x r e t. rw e (good (grammar.AnOperand.literally t)))
         (goes-on _ _ _ _ _ i
         (λ x r e t. rw e (goes-weaker (viable-attribute x attribute t .at r) (λ a m h. go h) (λ num m b. begun-more (x ∷ []) (λ w. w) b (λ s j w a h. (_, go h)))))
         (goes-ten i (λ n l. begun-start some-operand l)));
@@ -179,7 +180,7 @@ module _ (extra : ℕ) where
 
   -- An operand can be gone on with by `== true`.
   begun-operand : {i m : List Lexeme} {a : Operand} → AnOperand (taken extra) i m a → (n : ℕ) → n < 11 → Begun extra Simple i n m
-  begun-operand h n l = begun-next [] (λ w. made kinds.equal ∷ made kinds.trueWord ∷ w) framed-operand h (λ w. few l) (λ j w k. (_, comparison k refl (grammar.AnOperand.plain refl)))
+  begun-operand h n l = begun-next [] (λ w. made kinds.equal ∷ made kinds.trueWord ∷ w) framed-operand h (λ w. few l) (λ j w k. (_, comparison k refl (grammar.AnOperand.literally refl)))
 
   -- the token x is a left operand that no operator follows
   viable-bare : (x : Lexeme) (m : List Lexeme) → isLiteral x ≡ true → Goes (λ t r. Simple (taken extra) (x ∷ m) r t) (Begun extra Simple (x ∷ m)) (read-bare (literal (literalOf x)) m)
@@ -187,8 +188,8 @@ module _ (extra : ℕ) where
   viable-bare x m t = go (is kinds.string x) (is kinds.number x) refl refl
     where
       go : (s n : Bool) → is kinds.string x ≡ s → is kinds.number x ≡ n → Goes (λ t r. Simple (taken extra) (x ∷ m) r t) (Begun extra Simple (x ∷ m)) (read-bare (literal (literalOf x)) m)
-      go true n e f = rw e (goes-ten m (begun-operand (grammar.AnOperand.plain t)))
-      go false true e f = rw (e, f) (goes-ten m (begun-operand (grammar.AnOperand.plain t)))
+      go true n e f = rw e (goes-ten m (begun-operand (grammar.AnOperand.literally t)))
+      go false true e f = rw (e, f) (goes-ten m (begun-operand (grammar.AnOperand.literally t)))
       go false false e f = rw (e, f) (good (grammar.Simple.bare (rw (e, f) at t)))
 
   -- a left operand a was read, and a comparator, `like` or `in`
@@ -260,7 +261,7 @@ module _ (extra : ℕ) where
   viable-rooted x i t =
       goes-on _ _ _ _ _ i
       (λ d m e k. rw e (goes-bind _ (viable-way (rootOf x) isContains m)
-      (λ num r b. begun-more (x ∷ d ∷ []) (λ w. made kinds.equal ∷ made kinds.trueWord ∷ w) b (λ s j w p h. (_, comparison (given (rooted t (eqb-true _ _ k) h)) refl (grammar.AnOperand.plain refl))))
+      (λ num r b. begun-more (x ∷ d ∷ []) (λ w. made kinds.equal ∷ made kinds.trueWord ∷ w) b (λ s j w p h. (_, comparison (given (rooted t (eqb-true _ _ k) h)) refl (grammar.AnOperand.literally refl))))
       (λ w r h. go d m (eqb-true _ _ k) w r h)))
       (goes-need _ _ _ _ i
       (λ num l. begun-first (x ∷ []) (λ w. (made kinds.hasWord ∷ made kinds.name ∷ w, _, few l, having t refl (one-name (rootOf x) num (made kinds.hasWord ∷ made kinds.name ∷ w) w (beyond-few l (omega arith)))))) (λ h m e k.
@@ -268,7 +269,7 @@ module _ (extra : ℕ) where
     where
       go : (d : Lexeme) (m : List Lexeme) → d .kind ≡ kinds.dot → (w : Way) (r : List Lexeme) → AWay (taken extra) isContains (rootOf x) m r w
           → Goes (λ t r. Simple (taken extra) (x ∷ d ∷ m) r t) (Begun extra Simple (x ∷ d ∷ m)) (read-rest (rootOf x) w r)
-      go d m k (parser.Way.plain p) r (path j) = viable-operator _ _ r (given (rooted t k j)) (goes-below noOperator bare-below r (begun-operand (given (rooted t k j))))
+      go d m k (parser.Way.uncalled p) r (path j) = viable-operator _ _ r (given (rooted t k j)) (goes-below noOperator bare-below r (begun-operand (given (rooted t k j))))
       go d m k (calling p w) r (left j e f) = viable-call _ r _ _ _ _ (rooted t k j) e f
 
       has-path : {L : Limits} {h : Lexeme} {m r : List Lexeme} {p : Span} → h .kind ≡ kinds.hasWord → Onto spanned (APath L (rootOf x)) m r p → Simple L (x ∷ h ∷ m) r (has (rootOf x) p)
@@ -287,7 +288,7 @@ module _ (extra : ℕ) where
   unfolding read-simple
   viable-simple {R = R} deeper v = record {
     at = λ i.
-        goes-on _ _ _ _ _ i (λ x r e t. rw e (up (viable-operator _ _ r (grammar.AnOperand.plain t) (viable-bare x r t))))
+        goes-on _ _ _ _ _ i (λ x r e t. rw e (up (viable-operator _ _ r (grammar.AnOperand.literally t) (viable-bare x r t))))
         (goes-on _ _ _ _ _ i (λ x r e t. rw e (up (viable-rooted x r t)))
         (v .at i));
   }

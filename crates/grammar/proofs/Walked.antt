@@ -16,7 +16,7 @@ use Rattle.grammar.specs.Policies.{Root, Literal, Operand, Tree, Part, A
 use Rattle.grammar.specs.Rules.{isEffect, isRoot, isTruth, isLiteral, isComparator, isContains, principalTypes, resourceTypes, isType}
 use Rattle.grammar.specs.Grammar.{Limits, Path, first, next, APath, Attribute, rooted, AnOperand, given, Element, element, Listing, Simple, comparison, likeness, listed, held, call, having, Joined, Disjunction, ConditionOver, simple, negation, bracketed, conditional, Condition, Typed, ResourceRest, ActionRest, When, PolicyRest, Policies, policy}
 use Rattle.grammar.specs.Grammar as grammar
-use Rattle.grammar.specs.Numbers.{behind, atName, atType, atCondition}
+use Rattle.grammar.specs.Numbers.{lastPasses, atName, atType, atCondition}
 use Rattle.grammar.proofs.Begun.{made}
 use Rattle.grammar.proofs.Completeness.{other-kind}
 use Rattle.grammar.proofs.Spots.{no-other}
@@ -65,11 +65,11 @@ past k h e f d = step (by-kind k h e) (f _)
 
 -- behind a dot and behind `has` stands a name
 behind-dot : (x : Lexeme) (d : List Lexeme) → x .kind ≡ kinds.dot → atName (x ∷ d) ≡ true
-unfolding behind
+unfolding lastPasses
 behind-dot x d e = rw e
 
 behind-has : (x : Lexeme) (d : List Lexeme) → x .kind ≡ kinds.hasWord → atName (x ∷ d) ≡ true
-unfolding behind
+unfolding lastPasses
 behind-has x d e = rw e
 
 -- behind a token of the kind k, which is no name, no `!` and no `is`, a condition begins
@@ -146,7 +146,7 @@ module _ (L : Limits) where
 
   walk-operand : {i r : List Lexeme} {a : Operand} → AnOperand L i r a → Ends r → Ends i
   walk-operand (given h) f c = walk-attribute h f c
-  walk-operand (grammar.AnOperand.plain {x = x} t) f c = step (literal x t) (f _)
+  walk-operand (grammar.AnOperand.literally {x = x} t) f c = step (literal x t) (f _)
 
   module _ (sort : Lexeme → Bool) (sorts : (x : Lexeme) → sort x ≡ true → isLiteral x ≡ true) where
     walk-element : {ls ks : List Literal} {i r : List Lexeme} → Element L sort ls i r ks → Ends r → Ends i
@@ -209,7 +209,7 @@ module _ (L : Limits) where
 -- where a name stands
 pub name-place : (y : Lexeme) (on b : List Lexeme) {c : List Lexeme} → Walks c (b ++ y ∷ on) → y .kind ≡ kinds.name
     → (atName (reverseAux b c) ≡ true) ⊎ ((atType (reverseAux b c) ≡ true) × (someType y ≡ true))
-unfolding behind
+unfolding lastPasses
 name-place y on [] (step p w) e = absurd (never (sym (rw e at (p .name))))
 name-place y on [] (named q a w) e = inl a
 name-place y on [] (negated q a w) e = absurd (let z : kinds.name ≡ kinds.bang = cc in omega arith)
@@ -244,7 +244,7 @@ pub data NameFirst : List Lexeme → Type 0 where
 
 -- behind `is` stand such
 pub type-next : (on b : List Lexeme) {c : List Lexeme} → atType c ≡ false → Walks c (b ++ on) → atType (reverseAux b c) ≡ true → NameFirst on
-unfolding behind
+unfolding lastPasses
 type-next on [] f w e = absurd (never (rw f at e))
 type-next on (x ∷ []) f (step p w) e = type-next on [] (p .type) w e
 type-next on (x ∷ []) f (named q a w) e = type-next on [] (rw q) w e

@@ -8,13 +8,14 @@ use Prim.Native.Nat.{ℕ, zero, suc, _+_, _<_}
 use lib.Dec.{ltb}
 use lib.ListN.{length}
 use Rattle.tokens.specs.Kinds as kinds
+use Rattle.tokens.specs.Sizes.{mostLiterals, mostPolicies, mostInside}
 use Rattle.reading.specs.Listed.{Lexeme, is, size, TokensOf}
 use Rattle.reading.specs.Reads.{Reading, Chain, Onto, Before, After}
 use Rattle.grammar.specs.Policies.{Span, span, Root, Root.Principal, Root.Resource, Root.Env, Root.Action, Literal, Operand, attribute, literal, Tree}
 use Rattle.grammar.specs.Policies.{constant, compare, like, among, within, contains, has, not, brackets, both, either, choice, Part, any, typed, pinned}
 use Rattle.grammar.specs.Policies.{Actions, every, oneOf, Policy}
 use Rattle.grammar.specs.Rules.{inside, spanOf, isEffect, isRoot, rootOf, isTruth, isLiteral, literalOf, isComparator, comparatorOf, isContains, whichOf}
-use Rattle.grammar.specs.Rules.{principalTypes, resourceTypes, typeOf, isType, admitted, mostLiterals, mostPolicies, mostInside, isPattern}
+use Rattle.grammar.specs.Rules.{principalTypes, resourceTypes, typeOf, isType, admitted, isPattern}
 
 -- ---- limits
 
@@ -117,7 +118,7 @@ pub data Attribute (L : Limits) : List Lexeme → List Lexeme → Operand → Ty
 -- an operand: an attribute or a literal
 pub data AnOperand (L : Limits) : List Lexeme → List Lexeme → Operand → Type 0 where
   given : {i r : List Lexeme} {a : Operand} → Attribute L i r a → AnOperand L i r a
-  plain : {x : Lexeme} {r : List Lexeme} → isLiteral x ≡ true → AnOperand L (x ∷ r) r (literal (literalOf x))
+  literally : {x : Lexeme} {r : List Lexeme} → isLiteral x ≡ true → AnOperand L (x ∷ r) r (literal (literalOf x))
 
 -- ---- lists: at least one literal, with commas between them, in square brackets
 

@@ -1,4 +1,5 @@
 pub mod Policies
+pub mod Moves
 pub mod Rules
 pub mod Grammar
 pub mod Parser

@@ -6,10 +6,11 @@ use mathlib.Core.Bool.{true}
 use mathlib.Core.List.{List, [], _∷_, _++_}
 use Prim.Native.Nat.{ℕ, _≤_, _<_}
 use Rattle.tokens.specs.Kinds as kinds
+use Rattle.tokens.specs.Sizes.{mostInside}
 use Rattle.reading.specs.Listed.{Lexeme}
 use Rattle.reading.specs.Reader.{refuse}
 use Rattle.grammar.specs.Policies.{Operand, Policy}
-use Rattle.grammar.specs.Rules.{isReserved, endsBare, mostInside}
+use Rattle.grammar.specs.Rules.{isReserved, endsBare}
 use Rattle.grammar.specs.Grammar.{lifting, Beyond, unlimited, Attribute, RuleText}
 use Rattle.grammar.specs.Parser.{read-text}
 use Rattle.grammar.specs.Promise.{Refused}
@@ -101,5 +102,5 @@ pub record RefusedBy (i r : List Lexeme) (n : ℕ) : Type 0 where
   pub lowest : LowestNumber (rightly .before) r n
 
 -- A list of tokens is so refused exactly when document 01 says.
-unfoldable pub RefusedExactly : Type 0
-RefusedExactly = (i r : List Lexeme) (n : ℕ) → (read-text i ≡ refuse n r) ↔ RefusedBy i r n
+unfoldable pub TokensRefusedExactly : Type 0
+TokensRefusedExactly = (i r : List Lexeme) (n : ℕ) → (read-text i ≡ refuse n r) ↔ RefusedBy i r n

@@ -6,39 +6,40 @@ use mathlib.Core.List.{List, [], _∷_, _++_, reverse}
 use Prim.Native.Nat.{ℕ, zero, suc}
 use lib.Dec.{ltb}
 use Rattle.tokens.specs.Kinds as kinds
+use Rattle.tokens.specs.Sizes.{mostLiterals}
 use Rattle.reading.specs.Listed.{Lexeme, is}
 use Rattle.reading.specs.Reader.{refuse}
-use Rattle.grammar.specs.Rules.{isEffect, isReserved, isRoot, isLiteral, isContains, endsBare, deepens, mostLiterals}
+use Rattle.grammar.specs.Rules.{isEffect, isReserved, isRoot, isLiteral, isContains, endsBare, deepens}
 use Rattle.grammar.specs.Parser.{read-text}
 
 -- ---- places
 
 -- behind a token that passes the test
-unfoldable pub behind : (Lexeme → Bool) → List Lexeme → Bool
-behind test [] = false
-behind test (y ∷ c) = test y
+unfoldable pub lastPasses : (Lexeme → Bool) → List Lexeme → Bool
+lastPasses test [] = false
+lastPasses test (y ∷ c) = test y
 
 -- where a name of a path must stand
 abbrev pub atName : List Lexeme → Bool
-atName = behind (λ y. is kinds.dot y || is kinds.hasWord y)
+atName = lastPasses (λ y. is kinds.dot y || is kinds.hasWord y)
 
 -- where a type must stand
 abbrev pub atType : List Lexeme → Bool
-atType = behind (is kinds.isWord)
+atType = lastPasses (is kinds.isWord)
 
 -- where a pattern must stand
 abbrev pub atPattern : List Lexeme → Bool
-atPattern = behind (is kinds.likeWord)
+atPattern = lastPasses (is kinds.likeWord)
 
 -- behind a policy
 abbrev pub afterPolicy : List Lexeme → Bool
-afterPolicy = behind (is kinds.semicolon)
+afterPolicy = lastPasses (is kinds.semicolon)
 
 -- where a condition must begin: what stands there is a bracket, but not a target's or a call's, the brace of `when`, `!`, `if`, `then`, `else`, `&&` or `||`
 unfoldable pub atCondition : List Lexeme → Bool
 atCondition [] = false
 atCondition (y ∷ c) =
-    (is kinds.leftRound y && not (behind (λ z. isEffect z || isContains z) c)) || is kinds.leftBrace y || is kinds.bang y
+    (is kinds.leftRound y && not (lastPasses (λ z. isEffect z || isContains z) c)) || is kinds.leftBrace y || is kinds.bang y
     || is kinds.ifWord y || is kinds.thenWord y || is kinds.elseWord y || is kinds.and y || is kinds.or y
 
 -- a root that begins a left operand
@@ -74,8 +75,8 @@ oneMore (suc k) (y ∷ l ∷ c) x = is kinds.comma y && isLiteral l && oneMore k
 -- ---- the table, the lowest number first
 
 -- the number of the token x behind the tokens c
-unfoldable pub numberOf : List Lexeme → Lexeme → ℕ
-numberOf c x =
+unfoldable pub numberOfToken : List Lexeme → Lexeme → ℕ
+numberOfToken c x =
     cond (ltb (x .kind) 7) (x .kind)
     (cond (atName c && isReserved x) 7
     (cond (afterLeft c && endsBare x) 8
@@ -88,10 +89,10 @@ numberOf c x =
     (cond (atName c && is kinds.name x) 16 10)))))))))
 
 -- the refusal of the first token of r, or of the end of the text
-unfoldable pub numberAt : List Lexeme → List Lexeme → ℕ
-numberAt c [] = 10
-numberAt c (x ∷ r) = numberOf c x
+unfoldable pub numberOfFirst : List Lexeme → List Lexeme → ℕ
+numberOfFirst c [] = 10
+numberOfFirst c (x ∷ r) = numberOfToken c x
 
 -- Each refusal has the number of that table.
 unfoldable pub NumberedRightly : Type 0
-NumberedRightly = (b r : List Lexeme) (n : ℕ) → read-text (b ++ r) ≡ refuse n r → n ≡ numberAt (reverse b) r
+NumberedRightly = (b r : List Lexeme) (n : ℕ) → read-text (b ++ r) ≡ refuse n r → n ≡ numberOfFirst (reverse b) r

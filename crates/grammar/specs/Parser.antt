@@ -6,13 +6,14 @@ use Prim.Native.Nat.{ℕ, zero, suc, _+_}
 use lib.Dec.{ltb}
 use lib.ListN.{length}
 use Rattle.tokens.specs.Kinds as kinds
+use Rattle.tokens.specs.Sizes.{mostLiterals, mostPolicies, mostInside}
 use Rattle.reading.specs.Listed.{Lexeme, is}
 use Rattle.reading.specs.Reader.{took, Reader, refuseBy, ten, bind, on, need, before, mapped, onwards, chain}
 use Rattle.grammar.specs.Policies.{Span, Root, Literal, text, number, truth, Operand, attribute, literal, Which, Tree, constant, compare, like, among}
 use Rattle.grammar.specs.Policies.{within, contains, has, not, brackets, both, either, choice, Part, any, typed, pinned, Actions, every, oneOf, Policy}
 use Rattle.grammar.specs.Rules.{inside, spanOf, isEffect, isReserved, isRoot, rootOf, isLiteral, literalOf, isComparator, comparatorOf, isContains}
-use Rattle.grammar.specs.Rules.{whichOf, endsBare, deepens, principalTypes, resourceTypes, typeOf, isType, admitted, mostLiterals, mostPolicies}
-use Rattle.grammar.specs.Rules.{mostInside, isPattern}
+use Rattle.grammar.specs.Rules.{whichOf, endsBare, deepens, principalTypes, resourceTypes, typeOf, isType, admitted}
+use Rattle.grammar.specs.Rules.{isPattern}
 use Rattle.grammar.specs.Grammar.{pathNumber, Path, firstPath, longerPath, spanned}
 
 -- ---- which number a token gets that is not admitted
@@ -49,26 +50,26 @@ noPolicy x = cond (isEffect x) 15 10
 
 -- a path and, where it is a left operand and a call follows, which of containsAll and containsAny
 pub data Way : Type 0 where
-  plain : Path → Way
+  uncalled : Path → Way
   calling : Path → Which → Way
 
 -- a name that may go on a path after the root, of which so many bytes are used
-unfoldable pub fits : Root → ℕ → Lexeme → Bool
-fits root used x = is kinds.name x && admitted root used x
+unfoldable pub nameFits : Root → ℕ → Lexeme → Bool
+nameFits root used x = is kinds.name x && admitted root used x
 
 -- a path's first name
 unfoldable pub read-first-name : Root → Reader Way
-read-first-name root = on (fits root 0) (λ x. took (plain (firstPath x))) (refuseBy (noName root))
+read-first-name root = on (nameFits root 0) (λ x. took (uncalled (firstPath x))) (refuseBy (noName root))
 
 -- a dot goes on a path
 unfoldable pub goesOn : Way → Lexeme → Bool
-goesOn (plain p) x = is kinds.dot x
+goesOn (uncalled p) x = is kinds.dot x
 goesOn (calling p w) x = false
 
 -- after a path's dot, where the test says which word ends it
 unfoldable pub read-next-name : (Lexeme → Bool) → Root → Way → Reader Way
-read-next-name exit root (plain p) =
-    on exit (λ x. took (calling p (whichOf x))) (on (fits root (p .used + 1)) (λ x. took (plain (longerPath p x))) (refuseBy (noName root)))
+read-next-name exit root (uncalled p) =
+    on exit (λ x. took (calling p (whichOf x))) (on (nameFits root (p .used + 1)) (λ x. took (uncalled (longerPath p x))) (refuseBy (noName root)))
 read-next-name exit root (calling p w) = refuseBy ten
 
 -- a path after the root, and the word that ends it, if one does
@@ -81,7 +82,7 @@ noExit x = false
 
 -- where its path lies
 unfoldable pub spannedBy : Way → Span
-spannedBy (plain p) = spanned p
+spannedBy (uncalled p) = spanned p
 spannedBy (calling p w) = spanned p
 
 -- a path that is no left operand's
@@ -146,7 +147,7 @@ read-call w root p = need kinds.leftRound (need kinds.leftSquare (before kinds.r
 
 -- after the path of a left operand, or after the word that ends it
 unfoldable pub read-rest : Root → Way → Reader Tree
-read-rest root (plain p) = read-operator (attribute root (spanned p))
+read-rest root (uncalled p) = read-operator (attribute root (spanned p))
 read-rest root (calling p w) = read-call w root (spanned p)
 
 -- after a root: a left operand, or `has` and a path

@@ -18,6 +18,13 @@ span start end = record { start = start; end = end }
 pub data Root : Type 0 where
   Principal Resource Env Action : Root
 
+-- the root bytes of document 01, and 4 for action, which is no root of a bag
+abbrev pub rootByte : Root → ℕ
+rootByte Principal = 1
+rootByte Resource = 2
+rootByte Env = 3
+rootByte Action = 4
+
 -- `==`, `!=`, `>`, `>=`, `<`, `<=`
 pub data Comparator : Type 0 where
   Equal NotEqual More AtLeast Less AtMost : Comparator

@@ -10,8 +10,8 @@ use Rattle.grammar.specs.Grammar.{RuleText, sizes, sizesBefore}
 use Rattle.grammar.specs.Parser.{read-text}
 
 -- A list of tokens is accepted, with policies, exactly when it is a rule text that says these policies.
-unfoldable pub AcceptedExactly : Type 0
-AcceptedExactly = (i : List Lexeme) (ps : List Policy) → (read-text i ≡ took ps []) ↔ RuleText sizes i ps
+unfoldable pub TokensAcceptedExactly : Type 0
+TokensAcceptedExactly = (i : List Lexeme) (ps : List Policy) → (read-text i ≡ took ps []) ↔ RuleText sizes i ps
 
 -- A rule text says one list of policies.
 unfoldable pub Unambiguous : Type 0

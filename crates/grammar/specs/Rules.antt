@@ -9,6 +9,7 @@ use lib.ListN.{length, take, drop}
 use Rattle.slices.specs.Ascii.{bytes}
 use Rattle.slices.specs.Same.{same}
 use Rattle.tokens.specs.Kinds as kinds
+use Rattle.tokens.specs.Sizes.{mostPathBytes, mostPatternBytes, mostWildcards}
 use Rattle.reading.specs.Listed.{Lexeme, is, size}
 use Rattle.grammar.specs.Policies.{Span, span, Root, Root.Principal, Root.Resource, Root.Env, Root.Action, Comparator, Comparator.Equal}
 use Rattle.grammar.specs.Policies.{Comparator.NotEqual, Comparator.More, Comparator.AtLeast, Comparator.Less, Comparator.AtMost, Literal, text, number}
@@ -106,10 +107,6 @@ isType types x = is kinds.name x && not (eqb (typeOf types x) 0)
 
 -- ---- paths
 
--- the most bytes of a path, with its dots
-abbrev pub mostPathBytes : ℕ
-mostPathBytes = 64
-
 -- the name x may go on a path after the root, behind `used` bytes of it: after action only `name` makes a path; any other path has at most so many bytes
 unfoldable pub admitted : Root → ℕ → Lexeme → Bool
 admitted Principal used x = leb (used + size x) mostPathBytes
@@ -117,27 +114,7 @@ admitted Resource used x = leb (used + size x) mostPathBytes
 admitted Env used x = leb (used + size x) mostPathBytes
 admitted Action used x = eqb used 0 && same (x .bytes) (bytes "name")
 
--- ---- lists, policies, levels
-
--- the most literals of a list, the most policies of a text
-abbrev pub mostLiterals : ℕ
-mostLiterals = 16
-
-abbrev pub mostPolicies : ℕ
-mostPolicies = 64
-
--- the most levels that a condition has inside it: the braces after `when` are the first of 32
-abbrev pub mostInside : ℕ
-mostInside = 31
-
 -- ---- patterns
-
--- the most bytes of a pattern, the most wildcards
-abbrev pub mostPatternBytes : ℕ
-mostPatternBytes = 100
-
-abbrev pub mostWildcards : ℕ
-mostWildcards = 5
 
 -- `*`, `?`
 abbrev pub isWildcard : ℕ → Bool
@@ -149,10 +126,10 @@ wildcards [] = 0
 wildcards (b ∷ rest) = cond (isWildcard b) (suc (wildcards rest)) (wildcards rest)
 
 -- none of `[`, `{`, and no `*` after a `*`; `star`: one stands before
-unfoldable pub plain : Bool → List ℕ → Bool
-plain star [] = true
-plain star (b ∷ rest) = not (eqb b (code "[")) && not (eqb b (code "{")) && not (star && eqb b (code "*")) && plain (eqb b (code "*")) rest
+unfoldable pub plainPattern : Bool → List ℕ → Bool
+plainPattern star [] = true
+plainPattern star (b ∷ rest) = not (eqb b (code "[")) && not (eqb b (code "{")) && not (star && eqb b (code "*")) && plainPattern (eqb b (code "*")) rest
 
 -- at most so many bytes and so many wildcards, without `[`, `{` or `**`
 unfoldable pub isPattern : List ℕ → Bool
-isPattern s = leb (length s) mostPatternBytes && leb (wildcards s) mostWildcards && plain false s
+isPattern s = leb (length s) mostPatternBytes && leb (wildcards s) mostWildcards && plainPattern false s

@@ -10,15 +10,15 @@ use lib.Dec.{eqb}
 use lib.ListN.{length}
 use Rattle.slices.specs.Ascii.{bytes}
 use Rattle.slices.specs.Same.{same as alike}
-use Rattle.grammar.specs.Policies.{Span, Root, Root.Principal, Root.Resource, Root.Env, Root.Action, Operand, attribute, literal, Tree, constant, compare, like, among, within, contains, has, not, brackets, both, either, choice, Policy}
-use Rattle.placing.specs.Placed.{Each, Lies, pathAt, OperandPlaced, an-attribute, TreePlaced, a-comparison, a-likeness, in-list, in-attribute, a-call, a-presence, a-negation, in-brackets, a-conjunction, a-disjunction, a-choice, ConditionPlaced, a-condition, PolicyPlaced}
+use Rattle.grammar.specs.Policies.{Span, Root, rootByte, Root.Principal, Root.Resource, Root.Env, Root.Action, Operand, attribute, literal, Tree, constant, compare, like, among, within, contains, has, not, brackets, both, either, choice, Policy}
+use Rattle.placing.specs.Placed.{Each, Lies, unblankedAt, OperandPlaced, an-attribute, TreePlaced, a-comparison, a-likeness, in-list, in-attribute, a-call, a-presence, a-negation, in-brackets, a-conjunction, a-disjunction, a-choice, ConditionPlaced, a-condition, PolicyPlaced}
 use Rattle.placing.specs.Said.{conditionWords, operandWords, policyWords, treeWords}
 use Rattle.table.specs.declared.Entry.{Entry}
-use Rattle.table.specs.Entries.{placed, rootKind, hasKind, operandEntry, treeEntries, conditionEntries}
-use Rattle.stored.specs.ReadBack.{spanOf}
+use Rattle.table.specs.Entries.{placed, hasKind, operandEntry, treeEntries, conditionEntries}
+use Rattle.stored.specs.ReadBack.{spanOfEntry}
 use Rattle.placing.proofs.EachLaws.{each-first, each-rest, each-left, each-right, each-as}
 use Rattle.views.specs.Meaning.{Datum, text, absent, View}
-use Rattle.meaning.specs.Values.{rootByte, withAction, attributeValue, operandValue}
+use Rattle.meaning.specs.Values.{withAction, attributeValue, operandValue}
 use Rattle.meaning.specs.Conditions.{verdict, isYes}
 use Rattle.meaning.specs.Targets.{Request}
 use Rattle.meaning.specs.Decisions.{conditionHolds, satisfied}
@@ -26,9 +26,9 @@ use Rattle.kept.specs.Columns.{rootBy, isAttribute}
 
 -- two views show the same for the attribute of an entry
 pub record Shows (t : List ℕ) (u v : View) (x : Entry) : Type 0 where
-  pub same : isAttribute t x ≡ true → u (rootBy (x .kind)) (pathAt t (spanOf x)) ≡ v (rootBy (x .kind)) (pathAt t (spanOf x))
+  pub same : isAttribute t x ≡ true → u (rootBy (x .kind)) (unblankedAt t (spanOfEntry x)) ≡ v (rootBy (x .kind)) (unblankedAt t (spanOfEntry x))
 
-is-attribute : (t : List ℕ) (x : Entry) → x .kind ≤ 8 → Lies t (spanOf x) → isAttribute t x ≡ true
+is-attribute : (t : List ℕ) (x : Entry) → x .kind ≤ 8 → Lies t (spanOfEntry x) → isAttribute t x ≡ true
 unfolding isAttribute
 is-attribute t x k l =
     let s = l .some in let h = l .high in
@@ -37,14 +37,14 @@ is-attribute t x k l =
 module _ (t : List ℕ) (u v : View) where
   -- ---- attributes and operands
 
-  attribute-agrees : (root : Root) (s : Span) → Lies t s → Shows t u v (placed (rootKind root) s) → attributeValue u root (pathAt t s) ≡ attributeValue v root (pathAt t s)
+  attribute-agrees : (root : Root) (s : Span) → Lies t s → Shows t u v (placed (rootByte root) s) → attributeValue u root (unblankedAt t s) ≡ attributeValue v root (unblankedAt t s)
   unfolding attributeValue rootBy
   attribute-agrees Principal s l h = h .same (is-attribute t (placed 1 s) (omega arith) l)
   attribute-agrees Resource s l h = h .same (is-attribute t (placed 2 s) (omega arith) l)
   attribute-agrees Env s l h = h .same (is-attribute t (placed 3 s) (omega arith) l)
   attribute-agrees Action s l h = h .same (is-attribute t (placed 4 s) (omega arith) l)
 
-  presence-agrees : (root : Root) (s : Span) → Lies t s → Shows t u v (placed (hasKind root) s) → attributeValue u root (pathAt t s) ≡ attributeValue v root (pathAt t s)
+  presence-agrees : (root : Root) (s : Span) → Lies t s → Shows t u v (placed (hasKind root) s) → attributeValue u root (unblankedAt t s) ≡ attributeValue v root (unblankedAt t s)
   unfolding attributeValue rootBy
   presence-agrees Principal s l h = h .same (is-attribute t (placed 5 s) (omega arith) l)
   presence-agrees Resource s l h = h .same (is-attribute t (placed 6 s) (omega arith) l)
@@ -98,7 +98,7 @@ module _ (t : List ℕ) (u v : View) where
 shows-with : (t action : List ℕ) (u v : View) (x : Entry) → Shows t u v x → Shows t (withAction action u) (withAction action v) x
 unfolding withAction
 shows-with t action u v x h = record {
-  same = λ m. ap (λ (d : Datum). cond (eqb (rootBy (x .kind)) (rootByte Action)) (cond (alike (pathAt t (spanOf x)) (bytes "name")) (text action) absent) d) (h .same m);
+  same = λ m. ap (λ (d : Datum). cond (eqb (rootBy (x .kind)) (rootByte Action)) (cond (alike (unblankedAt t (spanOfEntry x)) (bytes "name")) (text action) absent) d) (h .same m);
 }
 
 pub policy-agrees : (t : List ℕ) (u v : View) (q : Request) (policy : Policy) → PolicyPlaced t policy → (e : ℕ) → Each (Shows t u v) (conditionEntries e (policy .condition))

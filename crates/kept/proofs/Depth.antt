@@ -8,12 +8,12 @@ use borrow.Author.Tests.{ltb-true, ltb-false, eqb-true}
 use lib.Dec.{eqb, ltb}
 use lib.ListN.{length, getD}
 use Rattle.grammar.specs.Policies.{Policy}
-use Rattle.placing.specs.Placed.{Each, none-left, and-each, pathAt}
+use Rattle.placing.specs.Placed.{Each, none-left, and-each, unblankedAt}
 use Rattle.table.specs.declared.Entry.{Entry}
 use Rattle.table.specs.Entries.{entry, effectKind, conditionEntries, targetEntries, policyEntries, policiesEntries}
 use Rattle.table.proofs.Counting.{policies-append}
 use Rattle.stored.specs.Stored.{EntriesStand, StoredPolicies, StoredPolicy}
-use Rattle.stored.specs.ReadBack.{spanOf, policyBy, policiesBy}
+use Rattle.stored.specs.ReadBack.{spanOfEntry, policyBy, policiesBy}
 use Rattle.stored.specs.Ready.{PoliciesReadyBy, LastBy}
 use Rattle.stored.proofs.Standing.{stands-right, stands-head, stands-tail, stands-before, stands-last}
 use Rattle.views.specs.Rows.{rowView}
@@ -77,8 +77,8 @@ module _ (t : List ℕ) (table : ℕ → Entry) (s : List ℕ) (n : ℕ) (heads 
   unfolding columnOf
   column-few x = go (isAttribute t x)
     where
-      go : (b : Bool) → cond b (naming n s heads 0 (rootBy (x .kind)) (pathAt t (spanOf x))) 0 ≤ n
-      go true = omega (arith, naming-few s heads (rootBy (x .kind)) (pathAt t (spanOf x)) n 0)
+      go : (b : Bool) → cond b (naming n s heads 0 (rootBy (x .kind)) (unblankedAt t (spanOfEntry x))) 0 ≤ n
+      go true = omega (arith, naming-few s heads (rootBy (x .kind)) (unblankedAt t (spanOfEntry x)) n 0)
       go false = omega arith
 
   pub depth-few : n ≤ 6 → (m at a : ℕ) → a ≤ 6 → depthBy m t table s n heads but at a ≤ 6
@@ -128,10 +128,10 @@ stored-last {at} {end} ps p h =
 entry-shows : (t s : List ℕ) (n : ℕ) (heads : List ℕ) (but low : ℕ) (x : Entry) → Covered but low (columnOf t s n heads x) → (p : _) (u v : List ℕ) → Alike low u v
     → getD u (but - 1) 0 ≡ getD v (but - 1) 0 → Shows t (rowView s p n heads u) (rowView s p n heads v) x
 unfolding columnOf
-entry-shows t s n heads but low x covered p u v a own = record { same = λ m. row-same s p n heads (rootBy (x .kind)) (pathAt t (spanOf x)) u v (same-choice m covered) }
+entry-shows t s n heads but low x covered p u v a own = record { same = λ m. row-same s p n heads (rootBy (x .kind)) (unblankedAt t (spanOfEntry x)) u v (same-choice m covered) }
   where
     k : ℕ
-    k = naming n s heads 0 (rootBy (x .kind)) (pathAt t (spanOf x))
+    k = naming n s heads 0 (rootBy (x .kind)) (unblankedAt t (spanOfEntry x))
 
     same-choice : isAttribute t x ≡ true → Covered but low (cond (isAttribute t x) k 0) → (j : ℕ) → k ≡ j + 1 → getD u j 0 ≡ getD v j 0
     same-choice m (left-out e) j is =

@@ -16,9 +16,9 @@ use Rattle.questions.specs.Columns.{columnPath}
 use Rattle.views.specs.Meaning.{Datum, View, columnsFirst}
 use Rattle.views.specs.Values.{chosenMeant, datumIn}
 use Rattle.views.specs.Rows.{chosenAt, chosenOf, rowView}
-use Rattle.placing.specs.Placed.{pathAt}
+use Rattle.placing.specs.Placed.{unblankedAt}
 use Rattle.table.specs.declared.Entry.{Entry}
-use Rattle.stored.specs.ReadBack.{spanOf}
+use Rattle.stored.specs.ReadBack.{spanOfEntry}
 use Rattle.kept.specs.Columns.{naming, rootBy, isAttribute, columnOf}
 
 module _ (s heads : List ℕ) (root : ℕ) (path : List ℕ) where
@@ -76,7 +76,7 @@ row-same s p n heads root path u v h = naming-shows s heads root path _ u v n 0 
 -- ---- the column of an entry
 
 module _ (t s : List ℕ) (n : ℕ) (heads : List ℕ) (x : Entry) where
-  pub column-is : isAttribute t x ≡ true → (root : ℕ) → root ≡ rootBy (x .kind) → naming n s heads 0 root (pathAt t (spanOf x)) ≡ columnOf t s n heads x
+  pub column-is : isAttribute t x ≡ true → (root : ℕ) → root ≡ rootBy (x .kind) → naming n s heads 0 root (unblankedAt t (spanOfEntry x)) ≡ columnOf t s n heads x
   unfolding columnOf
   column-is e root is = rw (e, is)
 

@@ -6,7 +6,7 @@ use native.Mathlib.Omega.{arith}
 use lib.ListN.{length}
 use Rattle.grammar.specs.Policies.{Policy}
 use Rattle.table.specs.declared.Entry.{Entry}
-use Rattle.stored.specs.ReadBack.{policyOf, policiesIn, policiesAt}
+use Rattle.stored.specs.ReadBack.{policyAt, policiesUpTo, policiesAt}
 use Rattle.stored.specs.Ready.{ReadyPolicies, Last}
 use Rattle.meaning.specs.Decisions.{Numbered, first, later}
 use Rattle.meaning.proofs.Deciding.{numbered-some}
@@ -50,7 +50,7 @@ pub all-left : {t table : List ℕ} {entries policies : ℕ} → ReadyPolicies t
 all-left r c f = record { ready = r; count = c; few = f; among = λ m policy h. h }
 
 pub none-there : {t table : List ℕ} {entries end number : ℕ} → Left t table entries end number → end ≤ 0 → number ≡ 0
-unfolding policiesIn
+unfolding policiesUpTo
 none-there {end = zero} l h = l .count
 none-there {end = suc end} l h = absurd (omega arith)
 
@@ -60,13 +60,13 @@ module _ {t table : List ℕ} {entries end number : ℕ} {x : Entry} (l : Left t
     ready = last .before;
     count = number-falls last (l .count);
     few = let f = l .few in omega arith;
-    among = λ m policy h. l .among m policy (rw (last .is) (numbered-left (policyOf table end x ∷ []) h));
+    among = λ m policy h. l .among m policy (rw (last .is) (numbered-left (policyAt table end x ∷ []) h));
   }
 
-  pub last-numbered : Numbered number (policyOf table end x) (policiesAt table entries)
+  pub last-numbered : Numbered number (policyAt table end x) (policiesAt table entries)
   last-numbered =
       let e : suc (length (policiesAt table (x .first))) ≡ number = let f = number-falls last (l .count) in let s = some-left last (l .count) in omega arith in
-      l .among number (policyOf table end x) (rw (last .is) (rw e at (numbered-last (policiesAt table (x .first)) (policyOf table end x))))
+      l .among number (policyAt table end x) (rw (last .is) (rw e at (numbered-last (policiesAt table (x .first)) (policyAt table end x))))
 
   pub one-left : 1 ≤ number
   one-left = some-left last (l .count)

@@ -7,11 +7,11 @@ use lib.ListN.{length, getD}
 use Rattle.slices.specs.Same.{same}
 use Rattle.bags.specs.Reading.{byte}
 use Rattle.questions.specs.Columns.{columnPath}
-use Rattle.placing.specs.Placed.{pathAt}
+use Rattle.placing.specs.Placed.{unblankedAt}
 use Rattle.table.specs.declared.Entry.{Entry}
 use Rattle.table.specs.Kinds.{actionKind, hasActionKind, roots}
 use Rattle.table.specs.Layout.{entryAt}
-use Rattle.stored.specs.ReadBack.{spanOf}
+use Rattle.stored.specs.ReadBack.{spanOfEntry}
 
 -- the first of n columns, of which i stand before, that names the attribute
 unfoldable pub naming : ℕ → List ℕ → List ℕ → ℕ → ℕ → List ℕ → ℕ
@@ -29,7 +29,7 @@ isAttribute t x = (leb (x .kind) hasActionKind && leb (x .first) (x .second)) &&
 
 -- the column that an entry names
 unfoldable pub columnOf : List ℕ → List ℕ → ℕ → List ℕ → Entry → ℕ
-columnOf t s n heads x = cond (isAttribute t x) (naming n s heads 0 (rootBy (x .kind)) (pathAt t (spanOf x))) 0
+columnOf t s n heads x = cond (isAttribute t x) (naming n s heads 0 (rootBy (x .kind)) (unblankedAt t (spanOfEntry x))) 0
 
 -- the larger of two, where the second is not the column `but`
 unfoldable pub deeper : ℕ → ℕ → ℕ → ℕ

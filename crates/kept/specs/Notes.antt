@@ -5,9 +5,11 @@ use mathlib.Core.List.{List}
 use Prim.Native.Nat.{ℕ, _+_, _-_, _*_, _≤_, _<_}
 use lib.Dec.{eqb}
 use lib.ListN.{length, getD, set}
+use Rattle.tokens.specs.Sizes.{mostPolicies}
 use Rattle.grammar.specs.Policies.{Policy}
 use Rattle.bags.specs.declared.sections.Sections.{Sections}
 use Rattle.questions.specs.Questions.{cell}
+use Rattle.questions.specs.Sizes.{mostColumns, mostCandidates}
 use Rattle.views.specs.Rows.{rowView}
 use Rattle.placing.specs.Said.{policyWords, wordsOf}
 use Rattle.meaning.specs.Targets.{Request}
@@ -32,14 +34,14 @@ abbrev pub ownOf : List ℕ → ℕ → ℕ
 ownOf looks number = getD looks (number - 1) 0
 
 abbrev pub otherOf : List ℕ → ℕ → ℕ
-otherOf looks number = getD looks (64 + (number - 1)) 0
+otherOf looks number = getD looks (mostPolicies + (number - 1)) 0
 
 abbrev pub aimOf : List ℕ → ℕ → Bool
-aimOf looks number = eqb (getD looks (128 + (number - 1)) 0) 1
+aimOf looks number = eqb (getD looks (2 * mostPolicies + (number - 1)) 0) 1
 
 -- so it is for each policy: its own column matters, and those before the number that stands for it in the second part
 pub record Depths (t s : List ℕ) (n : ℕ) (heads : List ℕ) (ps : List Policy) (looks : List ℕ) : Type 0 where
-  pub few : (i : ℕ) → i < 64 → getD looks i 0 < 6
+  pub few : (i : ℕ) → i < mostPolicies → getD looks i 0 < mostColumns
   pub steady : (number : ℕ) (policy : Policy) → Numbered number policy ps → Steady t s n heads policy (ownOf looks number) (otherOf looks number)
 
 -- the targets that match a request
@@ -48,13 +50,17 @@ pub record Aims (t : List ℕ) (q : Request) (ps : List Policy) (looks : List �
 
 -- ---- notes
 
+-- how many notes there are: each policy has one for each choice that a column can have
+abbrev pub notesSize : ℕ
+notesSize = mostPolicies * mostCandidates
+
 -- the note 0 says nothing, 2 says yes and any other no
 pub record NoteSays (note : ℕ) (b : Bool) : Type 0 where
   pub told : (note ≡ 0 → ⊥) → eqb note 2 ≡ b
 
 -- A policy has eight notes, one for each choice in its own column: row i of them says what is so by choice.
 pub record RowSays (notes : List ℕ) (i : ℕ) (sat : ℕ → Bool) : Type 0 where
-  pub says : (c : ℕ) → c < 8 → NoteSays (getD notes (8 * i + c) 0) (sat c)
+  pub says : (c : ℕ) → c < mostCandidates → NoteSays (getD notes (mostCandidates * i + c) 0) (sat c)
 
 -- whether a policy is satisfied in the row with these values, but with choice c in its own column
 unfoldable pub satBy : List ℕ → List ℕ → Sections → ℕ → List ℕ → Request → List ℕ → ℕ → Policy → ℕ → Bool
@@ -70,16 +76,16 @@ pub record Noted (t s : List ℕ) (p : Sections) (n : ℕ) (heads : List ℕ) (q
 pub record Carried (t s : List ℕ) (p : Sections) (n : ℕ) (heads : List ℕ) (q : Request) (ps : List Policy) (looks values : List ℕ)
     (from high : ℕ) (notes : List ℕ) : Type 0 where
   pub before : List ℕ
-  pub six : length before ≡ 6
+  pub six : length before ≡ mostColumns
   pub alike : Alike from before values
   pub noted : Noted t s p n heads q ps looks before 0 high notes
-  pub long : length notes ≡ 512
+  pub long : length notes ≡ notesSize
 
 -- the row's choices are among eight, and its values stand at their places in the question's columns, which begin behind the sections
 pub record ChosenThere (s : List ℕ) (p : Sections) (n : ℕ) (choices values : List ℕ) : Type 0 where
-  pub small : (i : ℕ) → i < 6 → getD choices i 0 < 8
-  pub six : length values ≡ 6
-  pub picked : (i : ℕ) → i < 6 → getD values i 0 ≡ cell s (p .end + 1) n i (getD choices i 0)
+  pub small : (i : ℕ) → i < mostColumns → getD choices i 0 < mostCandidates
+  pub six : length values ≡ mostColumns
+  pub picked : (i : ℕ) → i < mostColumns → getD values i 0 ≡ cell s (p .end + 1) n i (getD choices i 0)
 
 -- What is kept from row to row of a walk, for a request: which targets match, and notes that are right for a row that chooses alike in the columns before
 -- number `from`.
@@ -93,12 +99,12 @@ pub record Kept (t s : List ℕ) (w : Walk) (heads : List ℕ) (q : Request) (ps
 pub record Met (sat : ℕ → Bool) (i choice : ℕ) (before : List ℕ) (r : Bool) (after : List ℕ) : Type 0 where
   pub is : r ≡ sat choice
   pub says : RowSays after i sat
-  pub others : (i′ c : ℕ) → (i′ ≡ i → ⊥) → c < 8 → getD after (8 * i′ + c) 0 ≡ getD before (8 * i′ + c) 0
-  pub long : length after ≡ 512
+  pub others : (i′ c : ℕ) → (i′ ≡ i → ⊥) → c < mostCandidates → getD after (mostCandidates * i′ + c) 0 ≡ getD before (mostCandidates * i′ + c) 0
+  pub long : length after ≡ notesSize
 
 -- what the policies decide in the row, with all notes right for it
 pub record DecidedFrom (t s : List ℕ) (p : Sections) (n : ℕ) (heads : List ℕ) (q : Request) (ps : List Policy) (looks values : List ℕ)
     (d : Decision) (notes : List ℕ) : Type 0 where
   pub is : d ≡ policiesDecide (rowView s p n heads values) q (wordsOf t ps)
   pub noted : Noted t s p n heads q ps looks values 0 (length ps) notes
-  pub long : length notes ≡ 512
+  pub long : length notes ≡ notesSize

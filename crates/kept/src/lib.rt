@@ -6,22 +6,31 @@ ghost use mathlib.Core.Bool.{Bool, false, cond, _&&_};
 ghost use Prim.Native.Nat.{ℕ, _+_, _-_, _≤_, _<_};
 ghost use lib.Dec.{leb, ltb};
 ghost use lib.ListN.{length, getD};
-ghost use Rattle.stored.specs.ReadBack.{policyOf, policiesAt};
+ghost use Rattle.tokens.specs.Sizes.{mostPolicies};
+ghost use Rattle.stored.specs.ReadBack.{policyAt, policiesAt};
 ghost use Rattle.stored.specs.Ready.{ReadyPolicies, Last};
+ghost use Rattle.questions.specs.Sizes.{mostCandidates};
 ghost use Rattle.views.specs.Rows.{rowView, RowStands};
 ghost use Rattle.placing.specs.Said.{policyWords};
 ghost use Rattle.meaning.specs.Values.{withAction};
 ghost use Rattle.meaning.specs.Targets.{Request};
 ghost use Rattle.meaning.specs.Decisions.{conditionHolds};
-ghost use Rattle.kept.specs.Notes.{Depths, RowSays, ChosenThere, Met, Kept, DecidedFrom};
+ghost use Rattle.kept.specs.Notes.{Depths, RowSays, ChosenThere, Met, Kept, DecidedFrom, notesSize};
+use crate::depths::AIMS;
 use bags::sections::Sections;
 use deciding::row::by_numbers;
 use deciding::row::condition_holds;
 use deciding::row::number_if;
 use meaning::Decision;
+use questions::sizes::MOST_CANDIDATES;
+use questions::sizes::MOST_COLUMNS;
 use table::Entry;
 use table::entries;
 use table::entry_at;
+use tokens::sizes::MOST_POLICIES;
+
+// How many notes there are: each policy has one for each choice that a column can have.
+pub const NOTES: usize = MOST_POLICIES * MOST_CANDIDATES;
 
 // A walk over the rows of a question, in numbers: whose rows they are, how many policies and entries the table holds, the sections of the base, how many
 // columns there are, and the first column in which the row may choose otherwise than the row before.
@@ -44,15 +53,15 @@ pub struct Note {
 }
 
 // Sets the eight notes from `at` on to 0, where `stale`.
-fn forget(stale: bool, notes: &mut [u8; 512], at: usize)
-    requires { ⌜ at + 8 ≤ 512 ⌝ }
-    requires { ⌜ length (now notes) ≡ 512 ⌝ }
-    ensures { λ _. ⌜ ((j : ℕ) → getD (now (notes .exit)) j 0 ≡ cond (stale && (leb at j && ltb j (at + 8))) 0 (getD (now (notes .entry)) j 0)) ⌝ }
-    ensures { λ _. ⌜ length (now (notes .exit)) ≡ 512 ⌝ }
+fn forget(stale: bool, notes: &mut [u8; NOTES], at: usize)
+    requires { ⌜ at + mostCandidates ≤ notesSize ⌝ }
+    requires { ⌜ length (now notes) ≡ notesSize ⌝ }
+    ensures { λ _. ⌜ ((j : ℕ) → getD (now (notes .exit)) j 0 ≡ cond (stale && (leb at j && ltb j (at + mostCandidates))) 0 (getD (now (notes .entry)) j 0)) ⌝ }
+    ensures { λ _. ⌜ length (now (notes .exit)) ≡ notesSize ⌝ }
 {
     if stale {
         let mut c = 0;
-        while c < 8 {
+        while c < MOST_CANDIDATES {
             notes[at + c] = 0;
             c += 1;
         }
@@ -83,14 +92,14 @@ fn satisfied_where<'a>(
     s: &'a [u8],
     p: Sections,
     n: usize,
-    heads: &[usize; 6],
-    values: &[usize; 6],
+    heads: &[usize; MOST_COLUMNS],
+    values: &[usize; MOST_COLUMNS],
     action: &'a [u8],
 ) -> bool
     requires { ⌜ Last (now text) (now table) end x ⌝ }
     requires { ⌜ RowStands (now s) p n (now heads) (now values) ⌝ }
     ensures { λ r. ⌜ r ≡ aimed && conditionHolds (withAction (now (action .entry)) (rowView (now (s .entry)) p n (now (heads .entry)) (now (values .entry))))
-        (policyWords (now (text .entry)) (policyOf (now (table .entry)) end x) .condition) ⌝ }
+        (policyWords (now (text .entry)) (policyAt (now (table .entry)) end x) .condition) ⌝ }
 {
     if !aimed {
         return false;
@@ -102,7 +111,7 @@ fn satisfied_where<'a>(
 // stale, the policy is met and noted.
 fn met<'a>(
     note: Note,
-    notes: &mut [u8; 512],
+    notes: &mut [u8; NOTES],
     text: &'a [u8],
     table: &[u8],
     end: usize,
@@ -110,20 +119,20 @@ fn met<'a>(
     s: &'a [u8],
     p: Sections,
     n: usize,
-    heads: &[usize; 6],
-    values: &[usize; 6],
+    heads: &[usize; MOST_COLUMNS],
+    values: &[usize; MOST_COLUMNS],
     action: &'a [u8],
 ) -> bool
-    requires { ⌜ (note .i < 64) × (note .choice < 8) × (length (now notes) ≡ 512) ⌝ }
+    requires { ⌜ (note .i < mostPolicies) × (note .choice < mostCandidates) × (length (now notes) ≡ notesSize) ⌝ }
     requires { ⌜ Last (now text) (now table) end x ⌝ }
     requires { ⌜ RowStands (now s) p n (now heads) (now values) ⌝ }
     ensures { λ r. ⌜ ((sat : ℕ → Bool) → sat (note .choice) ≡ note .aimed
         && conditionHolds (withAction (now (action .entry)) (rowView (now (s .entry)) p n (now (heads .entry)) (now (values .entry))))
-        (policyWords (now (text .entry)) (policyOf (now (table .entry)) end x) .condition)
+        (policyWords (now (text .entry)) (policyAt (now (table .entry)) end x) .condition)
         → (note .stale ≡ false → RowSays (now (notes .entry)) (note .i) sat) → Met sat (note .i) (note .choice) (now (notes .entry)) r (now (notes .exit))) ⌝ }
-    ensures { λ _. ⌜ length (now (notes .exit)) ≡ 512 ⌝ }
+    ensures { λ _. ⌜ length (now (notes .exit)) ≡ notesSize ⌝ }
 {
-    let row = 8 * note.i;
+    let row = MOST_CANDIDATES * note.i;
     forget(note.stale, notes, row);
     let at = row + note.choice as usize;
     let said = notes[at];
@@ -151,23 +160,23 @@ fn met<'a>(
 // row's; `looks` has what each policy looks at. The policies are met from the last to the first.
 pub fn decision_from<'a>(
     walk: Walk,
-    looks: &[u8; 192],
-    notes: &mut [u8; 512],
-    choices: &[u8; 6],
+    looks: &[u8; 3 * MOST_POLICIES],
+    notes: &mut [u8; NOTES],
+    choices: &[u8; MOST_COLUMNS],
     text: &'a [u8],
     table: &[u8],
     s: &'a [u8],
-    heads: &[usize; 6],
-    values: &[usize; 6],
+    heads: &[usize; MOST_COLUMNS],
+    values: &[usize; MOST_COLUMNS],
     action: &'a [u8],
 ) -> Decision
     requires { ⌜ ReadyPolicies (now text) (now table) (walk .entries) ⌝ }
     requires { ⌜ walk .policies ≡ length (policiesAt (now table) (walk .entries)) ⌝ }
-    requires { ⌜ walk .policies ≤ 64 ⌝ }
+    requires { ⌜ walk .policies ≤ mostPolicies ⌝ }
     requires { ⌜ RowStands (now s) (walk .p) (walk .n) (now heads) (now values) ⌝ }
     requires { ⌜ ChosenThere (now s) (walk .p) (walk .n) (now choices) (now values) ⌝ }
     requires { ⌜ Depths (now text) (now s) (walk .n) (now heads) (policiesAt (now table) (walk .entries)) (now looks) ⌝ }
-    requires { ⌜ length (now notes) ≡ 512 ⌝ }
+    requires { ⌜ length (now notes) ≡ notesSize ⌝ }
     ensures { λ r. ⌜ ((q : Request) → q .action ≡ now (action .entry)
         → Kept (now (text .entry)) (now (s .entry)) walk (now (heads .entry)) q (policiesAt (now (table .entry)) (walk .entries)) (now (looks .entry))
         (now (values .entry)) (walk .from) (now (notes .entry))
@@ -186,8 +195,8 @@ pub fn decision_from<'a>(
         let i = number - 1;
         let column = wide(looks[i]);
         let choice = choices[column];
-        let other = wide(looks[64 + i]);
-        let aim = looks[128 + i];
+        let other = wide(looks[MOST_POLICIES + i]);
+        let aim = looks[AIMS + i];
         let note = Note {
             i: i,
             choice: choice,

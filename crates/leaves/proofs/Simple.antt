@@ -11,7 +11,7 @@ use Rattle.reading.specs.Lexemes.{Lexeme, lexeme}
 use Rattle.reading.specs.Reader.{took, refuseBy, ten}
 use Rattle.grammar.specs.Policies.{Span, Root, Comparator, text, number, truth, Operand, attribute, literal, Which, constant}
 use Rattle.grammar.specs.Rules.{isComparator, comparatorOf, isPattern, inside}
-use Rattle.grammar.specs.Parser.{Way, plain, calling, spannedBy, noOperator, noPattern, isLike, read-bare, read-operator, read-call, read-rest}
+use Rattle.grammar.specs.Parser.{Way, uncalled, calling, spannedBy, noOperator, noPattern, isLike, read-bare, read-operator, read-call, read-rest}
 use Rattle.table.specs.declared.Entry.{Entry}
 use Rattle.table.specs.Entries.{comparatorKind, whichKind, literalEntry, operandEntry, treeEntries}
 use Rattle.parts.specs.Names.{ofKind, comparing}
@@ -109,7 +109,7 @@ which-some Which.Any e = omega arith
 
 pub rest-plain : (root : Root) (way : Way) {s : Span} → spannedBy way ≡ s → callAfter way ≡ 0 → read-rest root way ≡ read-operator (attribute root s)
 unfolding spannedBy callAfter read-rest
-rest-plain root (plain p) e h = ap (λ (s : Span). read-operator (attribute root s)) e
+rest-plain root (uncalled p) e h = ap (λ (s : Span). read-operator (attribute root s)) e
 rest-plain root (calling p w) e h = absurd (which-some w h)
 
 pub record Called (root : Root) (way : Way) (s : Span) (kind : ℕ) : Type 0 where
@@ -119,5 +119,5 @@ pub record Called (root : Root) (way : Way) (s : Span) (kind : ℕ) : Type 0 whe
 
 pub rest-call : (root : Root) (way : Way) {s : Span} {kind : ℕ} → spannedBy way ≡ s → callAfter way ≡ kind → (kind ≡ 0 → ⊥) → Called root way s kind
 unfolding spannedBy callAfter read-rest
-rest-call root (plain p) e h n = absurd (n (sym h))
+rest-call root (uncalled p) e h n = absurd (n (sym h))
 rest-call root (calling p w) e h n = record { which = w; kind-is = h; reads = ap (read-call w root) e }

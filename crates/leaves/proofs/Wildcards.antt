@@ -14,7 +14,7 @@ use mir.Val.{boolByte}
 use Rattle.tokens.specs.declared.reader.Token.{Token}
 use Rattle.tokens.proofs.TokenLaws.{never}
 use Rattle.reading.specs.Lexemes.{lexeme}
-use Rattle.grammar.specs.Rules.{inside, isWildcard, wildcards, plain, isPattern}
+use Rattle.grammar.specs.Rules.{inside, isWildcard, wildcards, plainPattern, isPattern}
 use Rattle.table.proofs.Holding.{and-true, and-false}
 
 -- the bytes from a place up to the last before `end`, which is a quote
@@ -48,7 +48,7 @@ pub record Seen (text : List ℕ) (end start : ℕ) (many : ℕ) (star : Bool) (
   pub few : many ≤ i
   pub fits : end ≤ length text
   pub wild : wildcards (between text end start) ≡ many + wildcards (between text end i)
-  pub plainly : plain false (between text end start) ≡ plain star (between text end i)
+  pub plainly : plainPattern false (between text end start) ≡ plainPattern star (between text end i)
 
 pub seen-none : (text : List ℕ) (end start : ℕ) → start ≤ end + 1 → end ≤ length text → Seen text end start 0 false start
 seen-none text end start h l = record { low = omega arith; high = h; few = omega arith; fits = l; wild = sym (zero-add _); plainly = refl }
@@ -57,7 +57,7 @@ module _ {text : List ℕ} {end start many : ℕ} {star : Bool} {i : ℕ} (s : S
   -- one byte more
   pub seen-more : i + 1 < end → (eqb (getD text i 0) 91 || eqb (getD text i 0) 123 || star && eqb (getD text i 0) 42) ≡ false
       → Seen text end start (many + boolByte (isWildcard (getD text i 0))) (eqb (getD text i 0) 42) (i + 1)
-  unfolding wildcards plain
+  unfolding wildcards plainPattern
   seen-more h e = record {
     low = let x = s .low in omega arith;
     high = omega arith;
@@ -83,9 +83,9 @@ module _ {text : List ℕ} {end start many : ℕ} {star : Bool} {i : ℕ} (s : S
 
   -- a byte that no pattern has there
   pub seen-bad : i + 1 < end → (eqb (getD text i 0) 91 || eqb (getD text i 0) 123 || star && eqb (getD text i 0) 42) ≡ true → false ≡ isPattern (between text end start)
-  unfolding isPattern plain
+  unfolding isPattern plainPattern
   seen-bad h e =
-      rw (s .plainly, between-byte text end i h (s .fits), stops (eqb (getD text i 0) 91) (eqb (getD text i 0) 123) (star && eqb (getD text i 0) 42) (plain (eqb (getD text i 0) 42) (between text end (i + 1))) e)
+      rw (s .plainly, between-byte text end i h (s .fits), stops (eqb (getD text i 0) 91) (eqb (getD text i 0) 123) (star && eqb (getD text i 0) 42) (plainPattern (eqb (getD text i 0) 42) (between text end (i + 1))) e)
       (sym (and-false (leb (length (between text end start)) 100 && leb (wildcards (between text end start)) 5)))
     where
       stops : (a b d f : Bool) → (a || b || d) ≡ true → not a && not b && not d && f ≡ false
@@ -96,7 +96,7 @@ module _ {text : List ℕ} {end start many : ℕ} {star : Bool} {i : ℕ} (s : S
 
   -- all bytes were seen
   pub seen-all : end ≤ i + 1 → end - start ≤ 101 → leb many 5 ≡ isPattern (between text end start)
-  unfolding isPattern plain wildcards
+  unfolding isPattern plainPattern wildcards
   seen-all h l =
       let short : length (between text end start) ≤ 100 = rw (length-take-le (end - 1 - start) (drop start text) (rw (length-drop start text) (let x = s .fits in omega arith))) (omega arith) in
       let many-is : many + 0 ≡ many = omega arith in

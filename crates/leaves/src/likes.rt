@@ -4,14 +4,11 @@ ghost use Rattle.tokens.specs.Tokens.{Reads};
 ghost use Rattle.reading.specs.Lexemes.{lexeme};
 ghost use Rattle.grammar.specs.Rules.{isPattern, inside};
 use tokens::reader::Token;
+use tokens::sizes::MOST_PATTERN_BYTES;
+use tokens::sizes::MOST_WILDCARDS;
 
-// How many bytes a pattern may have, and how many with its two quotes.
-const PATTERN_BYTES: usize = 100;
-
-const QUOTED_BYTES: usize = PATTERN_BYTES + 2;
-
-// How many wildcards it may have.
-const WILDCARDS: usize = 5;
+// How many bytes a pattern may have with its two quotes.
+const QUOTED_BYTES: usize = MOST_PATTERN_BYTES + 2;
 
 // Whether what a string has between its quotes is a pattern: at most 100 bytes and 5 wildcards, without `[`, `{` and `**`.
 pub fn is_pattern(text: &[u8], t: Token) -> bool
@@ -36,5 +33,5 @@ pub fn is_pattern(text: &[u8], t: Token) -> bool
         star = again;
         i += 1;
     }
-    wildcards <= WILDCARDS
+    wildcards <= MOST_WILDCARDS
 }

@@ -1,5 +1,5 @@
 -- The answers of a look-up by their cases, the part that a string's bytes are, and that a call has one answer. Assumes nothing.
-use Prim.Native.Nat.{ℕ, _+_, _-_, _≤_}
+use Prim.Native.Nat.{ℕ, _+_, _≤_}
 use mathlib.Core.List.{List}
 use mathlib.Core.Bool.{Bool, true, false, cond}
 use mathlib.Core.Path.{_≡_, sym, _∙_, ap}
@@ -15,7 +15,7 @@ use Rattle.bags.specs.declared.sections.Sections.{Sections}
 use Rattle.bags.specs.declared.sections.Divided.the-variants.{In}
 use Rattle.tokens.specs.Blanks.{unblanked}
 use Rattle.lookups.specs.Values.{absent}
-use Rattle.lookups.specs.Lookups.{lookIn, baseOf, bagOf, lookupOf, said, startOf, lengthOf, stretchOf}
+use Rattle.lookups.specs.Lookups.{lookIn, baseOf, bagOf, lookupOf, lookupSaid, startOf, lengthOf, stretchOf}
 use Rattle.lookups.specs.declared.values.Value.{Value}
 use Rattle.lookups.specs.declared.Answer.{Answer}
 use Rattle.lookups.specs.declared.Stretch.{Stretch}
@@ -81,5 +81,5 @@ refused-stretch s answer n is = simp is
 -- ---- one answer
 
 -- any two answers that the contract of `lookup` allows are the same, and so is what they say
-pub one-lookup : (s : List ℕ) (root : ℕ) (path : List ℕ) {r r' : Answer} → r ≡ lookupOf s root path → r' ≡ lookupOf s root path → (r ≡ r') × (said r ≡ said r')
-one-lookup s root path p q = (p ∙ sym q, ap said (p ∙ sym q))
+pub one-lookup : (s : List ℕ) (root : ℕ) (path : List ℕ) {r r' : Answer} → r ≡ lookupOf s root path → r' ≡ lookupOf s root path → (r ≡ r') × (lookupSaid r ≡ lookupSaid r')
+one-lookup s root path p q = (p ∙ sym q, ap lookupSaid (p ∙ sym q))

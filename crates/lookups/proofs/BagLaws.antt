@@ -7,11 +7,10 @@ use borrow.Author.Tests.{ne-eqb, eqb-true, eqb-false}
 use native.Mathlib.Omega.{arith}
 use lib.Dec.{T, eqb}
 use lib.Ieee.Scale.{finite}
-use lib.ListN.{length}
 use Rattle.slices.specs.Same.{same}
 use Rattle.slices.proofs.Equal.{same-decides}
 use Rattle.tokens.specs.Bytes.{classOf}
-use Rattle.tokens.specs.Runs.{is}
+use Rattle.tokens.specs.Runs.{isOf}
 use Rattle.tokens.specs.declared.classes.Sort.the-variants.{Blanks, WordBytes}
 use Rattle.numbers.specs.Bits.{numberAt}
 use Rattle.numbers.proofs.Exponent.{finite-by-bits}
@@ -24,18 +23,18 @@ use Rattle.bags.specs.declared.sections.Sections.{Sections}
 use Rattle.bags.specs.declared.sections.Divided.{Divided}
 use Rattle.bags.specs.declared.sections.Divided.the-variants.{In, Broken}
 use Rattle.bags.proofs.ReadLaws.{First, first}
-use Rattle.bags.proofs.PathLaws.{pathByte, path-bytes, path-sized}
+use Rattle.bags.proofs.PathLaws.{pathByte, path-bytes}
 use Rattle.bags.proofs.SectionLaws.{entry-at, section-at, sections-at}
 use Rattle.tokens.specs.Blanks.{unblanked}
-use Rattle.lookups.specs.Values.{nought, unit, absent, numberOf, valueAt, Valued, Whole}
-use Rattle.lookups.specs.Lookups.{lookIn, entryAt, sectionAt, baseOf, bagOf}
+use Rattle.lookups.specs.Values.{nought, unit, absent, valueNumber, valueAt, Valued, ValueWhole}
+use Rattle.lookups.specs.Lookups.{lookIn, bagEntryAt, sectionAt, baseOf, bagOf}
 use Rattle.lookups.specs.declared.values.Value.{Value}
 use Rattle.lookups.proofs.StepLaws.{as-number, told}
 use Rattle.lookups.proofs.FindLaws.{look-done, look-here, look-on, base-none, base-cases, bag-is-base}
 
 -- ---- a path has no blanks
 
-no-blank : (b : ℕ) → is WordBytes b ≡ true → is Blanks b ≡ false
+no-blank : (b : ℕ) → isOf WordBytes b ≡ true → isOf Blanks b ≡ false
 unfolding classOf
 no-blank b h = ne-eqb (classOf b) 2 (λ e. go (eqb b 95) (eqb b 45) refl refl e)
   where
@@ -47,7 +46,7 @@ no-blank b h = ne-eqb (classOf b) 2 (λ e. go (eqb b 95) (eqb b 45) refl refl e)
         other : (c : ℕ) (u m : Bool) → c ≡ 2 → u ≡ false → m ≡ false → (eqb c 5 || eqb c 4 || u || m) ≡ false
         other c u m x y z = simp (x, y, z)
 
-dot : {b : ℕ} → b ≡ 46 → is Blanks b ≡ false
+dot : {b : ℕ} → b ≡ 46 → isOf Blanks b ≡ false
 unfolding classOf
 dot e = rw e
 
@@ -56,9 +55,9 @@ unfolding unblanked every
 clear [] h = refl
 clear (b ∷ rest) h =
     let t = and-eq-true-iff (pathByte b) (every pathByte rest) .0 h in
-    simp (neither (is WordBytes b) refl (t .0), clear rest (t .1))
+    simp (neither (isOf WordBytes b) refl (t .0), clear rest (t .1))
   where
-    neither : (w : Bool) → is WordBytes b ≡ w → (is WordBytes b || eqb b 46) ≡ true → is Blanks b ≡ false
+    neither : (w : Bool) → isOf WordBytes b ≡ w → (isOf WordBytes b || eqb b 46) ≡ true → isOf Blanks b ≡ false
     neither true e k = no-blank b e
     neither false e k = dot (eqb-true b 46 (rw e at k))
 
@@ -68,7 +67,7 @@ path-clear p h = clear p (path-bytes p h)
 
 -- ---- values: whole, and with a finite number
 
-pub value-whole : (s : List ℕ) (k : ℕ) → Valued s k → Whole s (valueAt s k)
+pub value-whole : (s : List ℕ) (k : ℕ) → Valued s k → ValueWhole s (valueAt s k)
 unfolding valueAt
 value-whole s k v n = go (eqb (byte s k) 0) refl n
   where
@@ -82,8 +81,8 @@ nought-finite = rw (finite-by-bits 0) tt
 unit-finite : T (finite unit)
 unit-finite = rw (finite-by-bits 0x3FF0000000000000) tt
 
-number-finite : (kind : ℕ) (s : List ℕ) (at e : ℕ) → valueEnd kind s at ≡ At e → T (finite (numberOf kind s at))
-unfolding numberOf
+number-finite : (kind : ℕ) (s : List ℕ) (at e : ℕ) → valueEnd kind s at ≡ At e → T (finite (valueNumber kind s at))
+unfolding valueNumber
 number-finite kind s at e h = go (eqb kind 2) (eqb kind 3 && eqb (byte s at) 1) refl
   where
     go : (a b : Bool) → eqb kind 2 ≡ a → T (finite (cond a (numberAt s at) (cond b unit nought)))
@@ -108,8 +107,8 @@ entry-valued s at e h = let w = entry-at s at e h in record { inside = w .named;
 module _ (s path : List ℕ) (P : Value → Type 0) (none : P absent)
     (some : (at e : ℕ) → entryEnd s at ≡ At e → same (pathAt s at) path ≡ true → P (valueAt s (kindAt s at))) where
   -- of n entries, of a section, of the sections of bytes, and of a bag
-  entries-have : (n at e : ℕ) → many n (entryEnd s) at ≡ At e → P (lookIn absent (each n (entryEnd s) (entryAt s) at) path)
-  entries-have zero at e h = rw (← look-done absent (entryEnd s) (entryAt s) path 0 at (omega arith)) none
+  entries-have : (n at e : ℕ) → many n (entryEnd s) at ≡ At e → P (lookIn absent (each n (entryEnd s) (bagEntryAt s) at) path)
+  entries-have zero at e h = rw (← look-done absent (entryEnd s) (bagEntryAt s) path 0 at (omega arith)) none
   entries-have (suc n) at e h = go (same (pathAt s at) path) refl (entries-have n (f .stop) e later)
     where
       f : First (entryEnd s) (suc n) at e
@@ -121,9 +120,9 @@ module _ (s path : List ℕ) (P : Value → Type 0) (none : P absent)
       later : many n (entryEnd s) (f .stop) ≡ At e
       later = rw less at (f .later)
 
-      go : (b : Bool) → same (pathAt s at) path ≡ b → P (lookIn absent (each n (entryEnd s) (entryAt s) (f .stop)) path) → P (lookIn absent (each (suc n) (entryEnd s) (entryAt s) at) path)
-      go true q w = rw (← look-here absent (entryEnd s) (entryAt s) path (suc n) at (omega arith) (f .stop) (f .ends) q) (some at (f .stop) (f .ends) q)
-      go false q w = rw (← look-on absent (entryEnd s) (entryAt s) path (suc n) at (omega arith) (f .stop) (f .ends) q, less) w
+      go : (b : Bool) → same (pathAt s at) path ≡ b → P (lookIn absent (each n (entryEnd s) (bagEntryAt s) (f .stop)) path) → P (lookIn absent (each (suc n) (entryEnd s) (bagEntryAt s) at) path)
+      go true q w = rw (← look-here absent (entryEnd s) (bagEntryAt s) path (suc n) at (omega arith) (f .stop) (f .ends) q) (some at (f .stop) (f .ends) q)
+      go false q w = rw (← look-on absent (entryEnd s) (bagEntryAt s) path (suc n) at (omega arith) (f .stop) (f .ends) q, less) w
 
   section-has : (b e : ℕ) → sectionEnd s b ≡ At e → P (lookIn absent (sectionAt s b) path)
   unfolding sectionAt
@@ -143,21 +142,13 @@ module _ (s path : List ℕ) (P : Value → Type 0) (none : P absent)
       go (In p) q = rw (bag-is-base s p root q) (base-has p root (sections-at s p q))
       go Broken q = simp q none
 
--- no entry's path is empty
-pub no-empty-path : (s path : List ℕ) (n at e : ℕ) → length path ≡ 0 → many n (entryEnd s) at ≡ At e → absent ≡ lookIn absent (each n (entryEnd s) (entryAt s) at) (unblanked path)
-unfolding unblanked
-no-empty-path s [] n at e h q =
-    sym (entries-have s [] (λ v. v ≡ absent) refl
-    (λ at e h q. let l = path-sized (pathAt s at) (entry-at s at e h .path) .0 in let i = ap length (same-decides (pathAt s at) [] .sound q) in absurd (omega arith)) n at e q)
-no-empty-path s (b ∷ path) n at e h q = absurd (omega arith)
-
 module _ (s path : List ℕ) where
   -- what is found is whole
-  pub base-whole : (p : Sections) (root : ℕ) → Sectioned s p → Whole s (lookIn absent (baseOf s p root) path)
-  base-whole = base-has s path (Whole s) (λ n. absurd (n refl)) (λ at e h q. value-whole s (kindAt s at) (entry-valued s at e h))
+  pub base-whole : (p : Sections) (root : ℕ) → Sectioned s p → ValueWhole s (lookIn absent (baseOf s p root) path)
+  base-whole = base-has s path (ValueWhole s) (λ n. absurd (n refl)) (λ at e h q. value-whole s (kindAt s at) (entry-valued s at e h))
 
-  pub bag-whole : (root : ℕ) → Whole s (lookIn absent (bagOf s root) path)
-  bag-whole = bag-has s path (Whole s) (λ n. absurd (n refl)) (λ at e h q. value-whole s (kindAt s at) (entry-valued s at e h))
+  pub bag-whole : (root : ℕ) → ValueWhole s (lookIn absent (bagOf s root) path)
+  bag-whole = bag-has s path (ValueWhole s) (λ n. absurd (n refl)) (λ at e h q. value-whole s (kindAt s at) (entry-valued s at e h))
 
   -- and its number is finite
   pub base-finite : (p : Sections) (root : ℕ) → Sectioned s p → T (finite (lookIn absent (baseOf s p root) path .number))

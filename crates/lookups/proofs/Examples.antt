@@ -5,7 +5,7 @@ use mathlib.Core.Path.{_≡_, refl}
 use lib.Ieee.{binary64, ofBits}
 use Rattle.slices.specs.Ascii.{bytes}
 use Rattle.lookups.specs.Values.{absent}
-use Rattle.lookups.specs.Lookups.{lookupOf, said, startOf, lengthOf}
+use Rattle.lookups.specs.Lookups.{lookupOf, lookupSaid, startOf, lengthOf}
 use Rattle.lookups.specs.declared.Answer.{Answer}
 use Rattle.lookups.specs.declared.Answer.the-variants.{Refused, Found}
 use Rattle.lookups.proofs.Opened.{lookups-opened}
@@ -29,6 +29,6 @@ pub lookups :
     × (lookupOf bag 4 (bytes "on") ≡ Found absent)
     × (startOf (lookupOf bag 3 (bytes "on")) ≡ 0)
     × (lookupOf (0 ∷ 0 ∷ []) 9 (bytes "a") ≡ Refused 24)
-    × (said (lookupOf (0 ∷ 0 ∷ []) 9 (bytes "a")) ≡ record { refusal = 24; kind = 0; number = ofBits binary64 0; place = 0 })
+    × (lookupSaid (lookupOf (0 ∷ 0 ∷ []) 9 (bytes "a")) ≡ record { refusal = 24; kind = 0; number = ofBits binary64 0; place = 0 })
 unfolding lookups-opened
 lookups = (refl, refl, refl, refl, refl, refl, refl, refl, refl, refl, refl, refl)

@@ -13,7 +13,7 @@ use Rattle.slices.specs.Same.{same}
 use Rattle.slices.proofs.Decided.{one-answer, no-to}
 use Rattle.slices.proofs.Equal.{same-decides, other-length}
 use Rattle.tokens.specs.Bytes.{classOf}
-use Rattle.tokens.specs.Runs.{is}
+use Rattle.tokens.specs.Runs.{isOf}
 use Rattle.tokens.proofs.Table.{agree}
 use Rattle.tokens.specs.declared.classes.Sort.the-variants.{Blanks}
 use Rattle.slices.specs.Parts.{part}
@@ -30,9 +30,9 @@ use Rattle.lookups.specs.Lookups.{Entry, lookIn, sectionAt, baseOf, bagO
 use Rattle.lookups.specs.declared.values.Value.{Value}
 
 -- the blanks by their bytes, at all 256
-pub blank-is : (b : ℕ) → b < 256 → (eqb b 32 || eqb b 9 || eqb b 10 || eqb b 13) ≡ is Blanks b
+pub blank-is : (b : ℕ) → b < 256 → (eqb b 32 || eqb b 9 || eqb b 10 || eqb b 13) ≡ isOf Blanks b
 unfolding classOf
-blank-is b h = agree (λ (b : ℕ). eqb b 32 || eqb b 9 || eqb b 10 || eqb b 13) (is Blanks) 256 b refl h
+blank-is b h = agree (λ (b : ℕ). eqb b 32 || eqb b 9 || eqb b 10 || eqb b 13) (isOf Blanks) 256 b refl h
 
 -- ---- the bytes of a part, and those of a path but its blanks
 
@@ -46,11 +46,11 @@ module _ (s : List ℕ) (x left : ℕ) (p : List ℕ) (y : ℕ) where
       go (suc n) f = rw (part-cons s x (suc n) (omega arith) f) (ne-eqb (suc n) 0 (λ e. omega arith))
 
   module _ (h : y < length p) where
-    pub path-blank : is Blanks (byte p y) ≡ true → same (part s x left) (unblanked (drop (y + 1) p)) ≡ same (part s x left) (unblanked (drop y p))
+    pub path-blank : isOf Blanks (byte p y) ≡ true → same (part s x left) (unblanked (drop (y + 1) p)) ≡ same (part s x left) (unblanked (drop y p))
     unfolding unblanked
     path-blank b = rw (add-one, drop-cons p y 0 h) (simp b)
 
-    module _ (n : is Blanks (byte p y) ≡ false) where
+    module _ (n : isOf Blanks (byte p y) ≡ false) where
       pub path-short : left ≡ 0 → false ≡ same (part s x left) (unblanked (drop y p))
       unfolding unblanked same
       path-short e = rw (e, part-none, drop-cons p y 0 h) (simp n)
@@ -75,9 +75,9 @@ part-sized s at n h = simp (length-take, length-drop) (omega arith)
 fewer : (l : List ℕ) → (length (unblanked l) ≤ length l) × (length (unblanked l) ≡ length l → unblanked l ≡ l)
 unfolding unblanked
 fewer [] = (omega arith, λ e. refl)
-fewer (b ∷ rest) = go (is Blanks b) refl (fewer rest)
+fewer (b ∷ rest) = go (isOf Blanks b) refl (fewer rest)
   where
-    go : (t : Bool) → is Blanks b ≡ t → (length (unblanked rest) ≤ length rest) × (length (unblanked rest) ≡ length rest → unblanked rest ≡ rest)
+    go : (t : Bool) → isOf Blanks b ≡ t → (length (unblanked rest) ≤ length rest) × (length (unblanked rest) ≡ length rest → unblanked rest ≡ rest)
         → (length (unblanked (b ∷ rest)) ≤ suc (length rest)) × (length (unblanked (b ∷ rest)) ≡ suc (length rest) → unblanked (b ∷ rest) ≡ b ∷ rest)
     go true e (k, w) = simp e (omega arith, λ q. absurd (omega arith))
     go false e (k, w) = simp e (omega arith, λ q. ap (λ (l : List ℕ). b ∷ l) (w (omega arith)))
@@ -94,13 +94,27 @@ same-long p path c h = go (eqb (length (unblanked path)) (length path)) refl
         other-answer : (p ≡ path → ⊥) → same p path ≡ false
         other-answer f = one-answer (same p path) false (same-decides p path) (no-to f)
 
--- paths with different first bytes differ, where that of the other is no blank
-pub other-lead : (s : List ℕ) (at n lead : ℕ) (path : List ℕ) → 0 < n → at + n ≤ length s → 0 < length path → lead ≡ byte path 0 → is Blanks lead ≡ false → (byte s at ≡ lead → ⊥)
-    → false ≡ same (part s at n) (unblanked path)
-unfolding unblanked same
-other-lead s at n lead [] some fits h e b d = absurd (omega arith)
-other-lead s at n lead (x ∷ path) some fits h e b d =
-    let c : is Blanks x ≡ false = rw e at b in let k : byte s at ≡ x → ⊥ = rw e at d in rw (part-cons s at n some fits) (simp (c, ne-eqb _ _ k))
+-- ---- the first byte of a path but its blanks
+
+module _ (p : List ℕ) (i : ℕ) where
+  pub lead-end : length p ≤ i → 0 ≡ byte (unblanked (drop i p)) 0
+  unfolding unblanked
+  lead-end h = rw (drop-of-length-le p h)
+
+  module _ (h : i < length p) where
+    pub lead-blank : isOf Blanks (byte p i) ≡ true → byte (unblanked (drop (i + 1) p)) 0 ≡ byte (unblanked (drop i p)) 0
+    unfolding unblanked
+    lead-blank b = rw (add-one, drop-cons p i 0 h) (simp b)
+
+    pub lead-here : isOf Blanks (byte p i) ≡ false → byte p i ≡ byte (unblanked (drop i p)) 0
+    unfolding unblanked
+    lead-here b = rw (drop-cons p i 0 h) (simp b)
+
+-- a part with another first byte than some bytes is not these bytes
+pub other-lead : (s : List ℕ) (at n lead : ℕ) (l : List ℕ) → 0 < n → at + n ≤ length s → lead ≡ byte l 0 → (byte s at ≡ lead → ⊥) → false ≡ same (part s at n) l
+unfolding same
+other-lead s at n lead [] some fits e d = rw (part-cons s at n some fits) refl
+other-lead s at n lead (x ∷ l) some fits e d = let k : byte s at ≡ x → ⊥ = rw e at d in rw (part-cons s at n some fits) (simp (ne-eqb _ _ k))
 
 -- ---- the entry with a path
 

@@ -15,7 +15,7 @@ use Rattle.bags.specs.declared.After.{After}
 use Rattle.bags.specs.declared.After.the-variants.{At}
 use Rattle.bags.proofs.ReadLaws.{same-end, first, many-more}
 use Rattle.bags.proofs.ValueLaws.{String, Number, Flag, Strings, string-at, Ended, string, number, flag, list, value-at}
-use Rattle.lookups.specs.Values.{nought, unit, absent, numberOf, valueAt}
+use Rattle.lookups.specs.Values.{nought, unit, absent, valueNumber, valueAt}
 
 -- ---- strings
 
@@ -108,20 +108,20 @@ pub told : (b : Bool) → b ≡ true → T b
 told b h = subst T (sym h) tt
 
 module _ (kind : ℕ) (s : List ℕ) (at : ℕ) where
-  pub number-is : (x : Float) → kind ≡ 2 → x ≡ numberAt s at → x ≡ numberOf kind s at
-  unfolding numberOf
+  pub number-is : (x : Float) → kind ≡ 2 → x ≡ numberAt s at → x ≡ valueNumber kind s at
+  unfolding valueNumber
   number-is x k p = simp (k, p)
 
-  pub flag-on : kind ≡ 3 → byte s at ≡ 1 → unit ≡ numberOf kind s at
-  unfolding numberOf
+  pub flag-on : kind ≡ 3 → byte s at ≡ 1 → unit ≡ valueNumber kind s at
+  unfolding valueNumber
   flag-on k b = simp (k, eq-eqb _ _ b)
 
-  pub flag-off : kind ≡ 3 → (byte s at ≡ 1 → ⊥) → nought ≡ numberOf kind s at
-  unfolding numberOf
+  pub flag-off : kind ≡ 3 → (byte s at ≡ 1 → ⊥) → nought ≡ valueNumber kind s at
+  unfolding valueNumber
   flag-off k b = simp (k, ne-eqb _ _ b)
 
-  pub no-number : (kind ≡ 2 → ⊥) → (kind ≡ 3 → ⊥) → nought ≡ numberOf kind s at
-  unfolding numberOf
+  pub no-number : (kind ≡ 2 → ⊥) → (kind ≡ 3 → ⊥) → nought ≡ valueNumber kind s at
+  unfolding valueNumber
   no-number a b = simp (ne-eqb _ _ a, ne-eqb _ _ b)
 
 module _ (s : List ℕ) (k : ℕ) where
@@ -129,6 +129,6 @@ module _ (s : List ℕ) (k : ℕ) where
   unfolding valueAt
   value-absent e = simp (eq-eqb _ _ e)
 
-  pub value-is : (x : Float) → (byte s k ≡ 0 → ⊥) → x ≡ numberOf (byte s k) s (k + 1) → record { kind = byte s k; number = x; place = k + 1 } ≡ valueAt s k
+  pub value-is : (x : Float) → (byte s k ≡ 0 → ⊥) → x ≡ valueNumber (byte s k) s (k + 1) → record { kind = byte s k; number = x; place = k + 1 } ≡ valueAt s k
   unfolding valueAt
   value-is x n e = simp (ne-eqb _ _ n, e)

@@ -24,12 +24,12 @@ lookIn none [] path = none
 lookIn none (e ∷ es) path = cond (same (e .path) path) (e .value) (lookIn none es path)
 
 -- the entry from a place to its end: its path, and the value after it
-abbrev pub entryAt : List ℕ → ℕ → ℕ → Entry Value
-entryAt s at e = record { path = pathAt s at; value = valueAt s (kindAt s at) }
+abbrev pub bagEntryAt : List ℕ → ℕ → ℕ → Entry Value
+bagEntryAt s at e = record { path = pathAt s at; value = valueAt s (kindAt s at) }
 
 -- the entries of the section whose count byte stands at b
 unfoldable pub sectionAt : List ℕ → ℕ → List (Entry Value)
-sectionAt s b = each (byte s b) (entryEnd s) (entryAt s) (b + 1)
+sectionAt s b = each (byte s b) (entryEnd s) (bagEntryAt s) (b + 1)
 
 -- the section of a root byte: 1 principal, 2 resource, 3 env; any other has none
 unfoldable pub baseOf : List ℕ → Sections → ℕ → List (Entry Value)
@@ -50,16 +50,16 @@ unfoldable pub lookupOf : List ℕ → ℕ → List ℕ → Answer
 lookupOf s root path = cond (isBag s) (Found (lookIn absent (bagOf s root) path)) (Refused 24)
 
 -- what an answer says in document 01's numbers: the refusal's, or 0; the kind, the number and the place
-pub record Said : Type 0 where
+pub record LookupSaid : Type 0 where
   pub refusal : ℕ
   pub kind : ℕ
   pub number : Float
   pub place : ℕ
 
 -- what each answer says; a refusal has zeros elsewhere
-abbrev pub said : Answer → Said
-said (Refused n) = record { refusal = n; kind = 0; number = nought; place = 0 }
-said (Found v) = record { refusal = 0; kind = v .kind; number = v .number; place = v .place }
+abbrev pub lookupSaid : Answer → LookupSaid
+lookupSaid (Refused n) = record { refusal = n; kind = 0; number = nought; place = 0 }
+lookupSaid (Found v) = record { refusal = 0; kind = v .kind; number = v .number; place = v .place }
 
 -- ---- the part of the bag that a string's bytes are
 

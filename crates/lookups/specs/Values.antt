@@ -24,12 +24,12 @@ abbrev pub absent : Value
 absent = record { kind = 0; number = nought; place = 0 }
 
 -- the number of a value: a flag counts 0 or 1, a string and a list 0
-unfoldable pub numberOf : ℕ → List ℕ → ℕ → Float
-numberOf kind s at = cond (eqb kind 2) (numberAt s at) (cond (eqb kind 3 && eqb (byte s at) 1) unit nought)
+unfoldable pub valueNumber : ℕ → List ℕ → ℕ → Float
+valueNumber kind s at = cond (eqb kind 2) (numberAt s at) (cond (eqb kind 3 && eqb (byte s at) 1) unit nought)
 
 -- the value whose kind byte stands at k; kind 0 is absent
 unfoldable pub valueAt : List ℕ → ℕ → Value
-valueAt s k = cond (eqb (byte s k) 0) absent (record { kind = byte s k; number = numberOf (byte s k) s (k + 1); place = k + 1 })
+valueAt s k = cond (eqb (byte s k) 0) absent (record { kind = byte s k; number = valueNumber (byte s k) s (k + 1); place = k + 1 })
 
 -- a kind byte stands at k, and after it, unless it is 0, a value that is whole
 pub record Valued (s : List ℕ) (k : ℕ) : Type 0 where
@@ -37,5 +37,5 @@ pub record Valued (s : List ℕ) (k : ℕ) : Type 0 where
   pub whole : (byte s k ≡ 0 → ⊥) → (e : ℕ) × (valueEnd (byte s k) s (k + 1) ≡ At e)
 
 -- a value that is not absent lies in the bytes as a whole
-abbrev pub Whole : List ℕ → Value → Type 0
-Whole s v = (v .kind ≡ 0 → ⊥) → (e : ℕ) × (valueEnd (v .kind) s (v .place) ≡ At e)
+abbrev pub ValueWhole : List ℕ → Value → Type 0
+ValueWhole s v = (v .kind ≡ 0 → ⊥) → (e : ℕ) × (valueEnd (v .kind) s (v .place) ≡ At e)

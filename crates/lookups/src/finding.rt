@@ -4,7 +4,7 @@ ghost use mathlib.Core.Bool.{true};
 ghost use Prim.Native.Nat.{ℕ, _+_, _<_, _≤_};
 ghost use lib.ListN.{length};
 ghost use Rattle.slices.specs.Same.{same};
-ghost use Rattle.tokens.specs.Runs.{is};
+ghost use Rattle.tokens.specs.Runs.{isOf};
 ghost use Rattle.tokens.specs.declared.classes.Sort.the-variants.{Blanks};
 ghost use Rattle.slices.specs.Parts.{part};
 ghost use Rattle.bags.specs.Reading.{byte, many, each};
@@ -13,7 +13,7 @@ ghost use Rattle.bags.specs.Sections.{entryEnd, sectionEnd, Sectioned};
 ghost use Rattle.bags.specs.declared.After.the-variants.{At};
 ghost use Rattle.tokens.specs.Blanks.{unblanked};
 ghost use Rattle.lookups.specs.Values.{absent};
-ghost use Rattle.lookups.specs.Lookups.{lookIn, entryAt, sectionAt, baseOf};
+ghost use Rattle.lookups.specs.Lookups.{lookIn, bagEntryAt, sectionAt, baseOf};
 use crate::bytes::same_bytes;
 use crate::steps::value_next;
 use crate::values::Value;
@@ -22,7 +22,7 @@ use crate::values::value_from;
 use bags::sections::Sections;
 
 fn is_blank(c: u8) -> bool
-    ensures { λ r. ⌜ r ≡ is Blanks c ⌝ }
+    ensures { λ r. ⌜ r ≡ isOf Blanks c ⌝ }
 {
     (c == b' ') | (c == b'\t') | (c == b'\n') | (c == b'\r')
 }
@@ -53,15 +53,29 @@ pub fn same_path(s: &[u8], at: usize, n: usize, path: &[u8]) -> bool
     left == 0
 }
 
-// Whether an entry's path, the `n` bytes of `s` from `at`, is `path` but its blanks. Most entries' paths differ in the first byte, `lead`; one without blanks is as long.
+// The first byte of a path but its blanks; 0 where it has none.
+fn lead_of(path: &[u8]) -> u8
+    ensures { λ r. ⌜ r ≡ byte (unblanked (now (path .entry))) 0 ⌝ }
+{
+    let mut i = 0;
+    while i < path.len() {
+        let c = path[i];
+        if !is_blank(c) {
+            return c;
+        }
+        i += 1;
+    }
+    0
+}
+
+// Whether an entry's path, the `n` bytes of `s` from `at`, is `path` but its blanks. Most entries' paths have another first byte than `lead`; one without blanks is as long.
 fn is_named(s: &[u8], at: usize, n: usize, lead: u8, path: &[u8]) -> bool
     requires { ⌜ at + n ≤ length (now s) ⌝ }
     requires { ⌜ isPath (part (now s) at n) ≡ true ⌝ }
-    requires { ⌜ 0 < length (now path) ⌝ }
-    requires { ⌜ lead ≡ byte (now path) 0 ⌝ }
+    requires { ⌜ lead ≡ byte (unblanked (now path)) 0 ⌝ }
     ensures { λ r. ⌜ r ≡ same (part (now (s .entry)) at n) (unblanked (now (path .entry))) ⌝ }
 {
-    if (s[at] != lead) & !is_blank(lead) {
+    if s[at] != lead {
         return false;
     }
     if n == path.len() {
@@ -74,12 +88,9 @@ fn is_named(s: &[u8], at: usize, n: usize, lead: u8, path: &[u8]) -> bool
 // Among the `n` entries from `at`, the value of the one with this path.
 fn find_in(n: usize, path: &[u8], s: &[u8], at: usize) -> Value
     requires { ⌜ ((e : ℕ) × (many n (entryEnd (now s)) at ≡ At e)) ⌝ }
-    ensures { λ r. ⌜ r ≡ lookIn absent (each n (entryEnd (now (s .entry))) (entryAt (now (s .entry))) at) (unblanked (now (path .entry))) ⌝ }
+    ensures { λ r. ⌜ r ≡ lookIn absent (each n (entryEnd (now (s .entry))) (bagEntryAt (now (s .entry))) at) (unblanked (now (path .entry))) ⌝ }
 {
-    if path.len() == 0 {
-        return absent_value();
-    }
-    let lead = path[0];
+    let lead = lead_of(path);
     let mut left = n;
     let mut next = at;
     while 0 < left {

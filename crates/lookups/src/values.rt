@@ -3,7 +3,7 @@ ghost use mathlib.Core.Path.{_≡_};
 ghost use Prim.Native.Nat.{ℕ};
 ghost use Rattle.bags.specs.Values.{valueEnd};
 ghost use Rattle.bags.specs.declared.After.the-variants.{At};
-ghost use Rattle.lookups.specs.Values.{absent, numberOf, valueAt, Valued};
+ghost use Rattle.lookups.specs.Values.{absent, valueNumber, valueAt, Valued};
 
 // A value's kind, its number, and the place of the byte after its kind byte. Kind 0 is absent.
 pub struct Value {
@@ -25,7 +25,7 @@ pub fn absent_value() -> Value
 // The number of a value that is whole.
 fn number_of(kind: u8, s: &[u8], at: usize) -> f64
     requires { ⌜ ((e : ℕ) × (valueEnd kind (now s) at ≡ At e)) ⌝ }
-    ensures { λ r. ⌜ r ≡ numberOf kind (now (s .entry)) at ⌝ }
+    ensures { λ r. ⌜ r ≡ valueNumber kind (now (s .entry)) at ⌝ }
 {
     if kind == 2 {
         return numbers::bits::number_at(s, at);

@@ -34,13 +34,17 @@ afterColon (b ∷ rest) = cond (eqb b (code ":")) rest (afterColon rest)
 abbrev pub typeIn : List (List ℕ) → List ℕ → ℕ
 typeIn types s = typeAmong types 1 (beforeColon s)
 
--- subject, action and resource have at most 100 bytes
-abbrev pub atMostHundred : List ℕ → Bool
-atMostHundred s = leb (length s) 100
+-- the most bytes of subject, action and resource
+abbrev pub mostRequestBytes : ℕ
+mostRequestBytes = 100
+
+-- they have no more
+abbrev pub shortEnough : List ℕ → Bool
+shortEnough s = leb (length s) mostRequestBytes
 
 -- a type, a colon, and an id of at least one byte
 unfoldable pub isTyped : List (List ℕ) → List ℕ → Bool
-isTyped types s = atMostHundred s && not (eqb (typeIn types s) 0) && ltb 0 (length (afterColon s))
+isTyped types s = shortEnough s && not (eqb (typeIn types s) 0) && ltb 0 (length (afterColon s))
 
 -- the system: these six bytes alone
 abbrev pub isSystem : List ℕ → Bool
@@ -52,7 +56,7 @@ isSubject s = isTyped principalTypes s
 
 -- an action: 1 to 100 bytes
 unfoldable pub isAction : List ℕ → Bool
-isAction s = atMostHundred s && ltb 0 (length s)
+isAction s = shortEnough s && ltb 0 (length s)
 
 -- a resource: one of the four resource types, a colon, an id
 abbrev pub isResource : List ℕ → Bool

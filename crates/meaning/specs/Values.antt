@@ -9,16 +9,9 @@ use Rattle.slices.specs.Same.{same}
 use Rattle.numbers.specs.Literals.{numberIn}
 use Rattle.numbers.specs.Comparing.{holds}
 use Rattle.numbers.specs.declared.comparing.Comparator.the-variants as numbers
-use Rattle.grammar.specs.Policies.{Root, Root.Principal, Root.Resource, Root.Env, Root.Action, Comparator, Comparator.Equal, Comparator.NotEqual, Comparator.More, Comparator.AtLeast, Comparator.Less, Comparator.AtMost, LiteralOf, text as textLiteral, number as numberLiteral, truth, OperandOf, attribute, literal}
+use Rattle.grammar.specs.Policies.{Root, rootByte, Root.Principal, Root.Resource, Root.Env, Root.Action, Comparator, Comparator.Equal, Comparator.NotEqual, Comparator.More, Comparator.AtLeast, Comparator.Less, Comparator.AtMost, LiteralOf, text as textLiteral, number as numberLiteral, truth, OperandOf, attribute, literal}
 use Rattle.placing.specs.Said.{Word}
 use Rattle.views.specs.Meaning.{Datum, text, number, flag, texts, absent, View}
-
--- the root bytes of document 01, and 4 for action, which is no root of a bag
-abbrev pub rootByte : Root → ℕ
-rootByte Principal = 1
-rootByte Resource = 2
-rootByte Env = 3
-rootByte Action = 4
 
 -- the action root holds only `name`, the request's action
 unfoldable pub withAction : List ℕ → View → View

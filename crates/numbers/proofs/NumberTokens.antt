@@ -10,7 +10,7 @@ use lib.ListN.{length, take, drop}
 use Rattle.tokens.specs.Bytes.{classOf}
 use Rattle.tokens.specs.Kinds.{number}
 use Rattle.tokens.specs.Tokens.{tokenAt}
-use Rattle.tokens.specs.Forms.{All, empty, next, SomeDigits, digits-from, Unsigned, whole, pointed as with-point, Number, plain, minus as with-minus, marks, Form, a-word, a-string, a-number, a-mark, digits}
+use Rattle.tokens.specs.Forms.{All, empty, next, SomeDigits, digits-from, Unsigned, whole, pointed as with-point, Number, signless, minus as with-minus, marks, Form, a-word, a-string, a-number, a-mark, digits}
 use Rattle.tokens.specs.declared.classes.Sort.the-variants.{Digits as digitBytes}
 use Rattle.tokens.proofs.TokenLaws.{every, digit-byte}
 use Rattle.tokens.proofs.KindLaws.{word-high}
@@ -48,7 +48,7 @@ unsigned-number negative (with-point {w} {f} s t) few =
     (omega (arith, digits-append w (46 ∷ f), point-none f, digits-all (some-all s), digits-all (some-all t))))
 
 form-number : {l : List ℕ} → Number l → digits l ≤ 15 → IsNumber l
-form-number (plain u) few = unsigned-number false u few
+form-number (signless u) few = unsigned-number false u few
 form-number (with-minus {l} u) few = unsigned-number true u (omega (arith, minus-none l))
 
 -- only a number's form has the kind of numbers

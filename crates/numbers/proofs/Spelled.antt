@@ -10,7 +10,7 @@ use lib.Dec.{T, eqb}
 use lib.ListN.{length, getD, length-append}
 use lib.Ieee.{Float}
 use lib.Ieee.Scale.{finite}
-use Rattle.numbers.specs.Literals.{Digits, none, more, decimalAfter, quotient, Literal, WellFormed, minus, pointed, written, allDigits, places, valueOf, IsNumber, digitsOf, afterPoint, magnitudeIn, numberIn}
+use Rattle.numbers.specs.Literals.{Digits, none, more, decimalAfter, quotient, NumberLiteral, WellFormed, minus, pointed, written, allDigits, places, valueOf, IsNumber, digitsOf, afterPoint, magnitudeIn, numberIn}
 use Rattle.numbers.proofs.Rounded.{power-small, quotient-finite, signed-finite}
 
 -- digits, with or without a minus before them and a point and digits after them, at most 15 in all, are a number
@@ -75,7 +75,7 @@ decimal-below n (more {d} {ds} l h r) =
 
 -- ---- a literal, and a text that is one's
 
-module _ (l : Literal) (h : WellFormed l) where
+module _ (l : NumberLiteral) (h : WellFormed l) where
   pub digits-small : allDigits l ≤ 10 ^ 15
   digits-small =
       omega (

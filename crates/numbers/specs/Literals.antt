@@ -8,6 +8,7 @@ use Prim.Native.Nat.{ℕ, _+_, _-_, _*_, _^_, _≤_, _<_}
 use lib.Dec.{leb, eqb}
 use lib.ListN.{length, getD}
 use lib.Ieee.{Float, binary64, round, neg}
+use Rattle.tokens.specs.Sizes.{mostDigits}
 
 -- the bytes `0` to `9`
 pub data Digits : List ℕ → Type 0 where
@@ -31,17 +32,17 @@ signed false x = x
 -- ---- a literal by its parts
 
 -- whether a minus stands first, the digits before the point, and those after it: none where there is no point
-pub record Literal : Type 0 where
+pub record NumberLiteral : Type 0 where
   pub negative : Bool
   pub whole : List ℕ
   pub fraction : List ℕ
 
 -- at least one digit before the point, and at most 15 in all
-pub record WellFormed (l : Literal) : Type 0 where
+pub record WellFormed (l : NumberLiteral) : Type 0 where
   pub whole-digits : Digits (l .whole)
   pub fraction-digits : Digits (l .fraction)
   pub some : 0 < length (l .whole)
-  pub few : length (l .whole) + length (l .fraction) ≤ 15
+  pub few : length (l .whole) + length (l .fraction) ≤ mostDigits
 
 -- the minus, where there is one
 abbrev pub minus : Bool → List ℕ
@@ -54,24 +55,24 @@ pointed [] = []
 pointed (d ∷ ds) = code "." ∷ d ∷ ds
 
 -- the bytes of a literal
-abbrev pub written : Literal → List ℕ
+abbrev pub written : NumberLiteral → List ℕ
 written l = minus (l .negative) ++ (l .whole ++ pointed (l .fraction))
 
 -- N, which all the digits spell
-abbrev pub allDigits : Literal → ℕ
+abbrev pub allDigits : NumberLiteral → ℕ
 allDigits l = decimalAfter 0 (l .whole ++ l .fraction)
 
 -- k, how many of them stand after the point
-abbrev pub places : Literal → ℕ
+abbrev pub places : NumberLiteral → ℕ
 places l = length (l .fraction)
 
 -- the number that a literal stands for
-abbrev pub valueOf : Literal → Float
+abbrev pub valueOf : NumberLiteral → Float
 valueOf l = signed (l .negative) (quotient (allDigits l) (places l))
 
 -- the text is a literal's
 pub record IsNumber (text : List ℕ) : Type 0 where
-  pub literal : Literal
+  pub literal : NumberLiteral
   pub well-formed : WellFormed literal
   pub spelled : text ≡ written literal
 

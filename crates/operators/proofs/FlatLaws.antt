@@ -9,16 +9,16 @@ use lib.Dec.{eqb, leb}
 use Rattle.patterns.specs.Likes.{likes}
 use Rattle.views.specs.Meaning.{View, present}
 use Rattle.grammar.specs.Policies.{Span, Root, Comparator, Comparator.Equal, Literal, Operand, Which, Tree, constant, compare, like, among, within, contains, has}
-use Rattle.placing.specs.Placed.{quotedAt, StringPlaced, PathPlaced, Each, LiteralPlaced, OperandPlaced, TreePlaced, a-comparison, a-likeness, in-list, in-attribute, a-call, a-presence, pathAt}
+use Rattle.placing.specs.Placed.{quotedAt, StringPlaced, PathPlaced, Each, LiteralPlaced, OperandPlaced, TreePlaced, a-comparison, a-likeness, in-list, in-attribute, a-call, a-presence, unblankedAt}
 use Rattle.placing.specs.Said.{literalWords, operandWords, treeWords}
 use Rattle.table.specs.declared.Entry.{Entry}
-use Rattle.stored.specs.ReadBack.{spanOf, rootOf, comparatorOf, operandOf, literalsBy, listBy, ownerBy, treeFrom, treeBy}
+use Rattle.stored.specs.ReadBack.{spanOfEntry, rootOfKind, comparatorOfKind, operandOfEntry, literalsBy, listBy, ownerBy, treeFrom, treeBy}
 use Rattle.stored.specs.Ready.{Room, NodeBy}
 use Rattle.stored.proofs.Nodes.{as-has, as-compare, as-like, as-among, as-within, as-contains-all, as-contains-any}
 use Rattle.meaning.specs.Values.{literalValue, attributeValue, operandValue, ifText, ifTexts, compares}
 use Rattle.meaning.specs.Conditions.{told, some, asked, amongStrings, verdict}
 use Rattle.meaning.specs.declared.Verdict.{Verdict}
-use Rattle.operators.specs.Operands.{leftAt, whichOf}
+use Rattle.operators.specs.Operands.{leftAt, whichBy}
 use Rattle.operators.proofs.VerdictLaws.{constant-told, compare-told, like-told, among-told, within-told, contains-told, has-told}
 
 -- ---- which condition it is
@@ -29,11 +29,11 @@ module _ (at : ℕ → Entry) (end : ℕ) (x : Entry) where
   as-constant l h = rw (lt-leb (x .kind) 8 l, le-leb (x .kind) 12 h)
 
   as-contains : 22 ≤ x .kind → x .kind ≤ 23
-      → treeFrom (treeBy at) at end x ≡ contains (whichOf (eqb (x .kind) 23)) (rootOf (ownerBy at end x .kind)) (spanOf (ownerBy at end x)) (listBy at end x)
+      → treeFrom (treeBy at) at end x ≡ contains (whichBy (eqb (x .kind) 23)) (rootOfKind (ownerBy at end x .kind)) (spanOfEntry (ownerBy at end x)) (listBy at end x)
   as-contains l h = go (eqb (x .kind) 23) refl
     where
       go : (any : Bool) → eqb (x .kind) 23 ≡ any
-          → treeFrom (treeBy at) at end x ≡ contains (whichOf any) (rootOf (ownerBy at end x .kind)) (spanOf (ownerBy at end x)) (listBy at end x)
+          → treeFrom (treeBy at) at end x ≡ contains (whichBy any) (rootOfKind (ownerBy at end x .kind)) (spanOfEntry (ownerBy at end x)) (listBy at end x)
       go true e = as-contains-any (treeBy at) at end x (eqb-true (x .kind) 23 e)
       go false e = let n = eqb-false (x .kind) 23 e in as-contains-all (treeBy at) at end x (omega arith)
 
@@ -90,33 +90,33 @@ module _ {t : List ℕ} where
   asked-for (a-presence p) = p
 
 module _ {t : List ℕ} {at : ℕ → Entry} {many end : ℕ} {x : Entry} (node : NodeBy t at many end x) where
-  pub has-placed : x .kind ≤ 8 → PathPlaced t (rootOf (x .kind - 4)) (spanOf x)
+  pub has-placed : x .kind ≤ 8 → PathPlaced t (rootOfKind (x .kind - 4)) (spanOfEntry x)
   has-placed h = asked-for (subst (TreePlaced t) (as-has (treeBy at) at end x h) (node .placed))
 
   pub compare-placed : (a b : Entry) → 12 < x .kind → x .kind ≤ 18 → a ≡ at (end - 3) → b ≡ at (end - 2)
-      → OperandPlaced t (operandOf a) × OperandPlaced t (operandOf b)
+      → OperandPlaced t (operandOfEntry a) × OperandPlaced t (operandOfEntry b)
   compare-placed a b l h p q = rw (p, q) (compared (subst (TreePlaced t) (as-compare (treeBy at) at end x (omega arith) h) (node .placed)))
 
-  pub like-placed : (a : Entry) → x .kind ≡ 19 → a ≡ at (end - 2) → OperandPlaced t (operandOf a) × StringPlaced t (spanOf x)
+  pub like-placed : (a : Entry) → x .kind ≡ 19 → a ≡ at (end - 2) → OperandPlaced t (operandOfEntry a) × StringPlaced t (spanOfEntry x)
   like-placed a k p = rw p (likened (subst (TreePlaced t) (as-like (treeBy at) at end x k) (node .placed)))
 
   pub among-placed : (a : Entry) → x .kind ≡ 20 → a ≡ ownerBy at end x
-      → OperandPlaced t (operandOf a) × Each (LiteralPlaced t) (literalsBy (x .first) at (end - x .first - 1))
+      → OperandPlaced t (operandOfEntry a) × Each (LiteralPlaced t) (literalsBy (x .first) at (end - x .first - 1))
   among-placed a k p = rw p (sought (subst (TreePlaced t) (as-among (treeBy at) at end x k) (node .placed)))
 
   pub within-placed : (a b : Entry) → x .kind ≡ 21 → a ≡ at (end - 3) → b ≡ at (end - 2)
-      → OperandPlaced t (operandOf a) × PathPlaced t (rootOf (b .kind)) (spanOf b)
+      → OperandPlaced t (operandOfEntry a) × PathPlaced t (rootOfKind (b .kind)) (spanOfEntry b)
   within-placed a b k p q = rw (p, q) (sought-within (subst (TreePlaced t) (as-within (treeBy at) at end x k) (node .placed)))
 
   pub contains-placed : (b : Entry) → 22 ≤ x .kind → x .kind ≤ 23 → b ≡ ownerBy at end x
-      → PathPlaced t (rootOf (b .kind)) (spanOf b) × Each (LiteralPlaced t) (literalsBy (x .first) at (end - x .first - 1))
+      → PathPlaced t (rootOfKind (b .kind)) (spanOfEntry b) × Each (LiteralPlaced t) (literalsBy (x .first) at (end - x .first - 1))
   contains-placed b l h p = rw p (called (subst (TreePlaced t) (as-contains at end x l h) (node .placed)))
 
   -- the left operand
-  pub left-placed : (a : Entry) → 12 < x .kind → x .kind ≤ 21 → a ≡ at (leftAt end x) → OperandPlaced t (operandOf a)
+  pub left-placed : (a : Entry) → 12 < x .kind → x .kind ≤ 21 → a ≡ at (leftAt end x) → OperandPlaced t (operandOfEntry a)
   left-placed a l h p = go (leb (x .kind) 18) (eqb (x .kind) 19) (eqb (x .kind) 20) refl refl refl
     where
-      go : (i j k : Bool) → leb (x .kind) 18 ≡ i → eqb (x .kind) 19 ≡ j → eqb (x .kind) 20 ≡ k → OperandPlaced t (operandOf a)
+      go : (i j k : Bool) → leb (x .kind) 18 ≡ i → eqb (x .kind) 19 ≡ j → eqb (x .kind) 20 ≡ k → OperandPlaced t (operandOfEntry a)
       go true j k e f g = let q = leb-true (x .kind) 18 e in compare-placed a (at (end - 2)) l q (p ∙ ap at (left-compared end x q)) refl .0
       go false true k e f g = let q = eqb-true (x .kind) 19 f in like-placed a q (p ∙ ap at (left-liked end x q)) .0
       go false false true e f g = let q = eqb-true (x .kind) 20 g in among-placed a q (p ∙ ap at (left-listed end x q)) .0
@@ -131,38 +131,38 @@ module _ (t : List ℕ) (view : View) (r : Verdict) (h : Bool) (e : r ≡ told h
   verdict-is tree c b is v q = e ∙ ap told q ∙ sym v ∙ ap (λ (c : Tree). verdict view (treeWords t c)) (sym is)
 
   module _ (at : ℕ → Entry) (end : ℕ) (x : Entry) where
-    pub flat-has : x .kind ≤ 8 → h ≡ present (attributeValue view (rootOf (x .kind - 4)) (pathAt t (spanOf x))) → r ≡ verdict view (treeWords t (treeFrom (treeBy at) at end x))
+    pub flat-has : x .kind ≤ 8 → h ≡ present (attributeValue view (rootOfKind (x .kind - 4)) (unblankedAt t (spanOfEntry x))) → r ≡ verdict view (treeWords t (treeFrom (treeBy at) at end x))
     flat-has k q = verdict-is _ _ _ (as-has (treeBy at) at end x k) (has-told t view _ _) q
 
     pub flat-constant : 8 < x .kind → x .kind ≤ 12 → h ≡ eqb (x .kind) 11 → r ≡ verdict view (treeWords t (treeFrom (treeBy at) at end x))
     flat-constant l k q = verdict-is _ _ _ (as-constant at end x l k) (constant-told t view _) q
 
     pub flat-compare : (a b : Entry) → 12 < x .kind → x .kind ≤ 18 → a ≡ at (end - 3) → b ≡ at (end - 2)
-        → h ≡ compares (comparatorOf (x .kind)) (operandValue view (operandWords t (operandOf a))) (operandValue view (operandWords t (operandOf b)))
+        → h ≡ compares (comparatorOfKind (x .kind)) (operandValue view (operandWords t (operandOfEntry a))) (operandValue view (operandWords t (operandOfEntry b)))
         → r ≡ verdict view (treeWords t (treeFrom (treeBy at) at end x))
     flat-compare a b l k i j q =
-        verdict-is _ _ _ (as-compare (treeBy at) at end x (omega arith) k) (compare-told t view (comparatorOf (x .kind)) (operandOf (at (end - 3))) (operandOf (at (end - 2))))
+        verdict-is _ _ _ (as-compare (treeBy at) at end x (omega arith) k) (compare-told t view (comparatorOfKind (x .kind)) (operandOfEntry (at (end - 3))) (operandOfEntry (at (end - 2))))
         (q ∙ rw (i, j))
 
-    pub flat-like : (a : Entry) → x .kind ≡ 19 → a ≡ at (end - 2) → h ≡ ifText (operandValue view (operandWords t (operandOf a))) (likes (quotedAt t (spanOf x)))
+    pub flat-like : (a : Entry) → x .kind ≡ 19 → a ≡ at (end - 2) → h ≡ ifText (operandValue view (operandWords t (operandOfEntry a))) (likes (quotedAt t (spanOfEntry x)))
         → r ≡ verdict view (treeWords t (treeFrom (treeBy at) at end x))
-    flat-like a k i q = verdict-is _ _ _ (as-like (treeBy at) at end x k) (like-told t view (operandOf (at (end - 2))) (spanOf x)) (q ∙ rw i)
+    flat-like a k i q = verdict-is _ _ _ (as-like (treeBy at) at end x k) (like-told t view (operandOfEntry (at (end - 2))) (spanOfEntry x)) (q ∙ rw i)
 
     pub flat-among : (a : Entry) → x .kind ≡ 20 → a ≡ ownerBy at end x
-        → h ≡ some (λ l. compares Equal (operandValue view (operandWords t (operandOf a))) (literalValue (literalWords t l))) (literalsBy (x .first) at (end - x .first - 1))
+        → h ≡ some (λ l. compares Equal (operandValue view (operandWords t (operandOfEntry a))) (literalValue (literalWords t l))) (literalsBy (x .first) at (end - x .first - 1))
         → r ≡ verdict view (treeWords t (treeFrom (treeBy at) at end x))
-    flat-among a k i q = verdict-is _ _ _ (as-among (treeBy at) at end x k) (among-told t view (operandOf (ownerBy at end x)) (listBy at end x)) (q ∙ rw i)
+    flat-among a k i q = verdict-is _ _ _ (as-among (treeBy at) at end x k) (among-told t view (operandOfEntry (ownerBy at end x)) (listBy at end x)) (q ∙ rw i)
 
     pub flat-within : (a b : Entry) → x .kind ≡ 21 → a ≡ at (end - 3) → b ≡ at (end - 2)
-        → h ≡ ifText (operandValue view (operandWords t (operandOf a))) (λ x. ifTexts (attributeValue view (rootOf (b .kind)) (pathAt t (spanOf b))) (λ l. amongStrings l x))
+        → h ≡ ifText (operandValue view (operandWords t (operandOfEntry a))) (λ x. ifTexts (attributeValue view (rootOfKind (b .kind)) (unblankedAt t (spanOfEntry b))) (λ l. amongStrings l x))
         → r ≡ verdict view (treeWords t (treeFrom (treeBy at) at end x))
     flat-within a b k i j q =
         verdict-is _ _ _ (as-within (treeBy at) at end x k)
-        (within-told t view (operandOf (at (end - 3))) (rootOf (at (end - 2) .kind)) (spanOf (at (end - 2)))) (q ∙ rw (i, j))
+        (within-told t view (operandOfEntry (at (end - 3))) (rootOfKind (at (end - 2) .kind)) (spanOfEntry (at (end - 2)))) (q ∙ rw (i, j))
 
     pub flat-contains : (b : Entry) → 22 ≤ x .kind → x .kind ≤ 23 → b ≡ ownerBy at end x
-        → h ≡ ifTexts (attributeValue view (rootOf (b .kind)) (pathAt t (spanOf b))) (λ l. asked (whichOf (eqb (x .kind) 23)) (λ o. ifText (literalValue (literalWords t o)) (amongStrings l)) (literalsBy (x .first) at (end - x .first - 1)))
+        → h ≡ ifTexts (attributeValue view (rootOfKind (b .kind)) (unblankedAt t (spanOfEntry b))) (λ l. asked (whichBy (eqb (x .kind) 23)) (λ o. ifText (literalValue (literalWords t o)) (amongStrings l)) (literalsBy (x .first) at (end - x .first - 1)))
         → r ≡ verdict view (treeWords t (treeFrom (treeBy at) at end x))
     flat-contains b l k i q =
         verdict-is _ _ _ (as-contains at end x l k)
-        (contains-told t view (whichOf (eqb (x .kind) 23)) (rootOf (ownerBy at end x .kind)) (spanOf (ownerBy at end x)) (listBy at end x)) (q ∙ rw i)
+        (contains-told t view (whichBy (eqb (x .kind) 23)) (rootOfKind (ownerBy at end x .kind)) (spanOfEntry (ownerBy at end x)) (listBy at end x)) (q ∙ rw i)

@@ -20,10 +20,10 @@ use Rattle.grammar.specs.Policies.{Comparator.Equal, Literal, number as numberL
 use Rattle.placing.specs.Placed.{quotedAt, Each, and-each, LiteralPlaced}
 use Rattle.placing.specs.Said.{literalWords}
 use Rattle.table.specs.declared.Entry.{Entry}
-use Rattle.stored.specs.ReadBack.{spanOf, literalOf, literalsBy}
+use Rattle.stored.specs.ReadBack.{spanOfEntry, literalOfEntry, literalsBy}
 use Rattle.meaning.specs.Values.{literalValue, ifText, sameFlag, compares}
 use Rattle.meaning.specs.Conditions.{some, all, asked, amongStrings}
-use Rattle.operators.specs.Operands.{whichOf}
+use Rattle.operators.specs.Operands.{whichBy}
 use Rattle.operators.proofs.OperandLaws.{string-cut}
 
 -- ---- literals
@@ -37,7 +37,7 @@ isListed t s place o = ifText (literalValue (literalWords t o)) (amongStrings (l
 
 -- the first of some literals, and those after it
 pub record FirstPlaced (t : List ℕ) (n : ℕ) (at : ℕ → Entry) (e : ℕ) : Type 0 where
-  pub here : LiteralPlaced t (literalOf (at e))
+  pub here : LiteralPlaced t (literalOfEntry (at e))
   pub later : Each (LiteralPlaced t) (literalsBy (n - 1) at (e + 1))
 
 pub first-placed : (t : List ℕ) (n : ℕ) (at : ℕ → Entry) (e : ℕ) → 0 < n → Each (LiteralPlaced t) (literalsBy n at e) → FirstPlaced t n at e
@@ -67,12 +67,12 @@ module _ (test : Literal → Bool) (at : ℕ → Entry) where
   some-done zero e h = refl
   some-done (suc n) e h = absurd (omega arith)
 
-  pub some-here : (n e : ℕ) → 0 < n → test (literalOf (at e)) ≡ true → true ≡ some test (literalsBy n at e)
+  pub some-here : (n e : ℕ) → 0 < n → test (literalOfEntry (at e)) ≡ true → true ≡ some test (literalsBy n at e)
   unfolding some literalsBy
   some-here zero e h b = absurd (omega arith)
   some-here (suc n) e h b = simp b
 
-  pub some-more : (n e : ℕ) → 0 < n → test (literalOf (at e)) ≡ false → some test (literalsBy n at e) ≡ some test (literalsBy (n - 1) at (e + 1))
+  pub some-more : (n e : ℕ) → 0 < n → test (literalOfEntry (at e)) ≡ false → some test (literalsBy n at e) ≡ some test (literalsBy (n - 1) at (e + 1))
   unfolding some literalsBy
   some-more zero e h b = absurd (omega arith)
   some-more (suc n) e h b = let m : suc n - 1 ≡ n = omega arith in simp (b, m)
@@ -82,47 +82,47 @@ module _ (test : Literal → Bool) (at : ℕ → Entry) where
   all-done zero e h = refl
   all-done (suc n) e h = absurd (omega arith)
 
-  all-here : (n e : ℕ) → 0 < n → test (literalOf (at e)) ≡ false → false ≡ all test (literalsBy n at e)
+  all-here : (n e : ℕ) → 0 < n → test (literalOfEntry (at e)) ≡ false → false ≡ all test (literalsBy n at e)
   unfolding all literalsBy
   all-here zero e h b = absurd (omega arith)
   all-here (suc n) e h b = simp b
 
-  all-more : (n e : ℕ) → 0 < n → test (literalOf (at e)) ≡ true → all test (literalsBy n at e) ≡ all test (literalsBy (n - 1) at (e + 1))
+  all-more : (n e : ℕ) → 0 < n → test (literalOfEntry (at e)) ≡ true → all test (literalsBy n at e) ≡ all test (literalsBy (n - 1) at (e + 1))
   unfolding all literalsBy
   all-more zero e h b = absurd (omega arith)
   all-more (suc n) e h b = let m : suc n - 1 ≡ n = omega arith in simp (b, m)
 
   -- any or all: a literal of the asked sort ends it
-  pub asked-done : (any : Bool) (n e : ℕ) → n ≤ 0 → not any ≡ asked (whichOf any) test (literalsBy n at e)
+  pub asked-done : (any : Bool) (n e : ℕ) → n ≤ 0 → not any ≡ asked (whichBy any) test (literalsBy n at e)
   asked-done true n e h = some-done n e h
   asked-done false n e h = all-done n e h
 
-  pub asked-here : (any : Bool) (n e : ℕ) → 0 < n → sameFlag (test (literalOf (at e))) any ≡ true → any ≡ asked (whichOf any) test (literalsBy n at e)
-  asked-here true n e h b = some-here n e h (same-yes (test (literalOf (at e))) b)
-  asked-here false n e h b = all-here n e h (same-no (test (literalOf (at e))) b)
+  pub asked-here : (any : Bool) (n e : ℕ) → 0 < n → sameFlag (test (literalOfEntry (at e))) any ≡ true → any ≡ asked (whichBy any) test (literalsBy n at e)
+  asked-here true n e h b = some-here n e h (same-yes (test (literalOfEntry (at e))) b)
+  asked-here false n e h b = all-here n e h (same-no (test (literalOfEntry (at e))) b)
 
-  pub asked-more : (any : Bool) (n e : ℕ) → 0 < n → sameFlag (test (literalOf (at e))) any ≡ false
-      → asked (whichOf any) test (literalsBy n at e) ≡ asked (whichOf any) test (literalsBy (n - 1) at (e + 1))
-  asked-more true n e h b = some-more n e h (other-yes (test (literalOf (at e))) b)
-  asked-more false n e h b = all-more n e h (other-no (test (literalOf (at e))) b)
+  pub asked-more : (any : Bool) (n e : ℕ) → 0 < n → sameFlag (test (literalOfEntry (at e))) any ≡ false
+      → asked (whichBy any) test (literalsBy n at e) ≡ asked (whichBy any) test (literalsBy (n - 1) at (e + 1))
+  asked-more true n e h b = some-more n e h (other-yes (test (literalOfEntry (at e))) b)
+  asked-more false n e h b = all-more n e h (other-no (test (literalOfEntry (at e))) b)
 
 -- what is found of an entry is found of the one that it is
-pub at-entry : (x : Entry) (test : Literal → Bool) (o : Entry) (r b : Bool) → r ≡ test (literalOf o) → o ≡ x → r ≡ b → test (literalOf x) ≡ b
-at-entry x test o r b h is q = ap (λ (o : Entry). test (literalOf o)) (sym is) ∙ sym h ∙ q
+pub at-entry : (x : Entry) (test : Literal → Bool) (o : Entry) (r b : Bool) → r ≡ test (literalOfEntry o) → o ≡ x → r ≡ b → test (literalOfEntry x) ≡ b
+at-entry x test o r b h is q = ap (λ (o : Entry). test (literalOfEntry o)) (sym is) ∙ sym h ∙ q
 
 -- ---- a literal and a list
 
 module _ (t : List ℕ) (o : Entry) (l : List (List ℕ)) where
-  pub no-string : (o .kind ≡ 9 → ⊥) → false ≡ ifText (literalValue (literalWords t (literalOf o))) (amongStrings l)
-  unfolding literalOf literalValue literalWords
+  pub no-string : (o .kind ≡ 9 → ⊥) → false ≡ ifText (literalValue (literalWords t (literalOfEntry o))) (amongStrings l)
+  unfolding literalOfEntry literalValue literalWords
   no-string n = simp (ne-eqb _ _ n) (go (eqb (o .kind) 10) (eqb (o .kind) 11))
     where
-      go : (a b : Bool) → false ≡ ifText (literalValue (literalWords t (cond a (numberLiteral (spanOf o)) (truth b)))) (amongStrings l)
+      go : (a b : Bool) → false ≡ ifText (literalValue (literalWords t (cond a (numberLiteral (spanOfEntry o)) (truth b)))) (amongStrings l)
       go true b = refl
       go false b = refl
 
-  pub a-string : (r : Bool) (x : List ℕ) → o .kind ≡ 9 → x ≡ quotedAt t (spanOf o) → r ≡ amongStrings l x → r ≡ ifText (literalValue (literalWords t (literalOf o))) (amongStrings l)
-  unfolding literalOf literalValue literalWords
+  pub a-string : (r : Bool) (x : List ℕ) → o .kind ≡ 9 → x ≡ quotedAt t (spanOfEntry o) → r ≡ amongStrings l x → r ≡ ifText (literalValue (literalWords t (literalOfEntry o))) (amongStrings l)
+  unfolding literalOfEntry literalValue literalWords
   a-string r x k q e = simp k (rw (← q) e)
 
 -- ---- strings

@@ -17,39 +17,39 @@ use Rattle.bags.specs.declared.After.the-variants.{At}
 use Rattle.bags.specs.declared.sections.Sections.{Sections}
 use Rattle.bags.proofs.ReadLaws.{part-to}
 use Rattle.bags.proofs.ValueLaws.{value-list}
-use Rattle.lookups.specs.Values.{nought, unit, Whole}
+use Rattle.lookups.specs.Values.{nought, unit, ValueWhole}
 use Rattle.lookups.specs.declared.values.Value.{Value}
 use Rattle.lookups.proofs.StepLaws.{as-string}
 use Rattle.views.specs.Meaning.{Datum, text, number, flag, View}
 use Rattle.views.specs.Values.{stringAt, listAt, datumOf}
 use Rattle.views.specs.Rows.{rowValue, rowView, RowStands}
 use Rattle.views.proofs.RowLaws.{row-reads}
-use Rattle.grammar.specs.Policies.{Root.Principal, Root.Resource, Root.Env, Root.Action, Literal, text as textLiteral, number as numberLiteral, truth, Operand, attribute, literal}
-use Rattle.placing.specs.Placed.{bytesAt, quotedAt, pathAt, StringPlaced, NumberPlaced, PathPlaced, LiteralPlaced, a-string, a-number, a-truth, OperandPlaced, an-attribute, a-literal}
+use Rattle.grammar.specs.Policies.{Root.Principal, rootByte, Root.Resource, Root.Env, Root.Action, Literal, text as textLiteral, number as numberLiteral, truth, Operand, attribute, literal}
+use Rattle.placing.specs.Placed.{bytesAt, quotedAt, unblankedAt, StringPlaced, NumberPlaced, PathPlaced, LiteralPlaced, a-string, a-number, a-truth, OperandPlaced, an-attribute, a-literal}
 use Rattle.placing.specs.Said.{literalWords, operandWords}
 use Rattle.table.specs.declared.Entry.{Entry}
-use Rattle.stored.specs.ReadBack.{spanOf, rootOf, literalOf, operandOf}
-use Rattle.meaning.specs.Values.{rootByte, withAction, literalValue, attributeValue, operandValue}
+use Rattle.stored.specs.ReadBack.{spanOfEntry, rootOfKind, literalOfEntry, operandOfEntry}
+use Rattle.meaning.specs.Values.{withAction, literalValue, attributeValue, operandValue}
 use Rattle.operators.specs.Operands.{aString, ofBag, attributeRead, literalRead, operandRead, stringOf, meant}
 use Rattle.operators.proofs.ValueLaws.{datum-text}
 
 -- ---- what an entry is, by its kind
 
 module _ (o : Entry) where
-  pub as-attribute : o .kind ≤ 4 → operandOf o ≡ attribute (rootOf (o .kind)) (spanOf o)
-  unfolding operandOf
+  pub as-attribute : o .kind ≤ 4 → operandOfEntry o ≡ attribute (rootOfKind (o .kind)) (spanOfEntry o)
+  unfolding operandOfEntry
   as-attribute h = rw (le-leb (o .kind) 4 h)
 
-  pub as-literal : 4 < o .kind → operandOf o ≡ literal (literalOf o)
-  unfolding operandOf
+  pub as-literal : 4 < o .kind → operandOfEntry o ≡ literal (literalOfEntry o)
+  unfolding operandOfEntry
   as-literal h = rw (lt-leb (o .kind) 4 h)
 
-  as-string-literal : o .kind ≡ 9 → literalOf o ≡ textLiteral (spanOf o)
-  unfolding literalOf
+  as-string-literal : o .kind ≡ 9 → literalOfEntry o ≡ textLiteral (spanOfEntry o)
+  unfolding literalOfEntry
   as-string-literal k = rw k
 
-  as-number-literal : o .kind ≡ 10 → literalOf o ≡ numberLiteral (spanOf o)
-  unfolding literalOf
+  as-number-literal : o .kind ≡ 10 → literalOfEntry o ≡ numberLiteral (spanOfEntry o)
+  unfolding literalOfEntry
   as-number-literal k = rw k
 
 -- ---- where it lies
@@ -92,22 +92,22 @@ module _ (t : List ℕ) where
   number-of a-truth = tt
 
   module _ (o : Entry) where
-    pub path-placed : o .kind ≤ 4 → OperandPlaced t (operandOf o) → PathPlaced t (rootOf (o .kind)) (spanOf o)
+    pub path-placed : o .kind ≤ 4 → OperandPlaced t (operandOfEntry o) → PathPlaced t (rootOfKind (o .kind)) (spanOfEntry o)
     path-placed h p = subst PathOf (as-attribute o h) (path-of p)
 
-    pub literal-placed : 4 < o .kind → OperandPlaced t (operandOf o) → LiteralPlaced t (literalOf o)
+    pub literal-placed : 4 < o .kind → OperandPlaced t (operandOfEntry o) → LiteralPlaced t (literalOfEntry o)
     literal-placed h p = subst LiteralIn (as-literal o h) (literal-of p)
 
-    pub string-placed : o .kind ≡ 9 → LiteralPlaced t (literalOf o) → StringPlaced t (spanOf o)
+    pub string-placed : o .kind ≡ 9 → LiteralPlaced t (literalOfEntry o) → StringPlaced t (spanOfEntry o)
     string-placed k p = subst StringIn (as-string-literal o k) (string-of p)
 
-    pub number-placed : o .kind ≡ 10 → LiteralPlaced t (literalOf o) → NumberPlaced t (spanOf o)
+    pub number-placed : o .kind ≡ 10 → LiteralPlaced t (literalOfEntry o) → NumberPlaced t (spanOfEntry o)
     number-placed k p = subst NumberOf (as-number-literal o k) (number-of p)
 
 -- ---- what is read, as the code's tests tell it apart
 
 module _ (t s : List ℕ) (p : Sections) (n : ℕ) (heads values : List ℕ) (o : Entry) where
-  pub read-bag : ofBag (o .kind) ≡ true → rowValue s p n heads values (o .kind) (pathAt t (spanOf o)) ≡ attributeRead t s p n heads values o
+  pub read-bag : ofBag (o .kind) ≡ true → rowValue s p n heads values (o .kind) (unblankedAt t (spanOfEntry o)) ≡ attributeRead t s p n heads values o
   unfolding attributeRead
   read-bag b = simp b
 
@@ -128,7 +128,7 @@ module _ (t : List ℕ) (o : Entry) where
   unfolding literalRead
   read-string k = simp k
 
-  pub read-number : (x : Float) → o .kind ≡ 10 → x ≡ numberIn (bytesAt t (spanOf o)) → record { kind = 2; number = x; place = 0 } ≡ literalRead t o
+  pub read-number : (x : Float) → o .kind ≡ 10 → x ≡ numberIn (bytesAt t (spanOfEntry o)) → record { kind = 2; number = x; place = 0 } ≡ literalRead t o
   unfolding literalRead
   read-number x k e = simp (k, e)
 
@@ -150,7 +150,7 @@ unfolding stringAt
 string-cut s p = part-to s (p + 1) (byte s p)
 
 -- a string that is read lies in the bytes
-pub string-inside : (s : List ℕ) (v : Value) → Whole s v → v .kind ≡ 1 → v .place + 1 + byte s (v .place) ≤ length s
+pub string-inside : (s : List ℕ) (v : Value) → ValueWhole s v → v .kind ≡ 1 → v .place + 1 + byte s (v .place) ≤ length s
 string-inside s v w k = let e = w (λ z. omega arith) in as-string (v .kind) s (v .place) (e .0) (e .1) k .fits
 
 -- its kind, and its entry's, as a test tells them
@@ -162,7 +162,7 @@ module _ (t s action : List ℕ) (o : Entry) (v : Value) where
   unfolding stringOf
   string-of-bag b = simp b
 
-  pub string-quoted : (eqb (v .kind) 1 && ofBag (o .kind)) ≡ false → o .kind ≡ 9 → quotedAt t (spanOf o) ≡ stringOf t s action o v
+  pub string-quoted : (eqb (v .kind) 1 && ofBag (o .kind)) ≡ false → o .kind ≡ 9 → quotedAt t (spanOfEntry o) ≡ stringOf t s action o v
   unfolding stringOf
   string-quoted b k = simp (b, eq-eqb _ _ k)
 
@@ -172,8 +172,8 @@ module _ (t s action : List ℕ) (o : Entry) (v : Value) where
 
 -- ---- roots
 
-bag-root : (k : ℕ) → ofBag k ≡ true → rootByte (rootOf k) ≡ k
-unfolding rootOf
+bag-root : (k : ℕ) → ofBag k ≡ true → rootByte (rootOfKind k) ≡ k
+unfolding rootOfKind
 bag-root k b = go (eqb k 1) (eqb k 2) (eqb k 3) refl refl refl
   where
     go : (x y z : Bool) → eqb k 1 ≡ x → eqb k 2 ≡ y → eqb k 3 ≡ z → rootByte (cond x Principal (cond y Resource (cond z Env Action))) ≡ k
@@ -189,8 +189,8 @@ bag-root k b = go (eqb k 1) (eqb k 2) (eqb k 3) refl refl refl
         let c = eqb-false k 3 r in
         absurd (omega arith)
 
-other-root : (k : ℕ) → ofBag k ≡ false → rootOf k ≡ Action
-unfolding rootOf
+other-root : (k : ℕ) → ofBag k ≡ false → rootOfKind k ≡ Action
+unfolding rootOfKind
 other-root k b = go (eqb k 1) (eqb k 2) (eqb k 3) refl refl refl
   where
     no : (j : ℕ) → k ≡ j → ofBag j ≡ true → ⊥
@@ -218,7 +218,7 @@ string-alike v b x y l h = simp h (go (eqb (v .kind) 1) _)
 
 module _ (t s : List ℕ) (p : Sections) (n : ℕ) (heads values : List ℕ) (action : List ℕ) (o : Entry) where
   seen-in-bag : ofBag (o .kind) ≡ true
-      → rowView s p n heads values (o .kind) (pathAt t (spanOf o)) ≡ attributeValue (withAction action (rowView s p n heads values)) (rootOf (o .kind)) (pathAt t (spanOf o))
+      → rowView s p n heads values (o .kind) (unblankedAt t (spanOfEntry o)) ≡ attributeValue (withAction action (rowView s p n heads values)) (rootOfKind (o .kind)) (unblankedAt t (spanOfEntry o))
   unfolding attributeValue withAction
   seen-in-bag b =
       let w = and-eq-true-iff (leb 1 (o .kind)) (leb (o .kind) 3) .0 b in
@@ -226,23 +226,23 @@ module _ (t s : List ℕ) (p : Sections) (n : ℕ) (heads values : List ℕ) (ac
       let q : o .kind ≡ 4 → ⊥ = λ e. omega arith in
       rw (bag-root (o .kind) b, ne-eqb (o .kind) 4 q)
 
-  seen-action : ofBag (o .kind) ≡ false → PathPlaced t (rootOf (o .kind)) (spanOf o)
-      → text action ≡ attributeValue (withAction action (rowView s p n heads values)) (rootOf (o .kind)) (pathAt t (spanOf o))
+  seen-action : ofBag (o .kind) ≡ false → PathPlaced t (rootOfKind (o .kind)) (spanOfEntry o)
+      → text action ≡ attributeValue (withAction action (rowView s p n heads values)) (rootOfKind (o .kind)) (unblankedAt t (spanOfEntry o))
   unfolding attributeValue withAction
   seen-action b placed = let e = other-root (o .kind) b in rw (placed .action e, e) (simp (same-itself (bytes "name")))
 
 module _ (t s : List ℕ) (p : Sections) (n : ℕ) (heads values : List ℕ) (stands : RowStands s p n heads values) where
-  pub attribute-is : (action : List ℕ) (o : Entry) (v : Value) → PathPlaced t (rootOf (o .kind)) (spanOf o) → v ≡ attributeRead t s p n heads values o
-      → datumOf v (stringUnder s action o v) (listAt s (v .place)) ≡ attributeValue (withAction action (rowView s p n heads values)) (rootOf (o .kind)) (pathAt t (spanOf o))
+  pub attribute-is : (action : List ℕ) (o : Entry) (v : Value) → PathPlaced t (rootOfKind (o .kind)) (spanOfEntry o) → v ≡ attributeRead t s p n heads values o
+      → datumOf v (stringUnder s action o v) (listAt s (v .place)) ≡ attributeValue (withAction action (rowView s p n heads values)) (rootOfKind (o .kind)) (unblankedAt t (spanOfEntry o))
   attribute-is action o v placed e = go (ofBag (o .kind)) refl
     where
       action-is : (b : Bool) → b ≡ false → datumOf aString (cond b (stringAt s 0) action) (listAt s 0) ≡ text action
       action-is b h = rw h (datum-text aString action (listAt s 0) refl)
 
       go : (b : Bool) → ofBag (o .kind) ≡ b
-          → datumOf v (stringUnder s action o v) (listAt s (v .place)) ≡ attributeValue (withAction action (rowView s p n heads values)) (rootOf (o .kind)) (pathAt t (spanOf o))
+          → datumOf v (stringUnder s action o v) (listAt s (v .place)) ≡ attributeValue (withAction action (rowView s p n heads values)) (rootOfKind (o .kind)) (unblankedAt t (spanOfEntry o))
       go true b =
-          let r = row-reads s p n heads values stands (o .kind) (pathAt t (spanOf o)) in
+          let r = row-reads s p n heads values stands (o .kind) (unblankedAt t (spanOfEntry o)) in
           let is = e ∙ sym (read-bag t s p n heads values o b) in
           string-alike v (ofBag (o .kind)) (stringAt s (v .place)) action (listAt s (v .place)) b
           ∙ ap (λ (v : Value). datumOf v (stringAt s (v .place)) (listAt s (v .place))) is ∙ r .is
@@ -256,21 +256,21 @@ module _ (t s : List ℕ) (p : Sections) (n : ℕ) (heads values : List ℕ) (st
     where
       go : (b : Bool) → ofBag (o .kind) ≡ b → (e : ℕ) × (listEnd s (v .place) ≡ At e)
       go true b =
-          let r = row-reads s p n heads values stands (o .kind) (pathAt t (spanOf o)) in
-          let whole = subst (Whole s) (read-bag t s p n heads values o b ∙ sym e) (r .whole) in
+          let r = row-reads s p n heads values stands (o .kind) (unblankedAt t (spanOfEntry o)) in
+          let whole = subst (ValueWhole s) (read-bag t s p n heads values o b ∙ sym e) (r .whole) in
           let w = whole (λ z. omega arith) in (w .0, value-list (v .kind) s (v .place) k ∙ w .1)
       go false b =
           let is = e ∙ sym (read-action t s p n heads values o b) in
           let z : v .kind ≡ 1 = ap (λ (v : Value). v .kind) is in absurd (omega arith)
 
   -- a value of the bag lies in the bytes as a whole
-  pub operand-whole : (o : Entry) (v : Value) → v ≡ operandRead t s p n heads values o → ofBag (o .kind) ≡ true → Whole s v
+  pub operand-whole : (o : Entry) (v : Value) → v ≡ operandRead t s p n heads values o → ofBag (o .kind) ≡ true → ValueWhole s v
   operand-whole o v e b =
       let w = and-eq-true-iff (leb 1 (o .kind)) (leb (o .kind) 3) .0 b in
       let h : o .kind ≤ 3 = leb-true (o .kind) 3 (w .1) in
       let l : o .kind ≤ 4 = omega arith in
-      subst (Whole s) (read-bag t s p n heads values o b ∙ read-attribute t s p n heads values o l ∙ sym e)
-      (row-reads s p n heads values stands (o .kind) (pathAt t (spanOf o)) .whole)
+      subst (ValueWhole s) (read-bag t s p n heads values o b ∙ read-attribute t s p n heads values o l ∙ sym e)
+      (row-reads s p n heads values stands (o .kind) (unblankedAt t (spanOfEntry o)) .whole)
 
 -- ---- literals
 
@@ -282,14 +282,14 @@ flag-nought : eq nought unit ≡ false
 unfolding eq ofBits
 flag-nought = refl
 
-pub literal-is : (t : List ℕ) (o : Entry) (v : Value) (x : List ℕ) (l : List (List ℕ)) → v ≡ literalRead t o → (o .kind ≡ 9 → x ≡ quotedAt t (spanOf o))
-    → datumOf v x l ≡ literalValue (literalWords t (literalOf o))
-unfolding literalOf literalRead literalValue literalWords datumOf
+pub literal-is : (t : List ℕ) (o : Entry) (v : Value) (x : List ℕ) (l : List (List ℕ)) → v ≡ literalRead t o → (o .kind ≡ 9 → x ≡ quotedAt t (spanOfEntry o))
+    → datumOf v x l ≡ literalValue (literalWords t (literalOfEntry o))
+unfolding literalOfEntry literalRead literalValue literalWords datumOf
 literal-is t o v x l e s = rw e (go (eqb (o .kind) 9) (eqb (o .kind) 10) (eqb (o .kind) 11) refl)
   where
     go : (a b c : Bool) → eqb (o .kind) 9 ≡ a
-        → datumOf (cond a aString (cond b (record { kind = 2; number = numberIn (bytesAt t (spanOf o)); place = 0 }) (record { kind = 3; number = cond c unit nought; place = 0 }))) x l
-        ≡ literalValue (literalWords t (cond a (textLiteral (spanOf o)) (cond b (numberLiteral (spanOf o)) (truth c))))
+        → datumOf (cond a aString (cond b (record { kind = 2; number = numberIn (bytesAt t (spanOfEntry o)); place = 0 }) (record { kind = 3; number = cond c unit nought; place = 0 }))) x l
+        ≡ literalValue (literalWords t (cond a (textLiteral (spanOfEntry o)) (cond b (numberLiteral (spanOfEntry o)) (truth c))))
     go true b c q = ap text (s (eqb-true (o .kind) 9 q))
     go false true c q = refl
     go false false true q = ap flag flag-unit
@@ -297,11 +297,11 @@ literal-is t o v x l e s = rw e (go (eqb (o .kind) 9) (eqb (o .kind) 10) (eqb (o
 
 -- ---- operands
 
-attribute-meant : (t : List ℕ) (view : View) (o : Entry) → o .kind ≤ 4 → operandValue view (operandWords t (operandOf o)) ≡ attributeValue view (rootOf (o .kind)) (pathAt t (spanOf o))
+attribute-meant : (t : List ℕ) (view : View) (o : Entry) → o .kind ≤ 4 → operandValue view (operandWords t (operandOfEntry o)) ≡ attributeValue view (rootOfKind (o .kind)) (unblankedAt t (spanOfEntry o))
 unfolding operandValue operandWords
 attribute-meant t view o h = rw (as-attribute o h)
 
-pub literal-meant : (t : List ℕ) (view : View) (o : Entry) → 4 < o .kind → operandValue view (operandWords t (operandOf o)) ≡ literalValue (literalWords t (literalOf o))
+pub literal-meant : (t : List ℕ) (view : View) (o : Entry) → 4 < o .kind → operandValue view (operandWords t (operandOfEntry o)) ≡ literalValue (literalWords t (literalOfEntry o))
 unfolding operandValue operandWords
 literal-meant t view o h = rw (as-literal o h)
 
@@ -319,7 +319,7 @@ outside o v h = let l : 3 < o .kind = omega arith in rw (lt-leb (o .kind) 3 l) (
     go false b = refl
 
 module _ (t s : List ℕ) (p : Sections) (n : ℕ) (heads values : List ℕ) (stands : RowStands s p n heads values) where
-  pub operand-is : (action : List ℕ) (o : Entry) (v : Value) (x : List ℕ) → OperandPlaced t (operandOf o) → v ≡ operandRead t s p n heads values o → x ≡ stringOf t s action o v
+  pub operand-is : (action : List ℕ) (o : Entry) (v : Value) (x : List ℕ) → OperandPlaced t (operandOfEntry o) → v ≡ operandRead t s p n heads values o → x ≡ stringOf t s action o v
       → datumOf v x (listAt s (v .place)) ≡ meant t s p n heads values action o
   operand-is action o v x placed e string = go (leb (o .kind) 4) refl
     where

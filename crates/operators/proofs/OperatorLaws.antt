@@ -9,10 +9,10 @@ use Rattle.views.specs.Meaning.{Datum, present}
 use Rattle.views.specs.Values.{listAt, datumOf}
 use Rattle.views.specs.Rows.{rowView, RowStands}
 use Rattle.grammar.specs.Policies.{Comparator.Equal, Literal}
-use Rattle.placing.specs.Placed.{quotedAt, PathPlaced, OperandPlaced, pathAt}
+use Rattle.placing.specs.Placed.{quotedAt, PathPlaced, OperandPlaced, unblankedAt}
 use Rattle.placing.specs.Said.{literalWords}
 use Rattle.table.specs.declared.Entry.{Entry}
-use Rattle.stored.specs.ReadBack.{spanOf, rootOf, literalOf, operandOf, comparatorOf}
+use Rattle.stored.specs.ReadBack.{spanOfEntry, rootOfKind, literalOfEntry, operandOfEntry, comparatorOfKind}
 use Rattle.meaning.specs.Values.{withAction, literalValue, attributeValue, ifText, ifTexts, compares}
 use Rattle.meaning.specs.Conditions.{some}
 use Rattle.operators.specs.Operands.{attributeRead, literalRead, operandRead, stringOf, meant}
@@ -20,36 +20,36 @@ use Rattle.operators.proofs.ValueLaws.{equal-13, datum-text, datum-text
 use Rattle.operators.proofs.OperandLaws.{stringUnder, attribute-is, literal-is, literal-meant, operand-is}
 
 -- a literal's value beside another
-pub literal-compares : (t : List ℕ) (k : ℕ) (o : Entry) (v w : Value) (x y : List ℕ) (r : Bool) → w ≡ literalRead t o → (o .kind ≡ 9 → y ≡ quotedAt t (spanOf o))
-    → ((l m : List (List ℕ)) → r ≡ compares (comparatorOf k) (datumOf v x l) (datumOf w y m)) → (l : List (List ℕ))
-    → r ≡ compares (comparatorOf k) (datumOf v x l) (literalValue (literalWords t (literalOf o)))
+pub literal-compares : (t : List ℕ) (k : ℕ) (o : Entry) (v w : Value) (x y : List ℕ) (r : Bool) → w ≡ literalRead t o → (o .kind ≡ 9 → y ≡ quotedAt t (spanOfEntry o))
+    → ((l m : List (List ℕ)) → r ≡ compares (comparatorOfKind k) (datumOf v x l) (datumOf w y m)) → (l : List (List ℕ))
+    → r ≡ compares (comparatorOfKind k) (datumOf v x l) (literalValue (literalWords t (literalOfEntry o)))
 literal-compares t k o v w x y r e q f l = f l l ∙ rw (literal-is t o w y l e q)
 
 -- 13 is the kind of `==`
-pub same-by-13 : {r : Bool} (d e : Datum) → r ≡ compares (comparatorOf 13) d e → r ≡ compares Equal d e
+pub same-by-13 : {r : Bool} (d e : Datum) → r ≡ compares (comparatorOfKind 13) d e → r ≡ compares Equal d e
 same-by-13 d e h = h ∙ rw (← equal-13 13 refl)
 
 module _ (t s : List ℕ) (p : Sections) (n : ℕ) (heads values : List ℕ) (stands : RowStands s p n heads values) (action : List ℕ) where
-  pub compare-is : (k : ℕ) (a b : Entry) (v w : Value) (x y : List ℕ) (r : Bool) → OperandPlaced t (operandOf a) → OperandPlaced t (operandOf b)
+  pub compare-is : (k : ℕ) (a b : Entry) (v w : Value) (x y : List ℕ) (r : Bool) → OperandPlaced t (operandOfEntry a) → OperandPlaced t (operandOfEntry b)
       → v ≡ operandRead t s p n heads values a → w ≡ operandRead t s p n heads values b → x ≡ stringOf t s action a v → y ≡ stringOf t s action b w
-      → ((l m : List (List ℕ)) → r ≡ compares (comparatorOf k) (datumOf v x l) (datumOf w y m))
-      → r ≡ compares (comparatorOf k) (meant t s p n heads values action a) (meant t s p n heads values action b)
+      → ((l m : List (List ℕ)) → r ≡ compares (comparatorOfKind k) (datumOf v x l) (datumOf w y m))
+      → r ≡ compares (comparatorOfKind k) (meant t s p n heads values action a) (meant t s p n heads values action b)
   compare-is k a b v w x y r i j e f g h held =
       held (listAt s (v .place)) (listAt s (w .place))
-      ∙ ap (λ (d : Datum). compares (comparatorOf k) d (datumOf w y (listAt s (w .place)))) (operand-is t s p n heads values stands action a v x i e g)
-      ∙ ap (compares (comparatorOf k) (meant t s p n heads values action a)) (operand-is t s p n heads values stands action b w y j f h)
+      ∙ ap (λ (d : Datum). compares (comparatorOfKind k) d (datumOf w y (listAt s (w .place)))) (operand-is t s p n heads values stands action a v x i e g)
+      ∙ ap (compares (comparatorOfKind k) (meant t s p n heads values action a)) (operand-is t s p n heads values stands action b w y j f h)
 
   -- the right operand a literal
-  pub compare-literal : (k : ℕ) (a b : Entry) (v : Value) (x : List ℕ) (r : Bool) → OperandPlaced t (operandOf a) → 4 < b .kind
+  pub compare-literal : (k : ℕ) (a b : Entry) (v : Value) (x : List ℕ) (r : Bool) → OperandPlaced t (operandOfEntry a) → 4 < b .kind
       → v ≡ operandRead t s p n heads values a → x ≡ stringOf t s action a v
-      → ((l : List (List ℕ)) → r ≡ compares (comparatorOf k) (datumOf v x l) (literalValue (literalWords t (literalOf b))))
-      → r ≡ compares (comparatorOf k) (meant t s p n heads values action a) (meant t s p n heads values action b)
+      → ((l : List (List ℕ)) → r ≡ compares (comparatorOfKind k) (datumOf v x l) (literalValue (literalWords t (literalOfEntry b))))
+      → r ≡ compares (comparatorOfKind k) (meant t s p n heads values action a) (meant t s p n heads values action b)
   compare-literal k a b v x r i h e g held =
       held (listAt s (v .place))
-      ∙ ap (λ (d : Datum). compares (comparatorOf k) d (literalValue (literalWords t (literalOf b)))) (operand-is t s p n heads values stands action a v x i e g)
-      ∙ ap (compares (comparatorOf k) (meant t s p n heads values action a)) (sym (literal-meant t (withAction action (rowView s p n heads values)) b h))
+      ∙ ap (λ (d : Datum). compares (comparatorOfKind k) d (literalValue (literalWords t (literalOfEntry b)))) (operand-is t s p n heads values stands action a v x i e g)
+      ∙ ap (compares (comparatorOfKind k) (meant t s p n heads values action a)) (sym (literal-meant t (withAction action (rowView s p n heads values)) b h))
 
-  module _ (a : Entry) (v : Value) (placed : OperandPlaced t (operandOf a)) (e : v ≡ operandRead t s p n heads values a) where
+  module _ (a : Entry) (v : Value) (placed : OperandPlaced t (operandOfEntry a)) (e : v ≡ operandRead t s p n heads values a) where
     pub among-is : (x : List ℕ) (ls : List Literal) (r : Bool) → x ≡ stringOf t s action a v
         → ((l : List (List ℕ)) → r ≡ some (λ o. compares Equal (datumOf v x l) (literalValue (literalWords t o))) ls)
         → r ≡ some (λ o. compares Equal (meant t s p n heads values action a) (literalValue (literalWords t o))) ls
@@ -66,20 +66,20 @@ module _ (t s : List ℕ) (p : Sections) (n : ℕ) (heads values : List ℕ) (st
         sym (not-text v (stringOf t s action a v) (listAt s (v .place)) f k)
         ∙ ap (λ (d : Datum). ifText d f) (operand-is t s p n heads values stands action a v (stringOf t s action a v) placed e refl)
 
-  module _ (b : Entry) (w : Value) (placed : PathPlaced t (rootOf (b .kind)) (spanOf b)) (e : w ≡ attributeRead t s p n heads values b) where
+  module _ (b : Entry) (w : Value) (placed : PathPlaced t (rootOfKind (b .kind)) (spanOfEntry b)) (e : w ≡ attributeRead t s p n heads values b) where
     -- a list, and any other value
     pub of-list : (f : List (List ℕ) → Bool) (r : Bool) → w .kind ≡ 4 → r ≡ f (listAt s (w .place))
-        → r ≡ ifTexts (attributeValue (withAction action (rowView s p n heads values)) (rootOf (b .kind)) (pathAt t (spanOf b))) f
+        → r ≡ ifTexts (attributeValue (withAction action (rowView s p n heads values)) (rootOfKind (b .kind)) (unblankedAt t (spanOfEntry b))) f
     of-list f r k held =
         held
         ∙ ap (λ (d : Datum). ifTexts d f) (sym (datum-texts w (stringUnder s action b w) (listAt s (w .place)) k) ∙ attribute-is t s p n heads values stands action b w placed e)
 
     pub of-no-list : (f : List (List ℕ) → Bool) → (w .kind ≡ 4 → ⊥)
-        → false ≡ ifTexts (attributeValue (withAction action (rowView s p n heads values)) (rootOf (b .kind)) (pathAt t (spanOf b))) f
+        → false ≡ ifTexts (attributeValue (withAction action (rowView s p n heads values)) (rootOfKind (b .kind)) (unblankedAt t (spanOfEntry b))) f
     of-no-list f k =
         sym (not-texts w (stringUnder s action b w) (listAt s (w .place)) f k)
         ∙ ap (λ (d : Datum). ifTexts d f) (attribute-is t s p n heads values stands action b w placed e)
 
     pub has-is : (r : Bool) → ((x : List ℕ) (l : List (List ℕ)) → r ≡ present (datumOf w x l))
-        → r ≡ present (attributeValue (withAction action (rowView s p n heads values)) (rootOf (b .kind)) (pathAt t (spanOf b)))
+        → r ≡ present (attributeValue (withAction action (rowView s p n heads values)) (rootOfKind (b .kind)) (unblankedAt t (spanOfEntry b)))
     has-is r held = held (stringUnder s action b w) (listAt s (w .place)) ∙ ap present (attribute-is t s p n heads values stands action b w placed e)

@@ -13,39 +13,39 @@ use Rattle.lookups.specs.declared.values.Value.{Value}
 use Rattle.views.specs.Meaning.{text, number, flag, texts, absent, present}
 use Rattle.views.specs.Values.{datumOf}
 use Rattle.grammar.specs.Policies.{Comparator, Comparator.Equal, Comparator.NotEqual, Comparator.More, Comparator.AtLeast, Comparator.Less, Comparator.AtMost}
-use Rattle.stored.specs.ReadBack.{comparatorOf}
+use Rattle.stored.specs.ReadBack.{comparatorOfKind}
 use Rattle.meaning.specs.Values.{ifText, ifNumber, ifFlag, ifTexts, ordered, equality, sameFlag, compares}
 
 -- ---- the comparators
 
 module _ (k : ℕ) where
-  pub equal-13 : k ≡ 13 → Equal ≡ comparatorOf k
-  unfolding comparatorOf
+  pub equal-13 : k ≡ 13 → Equal ≡ comparatorOfKind k
+  unfolding comparatorOfKind
   equal-13 h = rw h
 
-  pub not-equal-14 : k ≡ 14 → NotEqual ≡ comparatorOf k
-  unfolding comparatorOf
+  pub not-equal-14 : k ≡ 14 → NotEqual ≡ comparatorOfKind k
+  unfolding comparatorOfKind
   not-equal-14 h = rw h
 
-  pub more-15 : k ≡ 15 → More ≡ comparatorOf k
-  unfolding comparatorOf
+  pub more-15 : k ≡ 15 → More ≡ comparatorOfKind k
+  unfolding comparatorOfKind
   more-15 h = rw h
 
-  pub at-least-16 : k ≡ 16 → AtLeast ≡ comparatorOf k
-  unfolding comparatorOf
+  pub at-least-16 : k ≡ 16 → AtLeast ≡ comparatorOfKind k
+  unfolding comparatorOfKind
   at-least-16 h = rw h
 
-  pub less-17 : k ≡ 17 → Less ≡ comparatorOf k
-  unfolding comparatorOf
+  pub less-17 : k ≡ 17 → Less ≡ comparatorOfKind k
+  unfolding comparatorOfKind
   less-17 h = rw h
 
-  pub at-most : (k ≡ 13 → ⊥) → (k ≡ 14 → ⊥) → (k ≡ 15 → ⊥) → (k ≡ 16 → ⊥) → (k ≡ 17 → ⊥) → AtMost ≡ comparatorOf k
-  unfolding comparatorOf
+  pub at-most : (k ≡ 13 → ⊥) → (k ≡ 14 → ⊥) → (k ≡ 15 → ⊥) → (k ≡ 16 → ⊥) → (k ≡ 17 → ⊥) → AtMost ≡ comparatorOfKind k
+  unfolding comparatorOfKind
   at-most a b c d e = simp (ne-eqb _ _ a, ne-eqb _ _ b, ne-eqb _ _ c, ne-eqb _ _ d, ne-eqb _ _ e)
 
   -- the others say nothing of strings and flags
-  pub no-equality : (b : Bool) → (k ≡ 13 → ⊥) → (k ≡ 14 → ⊥) → false ≡ equality (comparatorOf k) b
-  unfolding comparatorOf
+  pub no-equality : (b : Bool) → (k ≡ 13 → ⊥) → (k ≡ 14 → ⊥) → false ≡ equality (comparatorOfKind k) b
+  unfolding comparatorOfKind
   no-equality b n m = simp (ne-eqb _ _ n, ne-eqb _ _ m) (go (eqb k 15) (eqb k 16) (eqb k 17))
     where
       go : (c d e : Bool) → false ≡ equality (cond c More (cond d AtLeast (cond e Less AtMost))) b
@@ -54,10 +54,10 @@ module _ (k : ℕ) where
       go false false true = refl
       go false false false = refl
 
-pub ordered-by : (k : ℕ) (c : Comparator) (x y : Float) (r : Bool) → c ≡ comparatorOf k → r ≡ ordered c x y → r ≡ ordered (comparatorOf k) x y
+pub ordered-by : (k : ℕ) (c : Comparator) (x y : Float) (r : Bool) → c ≡ comparatorOfKind k → r ≡ ordered c x y → r ≡ ordered (comparatorOfKind k) x y
 ordered-by k c x y r h e = e ∙ ap (λ (c : Comparator). ordered c x y) h
 
-pub equality-by : (k : ℕ) (c : Comparator) (b r : Bool) → c ≡ comparatorOf k → r ≡ equality c b → r ≡ equality (comparatorOf k) b
+pub equality-by : (k : ℕ) (c : Comparator) (b r : Bool) → c ≡ comparatorOfKind k → r ≡ equality c b → r ≡ equality (comparatorOfKind k) b
 equality-by k c b r h e = e ∙ ap (λ (c : Comparator). equality c b) h
 
 -- ---- the kinds

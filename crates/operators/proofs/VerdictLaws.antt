@@ -5,7 +5,7 @@ use mathlib.Core.Bool.{Bool, true, false}
 use mathlib.Core.Path.{_≡_, refl, _∙_, ap}
 use Rattle.patterns.specs.Likes.{likes}
 use Rattle.grammar.specs.Policies.{Span, Root, Comparator, Comparator.Equal, LiteralOf, Literal, Operand, Which, constant, compare, like, among, within, contains, has}
-use Rattle.placing.specs.Placed.{quotedAt, pathAt}
+use Rattle.placing.specs.Placed.{quotedAt, unblankedAt}
 use Rattle.placing.specs.Said.{Word, literalWords, listWords, operandWords, treeWords}
 use Rattle.views.specs.Meaning.{Datum, text, number, flag, texts, absent, present, View}
 use Rattle.meaning.specs.Values.{literalValue, attributeValue, operandValue, ifText, ifTexts, compares}
@@ -92,19 +92,19 @@ module _ (t : List ℕ) (view : View) where
       ∙ ap told (some-words t (λ l. compares Equal (operandValue view (operandWords t a)) (literalValue l)) ls)
 
   pub within-told : (a : Operand) (root : Root) (s : Span)
-      → verdict view (treeWords t (within a root s)) ≡ told (ifText (operandValue view (operandWords t a)) λ x. ifTexts (attributeValue view root (pathAt t s)) λ l. amongStrings l x)
+      → verdict view (treeWords t (within a root s)) ≡ told (ifText (operandValue view (operandWords t a)) λ x. ifTexts (attributeValue view root (unblankedAt t s)) λ l. amongStrings l x)
   unfolding verdict treeWords
   within-told a root s =
-      settled-both (operandValue view (operandWords t a)) (attributeValue view root (pathAt t s)) (ifText (operandValue view (operandWords t a)) λ x. ifTexts (attributeValue view root (pathAt t s)) λ l. amongStrings l x)
-      (λ e. rw e) (no-list (operandValue view (operandWords t a)) (attributeValue view root (pathAt t s)))
+      settled-both (operandValue view (operandWords t a)) (attributeValue view root (unblankedAt t s)) (ifText (operandValue view (operandWords t a)) λ x. ifTexts (attributeValue view root (unblankedAt t s)) λ l. amongStrings l x)
+      (λ e. rw e) (no-list (operandValue view (operandWords t a)) (attributeValue view root (unblankedAt t s)))
 
   pub contains-told : (w : Which) (root : Root) (s : Span) (ls : List Literal)
-      → verdict view (treeWords t (contains w root s ls)) ≡ told (ifTexts (attributeValue view root (pathAt t s)) λ l. asked w (λ x. ifText (literalValue (literalWords t x)) (amongStrings l)) ls)
+      → verdict view (treeWords t (contains w root s ls)) ≡ told (ifTexts (attributeValue view root (unblankedAt t s)) λ l. asked w (λ x. ifText (literalValue (literalWords t x)) (amongStrings l)) ls)
   unfolding verdict treeWords
   contains-told w root s ls =
-      settled-given (attributeValue view root (pathAt t s)) (ifTexts (attributeValue view root (pathAt t s)) λ l. asked w (λ x. ifText (literalValue x) (amongStrings l)) (listWords t ls)) (λ e. rw e)
-      ∙ ap told (texts-alike (attributeValue view root (pathAt t s)) (λ l. asked-words t w (λ x. ifText (literalValue x) (amongStrings l)) ls))
+      settled-given (attributeValue view root (unblankedAt t s)) (ifTexts (attributeValue view root (unblankedAt t s)) λ l. asked w (λ x. ifText (literalValue x) (amongStrings l)) (listWords t ls)) (λ e. rw e)
+      ∙ ap told (texts-alike (attributeValue view root (unblankedAt t s)) (λ l. asked-words t w (λ x. ifText (literalValue x) (amongStrings l)) ls))
 
-  pub has-told : (root : Root) (s : Span) → verdict view (treeWords t (has root s)) ≡ told (present (attributeValue view root (pathAt t s)))
+  pub has-told : (root : Root) (s : Span) → verdict view (treeWords t (has root s)) ≡ told (present (attributeValue view root (unblankedAt t s)))
   unfolding verdict treeWords
   has-told root s = refl

@@ -12,11 +12,11 @@ use Rattle.views.specs.Meaning.{View, Datum}
 use Rattle.views.specs.Values.{stringAt}
 use Rattle.views.specs.Rows.{rowValue, rowView}
 use Rattle.grammar.specs.Policies.{Comparator.Equal, Literal, Which, Which.All, Which.Any, Tree}
-use Rattle.placing.specs.Placed.{bytesAt, quotedAt, pathAt}
+use Rattle.placing.specs.Placed.{bytesAt, quotedAt, unblankedAt}
 use Rattle.placing.specs.Said.{literalWords, operandWords, treeWords}
 use Rattle.table.specs.declared.Entry.{Entry}
 use Rattle.table.specs.Kinds.{actionKind, stringKind, numberKind, trueKind, likeKind, inListKind}
-use Rattle.stored.specs.ReadBack.{spanOf, rootOf, operandOf}
+use Rattle.stored.specs.ReadBack.{spanOfEntry, rootOfKind, operandOfEntry}
 use Rattle.meaning.specs.Values.{withAction, literalValue, attributeValue, operandValue, ifText, compares}
 use Rattle.meaning.specs.Conditions.{some, asked, amongStrings, verdict}
 use Rattle.meaning.specs.declared.Verdict.{Verdict}
@@ -33,13 +33,13 @@ ofBag root = leb 1 root && leb root 3
 
 -- an attribute: of the row, or the action's name
 unfoldable pub attributeRead : List ℕ → List ℕ → Sections → ℕ → List ℕ → List ℕ → Entry → Value
-attributeRead t s p n heads values o = cond (ofBag (o .kind)) (rowValue s p n heads values (o .kind) (pathAt t (spanOf o))) aString
+attributeRead t s p n heads values o = cond (ofBag (o .kind)) (rowValue s p n heads values (o .kind) (unblankedAt t (spanOfEntry o))) aString
 
 -- a literal: a string, a number, or `true` or `false`
 unfoldable pub literalRead : List ℕ → Entry → Value
 literalRead t o =
     cond (eqb (o .kind) stringKind) aString
-    (cond (eqb (o .kind) numberKind) (record { kind = 2; number = numberIn (bytesAt t (spanOf o)); place = 0 })
+    (cond (eqb (o .kind) numberKind) (record { kind = 2; number = numberIn (bytesAt t (spanOfEntry o)); place = 0 })
     (record { kind = 3; number = cond (eqb (o .kind) trueKind) unit nought; place = 0 }))
 
 -- an operand: an attribute or a literal, by its entry's kind
@@ -50,13 +50,15 @@ operandRead t s p n heads values o = cond (leb (o .kind) actionKind) (attributeR
 
 -- those of the bag or question, those between a literal's quotes, else the action; nothing asks for them where the value is no string
 unfoldable pub stringOf : List ℕ → List ℕ → List ℕ → Entry → Value → List ℕ
-stringOf t s action o v = cond (eqb (v .kind) 1 && ofBag (o .kind)) (stringAt s (v .place)) (cond (eqb (o .kind) stringKind) (quotedAt t (spanOf o)) action)
+stringOf t s action o v =
+    cond (eqb (v .kind) 1 && ofBag (o .kind)) (stringAt s (v .place))
+    (cond (eqb (o .kind) stringKind) (quotedAt t (spanOfEntry o)) action)
 
 -- ---- what is meant
 
 -- containsAny or containsAll
-abbrev pub whichOf : Bool → Which
-whichOf any = cond any Any All
+abbrev pub whichBy : Bool → Which
+whichBy any = cond any Any All
 
 -- a row's attributes, under an action
 abbrev pub seen : List ℕ → Sections → ℕ → List ℕ → List ℕ → List ℕ → View
@@ -64,11 +66,11 @@ seen s p n heads values action = withAction action (rowView s p n heads values)
 
 -- an operand's value there
 abbrev pub meant : List ℕ → List ℕ → Sections → ℕ → List ℕ → List ℕ → List ℕ → Entry → Datum
-meant t s p n heads values action o = operandValue (seen s p n heads values action) (operandWords t (operandOf o))
+meant t s p n heads values action o = operandValue (seen s p n heads values action) (operandWords t (operandOfEntry o))
 
 -- the value there of an attribute, by the entry of its path
 abbrev pub meantPath : List ℕ → List ℕ → Sections → ℕ → List ℕ → List ℕ → List ℕ → Entry → Datum
-meantPath t s p n heads values action o = attributeValue (seen s p n heads values action) (rootOf (o .kind)) (pathAt t (spanOf o))
+meantPath t s p n heads values action o = attributeValue (seen s p n heads values action) (rootOfKind (o .kind)) (unblankedAt t (spanOfEntry o))
 
 -- a condition's verdict there
 abbrev pub judged : List ℕ → List ℕ → Sections → ℕ → List ℕ → List ℕ → List ℕ → Tree → Verdict
@@ -80,7 +82,7 @@ amongLiterals t d ls = some (λ l. compares Equal d (literalValue (literalWords 
 
 -- whether any, or all, of these literals are among the strings of a list
 abbrev pub literalsListed : List ℕ → Bool → List (List ℕ) → List Literal → Bool
-literalsListed t any l ls = asked (whichOf any) (λ o. ifText (literalValue (literalWords t o)) (amongStrings l)) ls
+literalsListed t any l ls = asked (whichBy any) (λ o. ifText (literalValue (literalWords t o)) (amongStrings l)) ls
 
 -- where the left operand stands of the condition whose last entry is x, number end - 1: before x (`like`), before a list, or before another operand
 abbrev pub leftAt : ℕ → Entry → ℕ

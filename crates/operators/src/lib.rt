@@ -8,7 +8,7 @@ ghost use Rattle.patterns.specs.Likes.{likes};
 ghost use Rattle.placing.specs.Placed.{quotedAt, Each, StringPlaced, PathPlaced, LiteralPlaced, OperandPlaced};
 ghost use Rattle.table.specs.Kinds.{falseKind, inAttributeKind, containsAnyKind};
 ghost use Rattle.table.specs.Layout.{entriesIn, entryAt};
-ghost use Rattle.stored.specs.ReadBack.{spanOf, rootOf, comparatorOf, operandOf, literalsAt, treeOf};
+ghost use Rattle.stored.specs.ReadBack.{spanOfEntry, rootOfKind, comparatorOfKind, operandOfEntry, literalsAt, treeOf};
 ghost use Rattle.stored.specs.Ready.{Room, Node};
 ghost use Rattle.meaning.specs.Values.{ifText, ifTexts, compares};
 ghost use Rattle.meaning.specs.Conditions.{told, amongStrings};
@@ -26,6 +26,7 @@ use crate::values::values_hold;
 use bags::sections::Sections;
 use lookups::values::Value;
 use meaning::Verdict;
+use questions::sizes::MOST_COLUMNS;
 use table::Entry;
 use table::entries;
 use table::entry_in;
@@ -53,10 +54,10 @@ fn has_attribute(
     s: &[u8],
     p: Sections,
     n: usize,
-    heads: &[usize; 6],
-    values: &[usize; 6],
+    heads: &[usize; MOST_COLUMNS],
+    values: &[usize; MOST_COLUMNS],
 ) -> bool
-    requires { ⌜ PathPlaced (now text) (rootOf (o .kind)) (spanOf o) ⌝ }
+    requires { ⌜ PathPlaced (now text) (rootOfKind (o .kind)) (spanOfEntry o) ⌝ }
     requires { ⌜ RowStands (now s) p n (now heads) (now values) ⌝ }
     ensures { λ r. ⌜ ((action : List ℕ) → r ≡ present
         (meantPath (now (text .entry)) (now (s .entry)) p n (now (heads .entry)) (now (values .entry)) action o)) ⌝ }
@@ -74,16 +75,16 @@ fn compare_operands<'a>(
     s: &'a [u8],
     p: Sections,
     n: usize,
-    heads: &[usize; 6],
-    values: &[usize; 6],
+    heads: &[usize; MOST_COLUMNS],
+    values: &[usize; MOST_COLUMNS],
     v: Value,
     action: &'a [u8],
 ) -> bool
-    requires { ⌜ OperandPlaced (now text) (operandOf a) ⌝ }
-    requires { ⌜ OperandPlaced (now text) (operandOf b) ⌝ }
+    requires { ⌜ OperandPlaced (now text) (operandOfEntry a) ⌝ }
+    requires { ⌜ OperandPlaced (now text) (operandOfEntry b) ⌝ }
     requires { ⌜ RowStands (now s) p n (now heads) (now values) ⌝ }
     requires { ⌜ v ≡ operandRead (now text) (now s) p n (now heads) (now values) a ⌝ }
-    ensures { λ r. ⌜ r ≡ compares (comparatorOf kind)
+    ensures { λ r. ⌜ r ≡ compares (comparatorOfKind kind)
         (meant (now (text .entry)) (now (s .entry)) p n (now (heads .entry)) (now (values .entry)) (now (action .entry)) a)
         (meant (now (text .entry)) (now (s .entry)) p n (now (heads .entry)) (now (values .entry)) (now (action .entry)) b) ⌝ }
 {
@@ -105,17 +106,17 @@ fn like_operand<'a>(
     s: &'a [u8],
     p: Sections,
     n: usize,
-    heads: &[usize; 6],
-    values: &[usize; 6],
+    heads: &[usize; MOST_COLUMNS],
+    values: &[usize; MOST_COLUMNS],
     v: Value,
     action: &'a [u8],
 ) -> bool
-    requires { ⌜ OperandPlaced (now text) (operandOf a) ⌝ }
-    requires { ⌜ StringPlaced (now text) (spanOf o) ⌝ }
+    requires { ⌜ OperandPlaced (now text) (operandOfEntry a) ⌝ }
+    requires { ⌜ StringPlaced (now text) (spanOfEntry o) ⌝ }
     requires { ⌜ RowStands (now s) p n (now heads) (now values) ⌝ }
     requires { ⌜ v ≡ operandRead (now text) (now s) p n (now heads) (now values) a ⌝ }
     ensures { λ r. ⌜ r ≡ ifText (meant (now (text .entry)) (now (s .entry)) p n (now (heads .entry)) (now (values .entry)) (now (action .entry)) a)
-        (likes (quotedAt (now (text .entry)) (spanOf o))) ⌝ }
+        (likes (quotedAt (now (text .entry)) (spanOfEntry o))) ⌝ }
 {
     let kind = v.kind;
     if kind != bags::values::STRING {
@@ -135,12 +136,12 @@ fn operand_in_list<'a>(
     s: &'a [u8],
     p: Sections,
     n: usize,
-    heads: &[usize; 6],
-    values: &[usize; 6],
+    heads: &[usize; MOST_COLUMNS],
+    values: &[usize; MOST_COLUMNS],
     v: Value,
     action: &'a [u8],
 ) -> bool
-    requires { ⌜ OperandPlaced (now text) (operandOf a) ⌝ }
+    requires { ⌜ OperandPlaced (now text) (operandOfEntry a) ⌝ }
     requires { ⌜ Each (LiteralPlaced (now text)) (literalsAt count (now table) at) ⌝ }
     requires { ⌜ at + count ≤ entriesIn (now table) ⌝ }
     requires { ⌜ RowStands (now s) p n (now heads) (now values) ⌝ }
@@ -161,13 +162,13 @@ fn operand_in_attribute<'a>(
     s: &'a [u8],
     p: Sections,
     n: usize,
-    heads: &[usize; 6],
-    values: &[usize; 6],
+    heads: &[usize; MOST_COLUMNS],
+    values: &[usize; MOST_COLUMNS],
     v: Value,
     action: &'a [u8],
 ) -> bool
-    requires { ⌜ OperandPlaced (now text) (operandOf a) ⌝ }
-    requires { ⌜ PathPlaced (now text) (rootOf (b .kind)) (spanOf b) ⌝ }
+    requires { ⌜ OperandPlaced (now text) (operandOfEntry a) ⌝ }
+    requires { ⌜ PathPlaced (now text) (rootOfKind (b .kind)) (spanOfEntry b) ⌝ }
     requires { ⌜ RowStands (now s) p n (now heads) (now values) ⌝ }
     requires { ⌜ v ≡ operandRead (now text) (now s) p n (now heads) (now values) a ⌝ }
     ensures { λ r. ⌜ r ≡ ifText (meant (now (text .entry)) (now (s .entry)) p n (now (heads .entry)) (now (values .entry)) (now (action .entry)) a)
@@ -198,10 +199,10 @@ fn contains_literals(
     s: &[u8],
     p: Sections,
     n: usize,
-    heads: &[usize; 6],
-    values: &[usize; 6],
+    heads: &[usize; MOST_COLUMNS],
+    values: &[usize; MOST_COLUMNS],
 ) -> bool
-    requires { ⌜ PathPlaced (now text) (rootOf (b .kind)) (spanOf b) ⌝ }
+    requires { ⌜ PathPlaced (now text) (rootOfKind (b .kind)) (spanOfEntry b) ⌝ }
     requires { ⌜ Each (LiteralPlaced (now text)) (literalsAt count (now table) at) ⌝ }
     requires { ⌜ at + count ≤ entriesIn (now table) ⌝ }
     requires { ⌜ RowStands (now s) p n (now heads) (now values) ⌝ }
@@ -243,8 +244,8 @@ fn left_holds<'a>(
     s: &'a [u8],
     p: Sections,
     n: usize,
-    heads: &[usize; 6],
-    values: &[usize; 6],
+    heads: &[usize; MOST_COLUMNS],
+    values: &[usize; MOST_COLUMNS],
     v: Value,
     action: &'a [u8],
 ) -> bool
@@ -282,8 +283,8 @@ pub fn flat<'a>(
     s: &'a [u8],
     p: Sections,
     n: usize,
-    heads: &[usize; 6],
-    values: &[usize; 6],
+    heads: &[usize; MOST_COLUMNS],
+    values: &[usize; MOST_COLUMNS],
     action: &'a [u8],
 ) -> Verdict
     requires { ⌜ Node (now text) (now table) end x ⌝ }

@@ -10,7 +10,7 @@ ghost use Rattle.views.specs.Values.{stringAt, listAt, datumOf};
 ghost use Rattle.placing.specs.Placed.{Each, LiteralPlaced};
 ghost use Rattle.placing.specs.Said.{literalWords};
 ghost use Rattle.table.specs.Layout.{entriesIn};
-ghost use Rattle.stored.specs.ReadBack.{literalOf, literalsAt, comparatorOf};
+ghost use Rattle.stored.specs.ReadBack.{literalOfEntry, literalsAt, comparatorOfKind};
 ghost use Rattle.meaning.specs.Values.{ifText, literalValue, compares};
 ghost use Rattle.meaning.specs.Conditions.{some, amongStrings};
 ghost use Rattle.operators.specs.Operands.{amongLiterals, literalsListed};
@@ -26,9 +26,9 @@ use table::entry_in;
 
 // Whether the comparator of an entry's kind holds of the value, with its string, and a literal.
 pub fn literal_holds(text: &[u8], kind: u8, o: Entry, v: Value, x: &[u8]) -> bool
-    requires { ⌜ LiteralPlaced (now text) (literalOf o) ⌝ }
-    ensures { λ r. ⌜ ((l : List (List ℕ)) → r ≡ compares (comparatorOf kind) (datumOf v (now (x .entry)) l)
-        (literalValue (literalWords (now (text .entry)) (literalOf o)))) ⌝ }
+    requires { ⌜ LiteralPlaced (now text) (literalOfEntry o) ⌝ }
+    ensures { λ r. ⌜ ((l : List (List ℕ)) → r ≡ compares (comparatorOfKind kind) (datumOf v (now (x .entry)) l)
+        (literalValue (literalWords (now (text .entry)) (literalOfEntry o)))) ⌝ }
 {
     let w = literal_value(text, o);
     let sort = o.kind;
@@ -87,9 +87,9 @@ pub fn in_list(s: &[u8], place: usize, x: &[u8]) -> bool
 
 // Whether a literal is a string of the list at `place`.
 fn literal_listed(text: &[u8], o: Entry, s: &[u8], place: usize) -> bool
-    requires { ⌜ LiteralPlaced (now text) (literalOf o) ⌝ }
+    requires { ⌜ LiteralPlaced (now text) (literalOfEntry o) ⌝ }
     requires { ⌜ ((e : ℕ) × (listEnd (now s) place ≡ At e)) ⌝ }
-    ensures { λ r. ⌜ r ≡ ifText (literalValue (literalWords (now (text .entry)) (literalOf o))) (amongStrings (listAt (now (s .entry)) place)) ⌝ }
+    ensures { λ r. ⌜ r ≡ ifText (literalValue (literalWords (now (text .entry)) (literalOfEntry o))) (amongStrings (listAt (now (s .entry)) place)) ⌝ }
 {
     let kind = o.kind;
     if kind != entries::STRING {

@@ -1,14 +1,15 @@
 // What an operand's entry stands for: a read value, and its string as a part of the rule text, of the bag or question, or the action itself.
 ghost use mathlib.Core.Path.{_≡_};
 ghost use mathlib.Core.Bool.{true};
-ghost use Rattle.lookups.specs.Values.{Whole};
+ghost use Rattle.lookups.specs.Values.{ValueWhole};
 ghost use Rattle.views.specs.Rows.{RowStands};
 ghost use Rattle.placing.specs.Placed.{quotedAt, Lies, StringPlaced, LiteralPlaced, OperandPlaced};
-ghost use Rattle.stored.specs.ReadBack.{spanOf, literalOf, operandOf};
+ghost use Rattle.stored.specs.ReadBack.{spanOfEntry, literalOfEntry, operandOfEntry};
 ghost use Rattle.operators.specs.Operands.{ofBag, attributeRead, literalRead, operandRead, stringOf};
 use bags::sections::Sections;
 use lookups::values::Value;
 use numbers::literals::number;
+use questions::sizes::MOST_COLUMNS;
 use table::Entry;
 use table::entries;
 use views::attribute;
@@ -19,11 +20,11 @@ pub fn attribute_value(
     s: &[u8],
     p: Sections,
     n: usize,
-    heads: &[usize; 6],
-    values: &[usize; 6],
+    heads: &[usize; MOST_COLUMNS],
+    values: &[usize; MOST_COLUMNS],
     o: Entry,
 ) -> Value
-    requires { ⌜ Lies (now text) (spanOf o) ⌝ }
+    requires { ⌜ Lies (now text) (spanOfEntry o) ⌝ }
     requires { ⌜ RowStands (now s) p n (now heads) (now values) ⌝ }
     ensures { λ r. ⌜ r ≡ attributeRead (now (text .entry)) (now (s .entry)) p n (now (heads .entry)) (now (values .entry)) o ⌝ }
 {
@@ -42,7 +43,7 @@ pub fn attribute_value(
 
 // A literal's value.
 pub fn literal_value(text: &[u8], o: Entry) -> Value
-    requires { ⌜ LiteralPlaced (now text) (literalOf o) ⌝ }
+    requires { ⌜ LiteralPlaced (now text) (literalOfEntry o) ⌝ }
     ensures { λ r. ⌜ r ≡ literalRead (now (text .entry)) o ⌝ }
 {
     let kind = o.kind;
@@ -83,11 +84,11 @@ pub fn operand_value(
     s: &[u8],
     p: Sections,
     n: usize,
-    heads: &[usize; 6],
-    values: &[usize; 6],
+    heads: &[usize; MOST_COLUMNS],
+    values: &[usize; MOST_COLUMNS],
     o: Entry,
 ) -> Value
-    requires { ⌜ OperandPlaced (now text) (operandOf o) ⌝ }
+    requires { ⌜ OperandPlaced (now text) (operandOfEntry o) ⌝ }
     requires { ⌜ RowStands (now s) p n (now heads) (now values) ⌝ }
     ensures { λ r. ⌜ r ≡ operandRead (now (text .entry)) (now (s .entry)) p n (now (heads .entry)) (now (values .entry)) o ⌝ }
 {
@@ -100,8 +101,8 @@ pub fn operand_value(
 
 // The bytes of a literal's string, between its quotes.
 pub fn quoted<'a>(text: &'a [u8], o: Entry) -> &'a [u8]
-    requires { ⌜ StringPlaced (now text) (spanOf o) ⌝ }
-    ensures { λ r. ⌜ now r ≡ quotedAt (now (text .entry)) (spanOf o) ⌝ }
+    requires { ⌜ StringPlaced (now text) (spanOfEntry o) ⌝ }
+    ensures { λ r. ⌜ now r ≡ quotedAt (now (text .entry)) (spanOfEntry o) ⌝ }
 {
     let start = o.first + 1;
     let end = o.second - 1;
@@ -116,8 +117,8 @@ pub fn operand_string<'a>(
     o: Entry,
     v: Value,
 ) -> &'a [u8]
-    requires { ⌜ OperandPlaced (now text) (operandOf o) ⌝ }
-    requires { ⌜ (ofBag (o .kind) ≡ true → Whole (now s) v) ⌝ }
+    requires { ⌜ OperandPlaced (now text) (operandOfEntry o) ⌝ }
+    requires { ⌜ (ofBag (o .kind) ≡ true → ValueWhole (now s) v) ⌝ }
     ensures { λ r. ⌜ now r ≡ stringOf (now (text .entry)) (now (s .entry)) (now (action .entry)) o v ⌝ }
 {
     let kind = v.kind;

@@ -5,7 +5,7 @@ ghost use Prim.Native.Nat.{ℕ};
 ghost use Rattle.slices.specs.Same.{same};
 ghost use Rattle.views.specs.Meaning.{present};
 ghost use Rattle.views.specs.Values.{datumOf};
-ghost use Rattle.stored.specs.ReadBack.{comparatorOf};
+ghost use Rattle.stored.specs.ReadBack.{comparatorOfKind};
 ghost use Rattle.meaning.specs.Values.{ordered, equality, sameFlag, compares as comparesValues};
 use lookups::values::Value;
 use numbers::comparing::Comparator;
@@ -14,7 +14,7 @@ use table::entries;
 
 // Two numbers, with the comparator of an entry's kind.
 fn numbers_hold(kind: u8, x: f64, y: f64) -> bool
-    ensures { λ r. ⌜ r ≡ ordered (comparatorOf kind) x y ⌝ }
+    ensures { λ r. ⌜ r ≡ ordered (comparatorOfKind kind) x y ⌝ }
 {
     if kind == entries::EQUAL {
         return compares(Comparator::Same, x, y);
@@ -36,7 +36,7 @@ fn numbers_hold(kind: u8, x: f64, y: f64) -> bool
 
 // Two strings or two flags, by whether they are the same.
 fn equality_holds(kind: u8, same: bool) -> bool
-    ensures { λ r. ⌜ r ≡ equality (comparatorOf kind) same ⌝ }
+    ensures { λ r. ⌜ r ≡ equality (comparatorOfKind kind) same ⌝ }
 {
     if kind == entries::EQUAL {
         return same;
@@ -77,7 +77,7 @@ pub fn is_present(v: Value) -> bool
 
 // Whether the comparator of an entry's kind holds of two values, with their strings.
 pub fn values_hold(kind: u8, v: Value, x: &[u8], w: Value, y: &[u8]) -> bool
-    ensures { λ r. ⌜ ((l m : List (List ℕ)) → r ≡ comparesValues (comparatorOf kind) (datumOf v (now (x .entry)) l) (datumOf w (now (y .entry)) m)) ⌝ }
+    ensures { λ r. ⌜ ((l m : List (List ℕ)) → r ≡ comparesValues (comparatorOfKind kind) (datumOf v (now (x .entry)) l) (datumOf w (now (y .entry)) m)) ⌝ }
 {
     let k = v.kind;
     let j = w.kind;

@@ -12,7 +12,7 @@ use Rattle.questions.specs.Questions.{product}
 use Rattle.meaning.specs.Decisions.{outcomeOf, policyOf, isAllowed}
 use Rattle.meaning.specs.declared.Decision.{Decision}
 use Rattle.pages.specs.Rows.{Combination, none, chosen, rowOf, choicesAt}
-use Rattle.pages.specs.Listing.{consIf, yesOf, listed, pageRows, nextRow, sixBytes, bytesOf}
+use Rattle.pages.specs.Listing.{consIf, yesOf, listed, pageRows, nextRow, sixBytes, rowsBytes}
 use Rattle.pages.specs.Lines as lines
 use Rattle.pages.specs.Lines.{Line, Sooner, here, later, InOrder, one, more, linesBytes, littleEndian, linesFrom, firstRow}
 use Rattle.pages.proofs.Combinations.{row-below, choices-of-row, choices-combine, row-of-choices, first-slowest}
@@ -162,8 +162,8 @@ module _ (f : List ℕ → Decision) (ns : List ℕ) where
   lines-ordered =
       rising (listed decidedAt (product ns) 0) (λ row i. lists-yes decidedAt (product ns) 0 row .0 i .1) (list-ascends decidedAt (product ns) 0)
 
-  row-bytes : (rows : List ℕ) → ((row : ℕ) → List·Memᴰ row rows → row < product ns) → bytesOf decidedAt rows ≡ linesBytes ns (map lineAt rows)
-  unfolding bytesOf linesBytes
+  row-bytes : (rows : List ℕ) → ((row : ℕ) → List·Memᴰ row rows → row < product ns) → rowsBytes decidedAt rows ≡ linesBytes ns (map lineAt rows)
+  unfolding rowsBytes linesBytes
   row-bytes [] below = refl
   row-bytes (r ∷ rows) below =
       rw (row-of-choices ns r (below r (List·Memᴰ·head refl)), row-bytes rows (λ row i. below row (List·Memᴰ·tail i)))
@@ -202,7 +202,7 @@ module _ (f : List ℕ → Decision) (ns : List ℕ) where
   lines-from start h = rw (listed-at decidedAt (product ns) (product ns) 0 (omega arith)) (from-row start (product ns) 0 zero-le h (omega arith))
 
   -- and have their bytes
-  pub lines-bytes : (start : ℕ) → start ≤ product ns → bytesOf decidedAt (listed decidedAt (product ns) start) ≡ linesBytes ns (linesFrom ns start linesOf)
+  pub lines-bytes : (start : ℕ) → start ≤ product ns → rowsBytes decidedAt (listed decidedAt (product ns) start) ≡ linesBytes ns (linesFrom ns start linesOf)
   lines-bytes start h =
       row-bytes (listed decidedAt (product ns) start) (λ row i. lists-yes decidedAt (product ns) start row .0 i .1) ∙ ap (linesBytes ns) (sym (lines-from start h))
 
@@ -218,7 +218,7 @@ module _ (f : List ℕ → Decision) (ns : List ℕ) where
   -- as many lines as there is room for, their bytes, and the row of the first that has none
   pub page-lines : (start room : ℕ) → start ≤ product ns
       → (length (pageRows decidedAt (product ns) start room) ≡ length (take room (linesFrom ns start linesOf)))
-      × (bytesOf decidedAt (pageRows decidedAt (product ns) start room) ≡ linesBytes ns (take room (linesFrom ns start linesOf)))
+      × (rowsBytes decidedAt (pageRows decidedAt (product ns) start room) ≡ linesBytes ns (take room (linesFrom ns start linesOf)))
       × (nextRow decidedAt (product ns) start room ≡ firstRow ns (drop room (linesFrom ns start linesOf)))
   unfolding pageRows nextRow
   page-lines start room h =

@@ -14,7 +14,7 @@ use Rattle.meaning.specs.Decisions.{isAllowed}
 use Rattle.meaning.specs.declared.Decision.{Decision}
 use Rattle.pages.specs.declared.Page.{Page}
 use Rattle.pages.specs.Rows.{Combination, rowOf, choicesAt}
-use Rattle.pages.specs.Listing.{consIf, yesOf, listed, pageRows, nextRow, rowSize, bytesOf, roomIn, PageWritten}
+use Rattle.pages.specs.Listing.{consIf, yesOf, listed, pageRows, nextRow, rowSize, rowsBytes, roomIn, PageWritten}
 use Rattle.pages.specs.Pages.{joined, goOn, EachHasRoom, no-page, a-page, Written, nothing, page}
 use Rattle.pages.proofs.Combinations.{row-below, choices-of-row}
 use Rattle.pages.proofs.Progress.{listed-none, bytes-length, bytes-append}
@@ -203,26 +203,26 @@ lists-combinations f {counts} {choices} ok =
 
 module _ (d : ℕ → Decision) (rows : ℕ) where
   module _ (start : ℕ) (before : List ℕ) (p : Page) (after : List ℕ) (within : start ≤ rows) (w : PageWritten d rows start before p after) where
-    page-bytes : take (rowSize * p .written) after ≡ bytesOf d (pageRows d rows start (roomIn before))
+    page-bytes : take (rowSize * p .written) after ≡ rowsBytes d (pageRows d rows start (roomIn before))
     page-bytes =
         let l = pageRows d rows start (roomIn before) in
-        rw (w .bytes) (take-at (bytesOf d l) (drop (length (bytesOf d l)) before) (rowSize * p .written) (bytes-length d l ∙ ap (λ (n : ℕ). rowSize * n) (sym (w .written))))
+        rw (w .bytes) (take-at (rowsBytes d l) (drop (length (rowsBytes d l)) before) (rowSize * p .written) (bytes-length d l ∙ ap (λ (n : ℕ). rowSize * n) (sym (w .written))))
 
     -- what a page wrote, with what is listed from there on
-    page-lists : take (rowSize * p .written) after ++ bytesOf d (listed d rows (p .next)) ≡ bytesOf d (listed d rows start)
+    page-lists : take (rowSize * p .written) after ++ rowsBytes d (listed d rows (p .next)) ≡ rowsBytes d (listed d rows start)
     unfolding pageRows
     page-lists =
         let room = roomIn before in
         rw (page-bytes, w .next, next-lists d rows start room within, ← bytes-append d (take room (listed d rows start)) (drop room (listed d rows start)), take-append-drop)
 
-  written-so-far : {start : ℕ} {bytes : List ℕ} {last : ℕ} → Written d rows start bytes last → bytes ++ bytesOf d (listed d rows last) ≡ bytesOf d (listed d rows start)
+  written-so-far : {start : ℕ} {bytes : List ℕ} {last : ℕ} → Written d rows start bytes last → bytes ++ rowsBytes d (listed d rows last) ≡ rowsBytes d (listed d rows start)
   written-so-far nothing = refl
   written-so-far (page {start = start} {before = before} {p = p} {after = after} h w more) = rw (append-assoc, written-so-far more) (page-lists start before p after h w)
 
-  no-bytes : bytesOf d (listed d rows rows) ≡ []
-  unfolding bytesOf
+  no-bytes : rowsBytes d (listed d rows rows) ≡ []
+  unfolding rowsBytes
   no-bytes = rw (listed-none d rows)
 
   -- from any start row to the last row, what the pages wrote, joined, is the bytes of the list
-  pub all-written : {start : ℕ} {bytes : List ℕ} → Written d rows start bytes rows → bytes ≡ bytesOf d (listed d rows start)
+  pub all-written : {start : ℕ} {bytes : List ℕ} → Written d rows start bytes rows → bytes ≡ rowsBytes d (listed d rows start)
   all-written w = rw (no-bytes, append-nil) at (written-so-far w)

@@ -11,7 +11,7 @@ use borrow.Rule.Slice.PartMut.{putMid}
 use Rattle.slices.proofs.Parts.{tail-lent, tail-back}
 use Rattle.meaning.specs.Decisions.{isAllowed}
 use Rattle.meaning.specs.declared.Decision.{Decision}
-use Rattle.pages.specs.Listing.{consIf, yesOf, listed, pageRows, nextRow, rowSize, rowBytes, bytesOf, roomIn, PageWritten}
+use Rattle.pages.specs.Listing.{consIf, yesOf, listed, pageRows, nextRow, rowSize, rowBytes, rowsBytes, roomIn, PageWritten}
 
 -- ---- listed rows and their bytes
 
@@ -24,18 +24,18 @@ pub listed-none : (d : ℕ → Decision) (rows : ℕ) → listed d rows rows ≡
 unfolding listed yesOf
 listed-none d rows = let e : rows - rows ≡ 0 = omega arith in rw e
 
-pub bytes-length : (d : ℕ → Decision) (rs : List ℕ) → length (bytesOf d rs) ≡ rowSize * length rs
-unfolding bytesOf
+pub bytes-length : (d : ℕ → Decision) (rs : List ℕ) → length (rowsBytes d rs) ≡ rowSize * length rs
+unfolding rowsBytes
 bytes-length d [] = refl
 bytes-length d (r ∷ rs) = omega (arith, bytes-length d rs)
 
-pub bytes-append : (d : ℕ → Decision) (rs ss : List ℕ) → bytesOf d (rs ++ ss) ≡ bytesOf d rs ++ bytesOf d ss
-unfolding bytesOf
+pub bytes-append : (d : ℕ → Decision) (rs ss : List ℕ) → rowsBytes d (rs ++ ss) ≡ rowsBytes d rs ++ rowsBytes d ss
+unfolding rowsBytes
 bytes-append d [] ss = refl
 bytes-append d (r ∷ rs) ss = rw (bytes-append d rs ss, append-assoc)
 
-bytes-one : (d : ℕ → Decision) (row : ℕ) → bytesOf d (row ∷ []) ≡ rowBytes row (d row)
-unfolding bytesOf
+bytes-one : (d : ℕ → Decision) (row : ℕ) → rowsBytes d (row ∷ []) ≡ rowBytes row (d row)
+unfolding rowsBytes
 bytes-one d row = refl
 
 -- ---- the state
@@ -45,14 +45,14 @@ pub record Progress (d : ℕ → Decision) (l p : List ℕ) (w : ℕ) (q rest : 
   pub room : rowSize * w ≤ length p
   pub some : w ≤ length l
   pub left : drop w l ≡ rest
-  pub bytes : q ≡ bytesOf d (take w l) ++ drop (rowSize * w) p
+  pub bytes : q ≡ rowsBytes d (take w l) ++ drop (rowSize * w) p
 
 pub begun : (d : ℕ → Decision) (l p : List ℕ) → Progress d l p 0 p l
-unfolding bytesOf
+unfolding rowsBytes
 begun d l p = record { room = zero-le; some = zero-le; left = refl; bytes = refl }
 
 module _ (d : ℕ → Decision) (l p : List ℕ) (w : ℕ) (q rest : List ℕ) (s : Progress d l p w q rest) where
-  head-length : length (bytesOf d (take w l)) ≡ rowSize * w
+  head-length : length (rowsBytes d (take w l)) ≡ rowSize * w
   head-length = bytes-length d (take w l) ∙ ap (λ (n : ℕ). rowSize * n) (length-take-le w l (s .some))
 
 -- one row more
@@ -69,14 +69,14 @@ module _ (d : ℕ → Decision) (l p : List ℕ) (w : ℕ) (q : List ℕ) (row :
   more : rowSize * w + rowSize ≤ length p
       → Progress d l p (w + 1) (take (rowSize * w) q ++ (rowBytes row (d row) ++ drop rowSize (drop (rowSize * w) q))) rest
   more h =
-      let head = bytesOf d (take w l) in
+      let head = rowsBytes d (take w l) in
       let n = head-length d l p w q (row ∷ rest) s in
       let front : take (rowSize * w) q ≡ head = rw (s .bytes) (take-at head (drop (rowSize * w) p) (rowSize * w) n) in
       let back : drop (rowSize * w) q ≡ drop (rowSize * w) p = rw (s .bytes) (drop-at head (drop (rowSize * w) p) (rowSize * w) n) in
       let k : rowSize * w + rowSize ≡ rowSize * (w + 1) = omega arith in
       let past : drop rowSize (drop (rowSize * w) p) ≡ drop (rowSize * (w + 1)) p = rw (drop-drop, k) in
       let rows : take (w + 1) l ≡ take w l ++ (row ∷ []) = rw (add-one, take-suc l w 0 more-some, row-there 0) refl in
-      let bytes : bytesOf d (take (w + 1) l) ≡ head ++ rowBytes row (d row) = ap (bytesOf d) rows ∙ bytes-append d (take w l) (row ∷ []) ∙ ap (λ (x : List ℕ). head ++ x) (bytes-one d row) in
+      let bytes : rowsBytes d (take (w + 1) l) ≡ head ++ rowBytes row (d row) = ap (rowsBytes d) rows ∙ bytes-append d (take w l) (row ∷ []) ∙ ap (λ (x : List ℕ). head ++ x) (bytes-one d row) in
       record {
         room = omega arith;
         some = omega (arith, more-some);

@@ -10,7 +10,7 @@ use lib.Arith.{lt-one}
 use lib.Dec.{ltb}
 use lib.ListN.{length, getD, replicate, length-replicate, getD-replicate, length-append, List·getD-append}
 use lib.Seq.{getD-append-add, ext-getD}
-use Rattle.bags.specs.Reading.{place, many, each}
+use Rattle.bags.specs.Reading.{endPlace, many, each}
 use Rattle.bags.specs.declared.After.{After}
 use Rattle.bags.specs.declared.After.the-variants.{At}
 use Rattle.bags.proofs.ReadLaws.{first, many-done, many-more, each-done, each-more}
@@ -51,7 +51,7 @@ each-length next what (suc n) at e h =
     rw (each-more next what (suc n) at (f .stop) (omega arith) (f .ends), m) (ap suc (each-length next what n (f .stop) e (rw m at (f .later))))
 
 module _ {A : Type 0} (next : ℕ → After) (what : ℕ → A) where
-  each-at : (n i at e : ℕ) (z : A) → i < n → many n next at ≡ At e → getD (each n next (λ c e. what c) at) i z ≡ what (place (many i next at))
+  each-at : (n i at e : ℕ) (z : A) → i < n → many n next at ≡ At e → getD (each n next (λ c e. what c) at) i z ≡ what (endPlace (many i next at))
   each-at zero i at e z l h = absurd (not-suc-le-zero l)
   each-at (suc n) zero at e z l h =
       let f = first next (suc n) at e (omega arith) h in

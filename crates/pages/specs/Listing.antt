@@ -43,9 +43,9 @@ abbrev pub rowBytes : ℕ → Decision → List ℕ
 rowBytes row d = sixBytes row (outcomeOf d) (policyOf d)
 
 -- and of rows, one after the other
-unfoldable pub bytesOf : (ℕ → Decision) → List ℕ → List ℕ
-bytesOf d [] = []
-bytesOf d (row ∷ rows) = rowBytes row (d row) ++ bytesOf d rows
+unfoldable pub rowsBytes : (ℕ → Decision) → List ℕ → List ℕ
+rowsBytes d [] = []
+rowsBytes d (row ∷ rows) = rowBytes row (d row) ++ rowsBytes d rows
 
 -- a part with some bytes written over its start
 abbrev pub over : List ℕ → List ℕ → List ℕ
@@ -59,4 +59,4 @@ roomIn part = length part / rowSize
 pub record PageWritten (d : ℕ → Decision) (rows start : ℕ) (before : List ℕ) (page : Page) (after : List ℕ) : Type 0 where
   pub written : page .written ≡ length (pageRows d rows start (roomIn before))
   pub next : page .next ≡ nextRow d rows start (roomIn before)
-  pub bytes : after ≡ over (bytesOf d (pageRows d rows start (roomIn before))) before
+  pub bytes : after ≡ over (rowsBytes d (pageRows d rows start (roomIn before))) before

@@ -44,6 +44,9 @@ fn policy(d: Decision) -> u8
     }
 }
 
+// How many bytes a listed row takes.
+pub const ROW_SIZE: usize = 6;
+
 // A row's six bytes at the start of the part that is lent; the bytes after them stay.
 pub fn put_row(tail: &mut [u8], row: usize, d: Decision)
     requires { ⌜ rowSize ≤ length (now tail) ⌝ }

@@ -5,14 +5,17 @@ ghost use Prim.Native.Nat.{ℕ, _-_, _%_, _<_};
 ghost use lib.Dec.{ltb};
 ghost use lib.ListN.{getD};
 ghost use Rattle.questions.specs.Questions.{product, countOf};
-ghost use Rattle.pages.specs.Rows.{countsBy, choicesAt, Few, Counted, Placed, Moved};
+ghost use Rattle.questions.specs.Sizes.{mostColumns};
+ghost use Rattle.pages.specs.Rows.{countsBy, choicesAt, Few, Counted, RowPlaced, Moved};
+use questions::sizes::MOST_CANDIDATES;
+use questions::sizes::MOST_COLUMNS;
 
 // The last choice of each of the `n` columns at `heads`, and 0 past the last column.
-pub fn lasts(s: &[u8], n: usize, heads: &[usize; 6]) -> [u8; 6]
+pub fn lasts(s: &[u8], n: usize, heads: &[usize; MOST_COLUMNS]) -> [u8; MOST_COLUMNS]
     requires { ⌜ Counted (now s) n (now heads) ⌝ }
-    ensures { λ r. ⌜ ((i : ℕ) → i < 6 → getD r i 0 ≡ cond (ltb i n) (countOf (now (s .entry)) (getD (now (heads .entry)) i 0) - 1) 0) ⌝ }
+    ensures { λ r. ⌜ ((i : ℕ) → i < mostColumns → getD r i 0 ≡ cond (ltb i n) (countOf (now (s .entry)) (getD (now (heads .entry)) i 0) - 1) 0) ⌝ }
 {
-    let mut ends = [0u8; 6];
+    let mut ends = [0u8; MOST_COLUMNS];
     let mut i = 0;
     while i < n {
         let head = heads[i];
@@ -24,13 +27,13 @@ pub fn lasts(s: &[u8], n: usize, heads: &[usize; 6]) -> [u8; 6]
 }
 
 // A row's choices, the first column slowest: the digits of its number. After the last row it begins anew.
-pub fn choices_of(lasts: &[u8; 6], row: usize) -> [u8; 6]
+pub fn choices_of(lasts: &[u8; MOST_COLUMNS], row: usize) -> [u8; MOST_COLUMNS]
     requires { ⌜ Few (now lasts) ⌝ }
     ensures { λ r. ⌜ r ≡ choicesAt (countsBy (now (lasts .entry))) (row % product (countsBy (now (lasts .entry)))) ⌝ }
 {
-    let mut choices = [0u8; 6];
+    let mut choices = [0u8; MOST_COLUMNS];
     let mut rest = row;
-    let mut k = 6;
+    let mut k = MOST_COLUMNS;
     while 0 < k {
         k -= 1;
         let n = lasts[k] as usize + 1;
@@ -43,15 +46,15 @@ pub fn choices_of(lasts: &[u8; 6], row: usize) -> [u8; 6]
 // On to the next row: the last column that has a choice left takes it, and the columns after it begin anew. `values` are the places of what is chosen.
 // Answers the number of that column, from 0 on, and 0 past the last row.
 pub fn step(
-    grid: &[[usize; 8]; 6],
-    lasts: &[u8; 6],
-    choices: &mut [u8; 6],
-    values: &mut [usize; 6],
+    grid: &[[usize; MOST_CANDIDATES]; MOST_COLUMNS],
+    lasts: &[u8; MOST_COLUMNS],
+    choices: &mut [u8; MOST_COLUMNS],
+    values: &mut [usize; MOST_COLUMNS],
 ) -> usize
-    requires { ⌜ Placed (now grid) (now lasts) (now choices) (now values) ⌝ }
+    requires { ⌜ RowPlaced (now grid) (now lasts) (now choices) (now values) ⌝ }
     ensures { λ r. ⌜ Moved (now (grid .entry)) (now (lasts .entry)) (now (choices .entry)) r (now (choices .exit)) (now (values .exit)) ⌝ }
 {
-    let mut k = 6;
+    let mut k = MOST_COLUMNS;
     while 0 < k {
         k -= 1;
         let choice = choices[k];

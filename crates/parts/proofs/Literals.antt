@@ -20,7 +20,7 @@ use Rattle.grammar.proofs.Steps.{list-step}
 use Rattle.table.specs.declared.Entry.{Entry}
 use Rattle.table.specs.Entries.{entry, literalEntry, literalEntries}
 use Rattle.table.specs.Layout.{putAt, entryIs}
-use Rattle.parts.specs.Answers.{turnedAway, Turned, Done, expectedOf}
+use Rattle.parts.specs.Answers.{turnedAway, TurnedAway, Done, expectedOf}
 use Rattle.parts.specs.declared.answers.Answer.{Answer}
 use Rattle.parts.specs.declared.answers.Answer.the-variants.{Read}
 use Rattle.parts.specs.declared.answers.Refusal.{Refusal}
@@ -61,15 +61,15 @@ module _ (sort : Lexeme → Bool) where
     pub free-past : first ≤ free
     free-past = let x = count in omega arith
 
-    refuses : isElement sort (l .ls) (lexeme text at) ≡ false → {f : Refusal} → f ≡ turnedAway (length text) (tooMany sort (lexeme text at)) at → Turned text total f
+    refuses : isElement sort (l .ls) (lexeme text at) ≡ false → {f : Refusal} → f ≡ turnedAway (length text) (tooMany sort (lexeme text at)) at → TurnedAway text total f
     unfolding read-element
     refuses e p = turned-as (l .rest) (turned-bind _ (turned-bind _ (turned-as (next-off text at (isElement sort (l .ls)) _ _ e) (turned text at (tooMany sort) p))))
 
-    pub listing-off : sort (lexeme text at) ≡ false → {f : Refusal} → f ≡ turnedAway (length text) 10 at → Turned text total f
+    pub listing-off : sort (lexeme text at) ≡ false → {f : Refusal} → f ≡ turnedAway (length text) 10 at → TurnedAway text total f
     unfolding isElement tooMany
     listing-off e p = refuses (rw e) (p ∙ rw e)
 
-    pub listing-full : sort (lexeme text at) ≡ true → 16 ≤ free - first → {f : Refusal} → f ≡ turnedAway (length text) 14 at → Turned text total f
+    pub listing-full : sort (lexeme text at) ≡ true → 16 ≤ free - first → {f : Refusal} → f ≡ turnedAway (length text) 14 at → TurnedAway text total f
     unfolding isElement tooMany
     listing-full e h p = let c = count in refuses (rw (e, le-ltb (length (l .ls)) 16 (omega arith))) (p ∙ rw e)
 

@@ -9,10 +9,10 @@ use borrow.Author.Tests.{ne-eqb}
 use Rattle.tokens.specs.Kinds as kinds
 use Rattle.tokens.specs.declared.reader.Token.{Token}
 use Rattle.reading.specs.Lexemes.{Lexeme, lexeme, is, size}
-use Rattle.grammar.specs.Policies.{Root, Root.Principal, Root.Resource, Root.Env, Root.Action}
+use Rattle.grammar.specs.Policies.{Root, rootByte, Root.Principal, Root.Resource, Root.Env, Root.Action}
 use Rattle.grammar.specs.Rules.{rootOf, isReserved, admitted}
 use Rattle.grammar.specs.Parser.{noName}
-use Rattle.table.specs.Entries.{rootKind, hasKind}
+use Rattle.table.specs.Entries.{hasKind}
 use Rattle.parts.specs.Names.{rootFrom}
 
 pub other-root : (P : Root → Type 0) (k : ℕ) → (k ≡ kinds.actionWord → ⊥) → P Principal → P Resource → P Env → P (rootFrom k)
@@ -51,13 +51,13 @@ pub root-of : (text : List ℕ) (t : Token) → rootOf (lexeme text t) ≡ rootF
 unfolding rootOf
 root-of text t = refl
 
-pub root-small : (n : ℕ) (r : Root) → n ≡ rootKind r → n ≤ 4
+pub root-small : (n : ℕ) (r : Root) → n ≡ rootByte r → n ≤ 4
 root-small n Principal e = omega arith
 root-small n Resource e = omega arith
 root-small n Env e = omega arith
 root-small n Action e = omega arith
 
-pub has-is : (r : Root) → rootKind r + 4 ≡ hasKind r
+pub has-is : (r : Root) → rootByte r + 4 ≡ hasKind r
 has-is Principal = refl
 has-is Resource = refl
 has-is Env = refl

@@ -14,7 +14,7 @@ use Rattle.reading.specs.Reader as reader
 use Rattle.reading.specs.Reader.{Reader, refuseBy, numbered, bind, on, need, ten}
 use Rattle.reading.proofs.Stream.{stream-end, stream-token, next-on, next-off}
 use Rattle.parts.specs.declared.answers.Refusal.{Refusal}
-use Rattle.parts.specs.Answers.{ReadyToRead, refusalAt, turnedAway, Turned}
+use Rattle.parts.specs.Answers.{ReadyToRead, refusalAt, turnedAway, TurnedAway}
 
 -- ---- places
 
@@ -39,28 +39,28 @@ number-small r = omega (arith, r .lies .low, r .lies .order, r .lies .high, r .s
 
 -- ---- refusals
 
-pub turned-as : {A : Type 0} {text : List ℕ} {p q : reader.Answer A} {f : Refusal} → q ≡ p → Turned text p f → Turned text q f
+pub turned-as : {A : Type 0} {text : List ℕ} {p q : reader.Answer A} {f : Refusal} → q ≡ p → TurnedAway text p f → TurnedAway text q f
 turned-as e h = record { number = h .number; rest = h .rest; is = e ∙ h .is; told = h .told }
 
-pub turned-bind : {A B : Type 0} {text : List ℕ} {p : reader.Answer A} {f : Refusal} (g : A → Reader B) → Turned text p f → Turned text (bind p g) f
+pub turned-bind : {A B : Type 0} {text : List ℕ} {p : reader.Answer A} {f : Refusal} (g : A → Reader B) → TurnedAway text p f → TurnedAway text (bind p g) f
 unfolding bind
 turned-bind g h = record { number = h .number; rest = h .rest; is = rw (h .is); told = h .told }
 
 module _ (text : List ℕ) (t : Token) where
-  pub turned : {A : Type 0} (number : Lexeme → ℕ) {f : Refusal} → f ≡ turnedAway (length text) (number (lexeme text t)) t → Turned text {A = A} (refuseBy number (stream text t)) f
+  pub turned : {A : Type 0} (number : Lexeme → ℕ) {f : Refusal} → f ≡ turnedAway (length text) (number (lexeme text t)) t → TurnedAway text {A = A} (refuseBy number (stream text t)) f
   unfolding turnedAway refuseBy refusalAt numbered
   turned {A = A} number {f} p = go (eqb (t .kind) 0) refl
     where
-      token-turned : (b : Bool) → eqb (t .kind) 0 ≡ false → ltb (t .kind) 7 ≡ b → Turned text {A = A} (refuseBy number (stream text t)) f
+      token-turned : (b : Bool) → eqb (t .kind) 0 ≡ false → ltb (t .kind) 7 ≡ b → TurnedAway text {A = A} (refuseBy number (stream text t)) f
       token-turned true e e′ = record { number = t .kind; rest = lexeme text t ∷ tokensFrom text (t .end); is = rw (stream-token text t (eqb-false _ _ e), e′); told = p ∙ rw (e, e′) }
       token-turned false e e′ = record { number = number (lexeme text t); rest = lexeme text t ∷ tokensFrom text (t .end); is = rw (stream-token text t (eqb-false _ _ e), e′); told = p ∙ rw (e, e′) }
 
-      go : (b : Bool) → eqb (t .kind) 0 ≡ b → Turned text {A = A} (refuseBy number (stream text t)) f
+      go : (b : Bool) → eqb (t .kind) 0 ≡ b → TurnedAway text {A = A} (refuseBy number (stream text t)) f
       go true e = record { number = 10; rest = []; is = rw (stream-end text t (eqb-true _ _ e)); told = p ∙ rw e }
       go false e = token-turned (ltb (t .kind) 7) e refl
 
   -- the same by a number that was found otherwise
-  pub turned-for : {A : Type 0} (number : Lexeme → ℕ) {n : ℕ} → n ≡ number (lexeme text t) → {f : Refusal} → f ≡ turnedAway (length text) n t → Turned text {A = A} (refuseBy number (stream text t)) f
+  pub turned-for : {A : Type 0} (number : Lexeme → ℕ) {n : ℕ} → n ≡ number (lexeme text t) → {f : Refusal} → f ≡ turnedAway (length text) n t → TurnedAway text {A = A} (refuseBy number (stream text t)) f
   turned-for number e p = turned number (p ∙ ap (λ (n : ℕ). turnedAway (length text) n t) e)
 
   -- a token of a kind stands next, or none does
@@ -75,6 +75,6 @@ module _ (text : List ℕ) (t : Token) where
   unfolding need
   need-on k f n = kind-on k (λ _. f) (refuseBy ten) n
 
-  pub need-off : {A : Type 0} (k : ℕ) (f : Reader A) {g : Refusal} → (t .kind ≡ k → ⊥) → g ≡ turnedAway (length text) 10 t → Turned text (need k f (stream text t)) g
+  pub need-off : {A : Type 0} (k : ℕ) (f : Reader A) {g : Refusal} → (t .kind ≡ k → ⊥) → g ≡ turnedAway (length text) 10 t → TurnedAway text (need k f (stream text t)) g
   unfolding need
   need-off k f e p = turned-as (kind-off k (λ _. f) (refuseBy ten) e) (turned ten p)

@@ -19,10 +19,10 @@ use Rattle.reading.proofs.Stream.{next-on, next-off}
 use Rattle.grammar.specs.Policies.{Span, span, Root}
 use Rattle.grammar.specs.Rules.{whichOf, admitted}
 use Rattle.grammar.specs.Grammar.{Path, firstPath, longerPath}
-use Rattle.grammar.specs.Parser.{Way, plain, calling, noName, fits, goesOn, read-first-name, read-next-name, read-way, spannedBy, read-path, read-attribute}
+use Rattle.grammar.specs.Parser.{Way, uncalled, calling, noName, nameFits, goesOn, read-first-name, read-next-name, read-way, spannedBy, read-path, read-attribute}
 use Rattle.grammar.proofs.Steps.{way-step}
 use Rattle.parts.specs.Names.{exitOf, callOf}
-use Rattle.parts.specs.Answers.{turnedAway, Turned, callAfter, Walked, Walks, found, lost}
+use Rattle.parts.specs.Answers.{turnedAway, TurnedAway, callAfter, PathWalked, PathWalks, found, lost}
 use Rattle.parts.specs.declared.answers.Refusal.{Refusal}
 use Rattle.parts.specs.declared.paths.Path.{Path as Found-path}
 use Rattle.parts.specs.declared.paths.Way.{Way as Found-way}
@@ -42,7 +42,7 @@ module _ (left : Bool) (root : Root) where
 
   -- a name must stand next, on a path of which `used` bytes are read
   abbrev pub name-of : ℕ → (Lexeme → Path) → Reader Way
-  name-of used make = on (fits root used) (λ x. took (plain (make x))) (refuseBy (noName root))
+  name-of used make = on (nameFits root used) (λ x. took (uncalled (make x))) (refuseBy (noName root))
 
   -- what is known of a path so far: the name that must stand next makes it the path from `start` to its own end
   pub record Walking (text : List ℕ) (total : reader.Answer Way) (from start used : ℕ) (name : Token) : Type 0 where
@@ -63,47 +63,47 @@ module _ (left : Bool) (root : Root) where
   }
 
   module _ {text : List ℕ} {total : reader.Answer Way} {from start used : ℕ} {name : Token} (w : Walking text total from start used name) where
-    pub walking-lost : fits root used (lexeme text name) ≡ false → {n : ℕ} → n ≡ noName root (lexeme text name) → {f : Refusal} → f ≡ turnedAway (length text) n name → Turned text total f
+    pub walking-lost : nameFits root used (lexeme text name) ≡ false → {n : ℕ} → n ≡ noName root (lexeme text name) → {f : Refusal} → f ≡ turnedAway (length text) n name → TurnedAway text total f
     walking-lost e q p = turned-as (w .rest) (turned-bind (onwards goesOn next-name)
-        (turned-as (next-off text name (fits root used) (λ x. took (plain (w .make x))) (refuseBy (noName root)) e) (turned-for text name (noName root) q p)))
+        (turned-as (next-off text name (nameFits root used) (λ x. took (uncalled (w .make x))) (refuseBy (noName root)) e) (turned-for text name (noName root) q p)))
 
-    module _ (e : fits root used (lexeme text name) ≡ true) (dot : Token) (q : dot ≡ tokenAt text (name .end)) (s : Reads text (name .end) dot) where
+    module _ (e : nameFits root used (lexeme text name) ≡ true) (dot : Token) (q : dot ≡ tokenAt text (name .end)) (s : Reads text (name .end) dot) where
       pub name-some : name .kind ≡ 0 → ⊥
-      unfolding fits
+      unfolding nameFits
       name-some z = never (rw z at e)
 
       -- the path so far
       abbrev pub here : Path
       here = path start (name .end) (used + (name .end - name .start))
 
-      named : total ≡ onwards goesOn next-name (plain here) (stream text dot)
+      named : total ≡ onwards goesOn next-name (uncalled here) (stream text dot)
       unfolding bind
-      named = w .rest ∙ rw (next-on text name (fits root used) (λ x. took (plain (w .make x))) (refuseBy (noName root)) dot name-some (w .lies .high) q e, w .made)
+      named = w .rest ∙ rw (next-on text name (nameFits root used) (λ x. took (uncalled (w .make x))) (refuseBy (noName root)) dot name-some (w .lies .high) q e, w .made)
 
       dot-lies : Reads text (from + 1) dot
       dot-lies = let l = w .lies .low in lowered (omega arith) (past name (w .lies) name-some s)
 
-      pub walking-ends : (dot .kind ≡ kinds.dot → ⊥) → Walked text from total (found-path start (name .end) 0 dot)
+      pub walking-ends : (dot .kind ≡ kinds.dot → ⊥) → PathWalked text from total (found-path start (name .end) 0 dot)
       unfolding goesOn spannedBy callAfter
       walking-ends n = record {
-        way = plain here;
+        way = uncalled here;
         span-is = refl;
         call-is = refl;
         lies = dot-lies;
-        is = named ∙ way-step (exitOf left) root (plain here) (stream text dot) ∙ next-off text dot (goesOn (plain here)) _ _ (ne-eqb _ _ n);
+        is = named ∙ way-step (exitOf left) root (uncalled here) (stream text dot) ∙ next-off text dot (goesOn (uncalled here)) _ _ (ne-eqb _ _ n);
       }
 
       module _ (d : dot .kind ≡ kinds.dot) (word : Token) (q′ : word ≡ tokenAt text (dot .end)) (s′ : Reads text (dot .end) word) where
-        after-dot : total ≡ bind (read-next-name (exitOf left) root (plain here) (stream text word)) (onwards goesOn next-name)
+        after-dot : total ≡ bind (read-next-name (exitOf left) root (uncalled here) (stream text word)) (onwards goesOn next-name)
         unfolding goesOn
-        after-dot = named ∙ way-step (exitOf left) root (plain here) (stream text dot)
-            ∙ next-on text dot (goesOn (plain here)) _ _ word (λ (z : dot .kind ≡ 0). omega arith) (s .high) q′ (eq-eqb _ _ d)
+        after-dot = named ∙ way-step (exitOf left) root (uncalled here) (stream text dot)
+            ∙ next-on text dot (goesOn (uncalled here)) _ _ word (λ (z : dot .kind ≡ 0). omega arith) (s .high) q′ (eq-eqb _ _ d)
 
         word-lies : Reads text (from + 1) word
         word-lies = let l = dot-lies .low in lowered (omega arith) (past dot dot-lies (λ (z : dot .kind ≡ 0). omega arith) s′)
 
         pub walking-calls : (callOf left (word .kind) ≡ 0 → ⊥) → (next : Token) → next ≡ tokenAt text (word .end) → Reads text (word .end) next
-            → Walked text from total (found-path start (name .end) (callOf left (word .kind)) next)
+            → PathWalked text from total (found-path start (name .end) (callOf left (word .kind)) next)
         unfolding read-next-name bind goesOn spannedBy callAfter
         walking-calls n next q″ s″ =
             let x = lexeme text word in
@@ -129,28 +129,28 @@ module _ (left : Bool) (root : Root) where
 
 -- ---- what a path's answer tells
 
-pub as-found : {text : List ℕ} {from : ℕ} {p : reader.Answer Way} {w : Found-way} {x : Found-path} → w ≡ Found x → Walks text from p w → Walked text from p x
-as-found {text} {from} {p} e n = go (subst (Walks text from p) e n)
+pub as-found : {text : List ℕ} {from : ℕ} {p : reader.Answer Way} {w : Found-way} {x : Found-path} → w ≡ Found x → PathWalks text from p w → PathWalked text from p x
+as-found {text} {from} {p} e n = go (subst (PathWalks text from p) e n)
   where
-    go : {x : Found-path} → Walks text from p (Found x) → Walked text from p x
+    go : {x : Found-path} → PathWalks text from p (Found x) → PathWalked text from p x
     go (found k) = k
 
-pub as-lost : {text : List ℕ} {from : ℕ} {p : reader.Answer Way} {w : Found-way} {f : Refusal} → w ≡ Lost f → Walks text from p w → Turned text p f
-as-lost {text} {from} {p} e n = go (subst (Walks text from p) e n)
+pub as-lost : {text : List ℕ} {from : ℕ} {p : reader.Answer Way} {w : Found-way} {f : Refusal} → w ≡ Lost f → PathWalks text from p w → TurnedAway text p f
+as-lost {text} {from} {p} e n = go (subst (PathWalks text from p) e n)
   where
-    go : {f : Refusal} → Walks text from p (Lost f) → Turned text p f
+    go : {f : Refusal} → PathWalks text from p (Lost f) → TurnedAway text p f
     go (lost k) = k
 
-pub fits-is : (root : Root) (used : ℕ) (text : List ℕ) (name : Token) {yes : Bool} → yes ≡ admitted root used (lexeme text name) → fits root used (lexeme text name) ≡ eqb (name .kind) kinds.name && yes
-unfolding fits
+pub fits-is : (root : Root) (used : ℕ) (text : List ℕ) (name : Token) {yes : Bool} → yes ≡ admitted root used (lexeme text name) → nameFits root used (lexeme text name) ≡ eqb (name .kind) kinds.name && yes
+unfolding nameFits
 fits-is root used text name e = rw e
 
 -- the place of a path that was found
-pub path-is : {text : List ℕ} {from : ℕ} {p : reader.Answer Way} {w : Found-path} → Walked text from p w → bind p (λ way. took (spannedBy way)) ≡ took (span (w .start) (w .end)) (stream text (w .next))
+pub path-is : {text : List ℕ} {from : ℕ} {p : reader.Answer Way} {w : Found-path} → PathWalked text from p w → bind p (λ way. took (spannedBy way)) ≡ took (span (w .start) (w .end)) (stream text (w .next))
 unfolding bind
 path-is k = rw (k .is, k .span-is)
 
-pub found-bind : {B : Type 0} {text : List ℕ} {from : ℕ} {p : reader.Answer Way} {w : Found-path} (f : Way → Reader B) (k : Walked text from p w) → bind p f ≡ f (k .way) (stream text (w .next))
+pub found-bind : {B : Type 0} {text : List ℕ} {from : ℕ} {p : reader.Answer Way} {w : Found-path} (f : Way → Reader B) (k : PathWalked text from p w) → bind p f ≡ f (k .way) (stream text (w .next))
 unfolding bind
 found-bind f k = rw (k .is)
 

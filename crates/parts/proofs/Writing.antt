@@ -17,7 +17,7 @@ use Rattle.reading.specs.Reader.{took, bind, need}
 use Rattle.table.specs.declared.Entry.{Entry}
 use Rattle.table.specs.Layout.{putAt, puts, entryIs, held}
 use Rattle.table.proofs.Holding.{puts-append, held-append, and-assoc, and-true}
-use Rattle.parts.specs.Answers.{Turned, Counted, Taken, Says, read, refused, Put, put, no-put, Done, closedOf, EntryPut, expectedOf, freeOf, Counts, Next}
+use Rattle.parts.specs.Answers.{TurnedAway, EntriesCounted, Taken, AnswerIs, read, refused, Put, put, no-put, Done, closedOf, EntryPut, expectedOf, freeOf, Counts, Next}
 use Rattle.parts.specs.declared.answers.Refusal.{Refusal}
 use Rattle.parts.specs.declared.answers.Answer.{Answer}
 use Rattle.parts.specs.declared.answers.Answer.the-variants.{Read, Refused}
@@ -25,8 +25,8 @@ use Rattle.parts.proofs.Standing.{lowered, turned-as, turned-bind, need
 
 -- ---- entries one after another
 
-pub counted-append : {seen : List ℕ} (a b : List Entry) {first free free′ : ℕ} {same ok ok′ : Bool} → Counted seen a first same free ok → Counted seen b free ok free′ ok′
-    → Counted seen (a ++ b) first same free′ ok′
+pub counted-append : {seen : List ℕ} (a b : List Entry) {first free free′ : ℕ} {same ok ok′ : Bool} → EntriesCounted seen a first same free ok → EntriesCounted seen b free ok free′ ok′
+    → EntriesCounted seen (a ++ b) first same free′ ok′
 counted-append {seen} a b {first} {free} {free′} {same} {ok} {ok′} h k = record {
   free-is = let l = length-append a b in let x = h .free-is in let y = k .free-is in omega arith;
   ok-is = k .ok-is ∙ rw (h .ok-is, h .free-is, held-append seen first a b, and-assoc same);
@@ -34,7 +34,7 @@ counted-append {seen} a b {first} {free} {free′} {same} {ok} {ok′} h k = rec
 
 -- entries from number `first` on: they are counted, compared and put, and the table is now T
 pub record Kept (seen T₀ : List ℕ) (first : ℕ) (same : Bool) (es : List Entry) (free : ℕ) (ok : Bool) (T : List ℕ) : Type 0 where
-  pub counted : Counted seen es first same free ok
+  pub counted : EntriesCounted seen es first same free ok
   pub stored : T ≡ puts T₀ first es
 
 pub kept-none : (seen T : List ℕ) (first : ℕ) (same : Bool) → Kept seen T first same [] first same T
@@ -81,21 +81,21 @@ module _ {A : Type 0} {es : ℕ → A → List Entry} where
         let l = lies .low in
         settled v e lies (omega arith) (subst (λ (l : List Entry). Kept seen T first same l (first + 1) ok T₁) (sym shape) (kept-one x k))
 
-    pub turned-done : {T T₁ : List ℕ} {p : reader.Answer A} {f : Refusal} → Turned text p f → Done es text seen from first same T T₁ p (Refused f)
+    pub turned-done : {T T₁ : List ℕ} {p : reader.Answer A} {f : Refusal} → TurnedAway text p f → Done es text seen from first same T T₁ p (Refused f)
     turned-done {T} {T₁} h = record { says = refused h; wrote = subst (Put es first T T₁) (sym (h .is)) no-put }
 
     -- what an answer tells
-    pub as-read : {p : reader.Answer A} {r : Answer} {next : Token} {free : ℕ} {ok : Bool} → r ≡ Read next free ok → Says es text seen from first same p r
+    pub as-read : {p : reader.Answer A} {r : Answer} {next : Token} {free : ℕ} {ok : Bool} → r ≡ Read next free ok → AnswerIs es text seen from first same p r
         → Taken es text seen from first same p next free ok
-    as-read {p} {r} e s = go (subst (Says es text seen from first same p) e s)
+    as-read {p} {r} e s = go (subst (AnswerIs es text seen from first same p) e s)
       where
-        go : {next : Token} {free : ℕ} {ok : Bool} → Says es text seen from first same p (Read next free ok) → Taken es text seen from first same p next free ok
+        go : {next : Token} {free : ℕ} {ok : Bool} → AnswerIs es text seen from first same p (Read next free ok) → Taken es text seen from first same p next free ok
         go (read k) = k
 
-    pub as-refused : {p : reader.Answer A} {r : Answer} {f : Refusal} → r ≡ Refused f → Says es text seen from first same p r → Turned text p f
-    as-refused {p} {r} e s = go (subst (Says es text seen from first same p) e s)
+    pub as-refused : {p : reader.Answer A} {r : Answer} {f : Refusal} → r ≡ Refused f → AnswerIs es text seen from first same p r → TurnedAway text p f
+    as-refused {p} {r} e s = go (subst (AnswerIs es text seen from first same p) e s)
       where
-        go : {f : Refusal} → Says es text seen from first same p (Refused f) → Turned text p f
+        go : {f : Refusal} → AnswerIs es text seen from first same p (Refused f) → TurnedAway text p f
         go (refused h) = h
 
     pub as-kept : {T T₁ : List ℕ} {p : reader.Answer A} {next : Token} {free : ℕ} {ok : Bool} (k : Taken es text seen from first same p next free ok) → Put es first T T₁ p
@@ -103,20 +103,20 @@ module _ {A : Type 0} {es : ℕ → A → List Entry} where
     as-kept {T} {T₁} k w = record { counted = k .counted; stored = un-put (subst (Put es first T T₁) (k .is) w) }
 
     -- an answer's numbers
-    pub free-small : {p : reader.Answer A} {r : Answer} → Says es text seen from first same p r → first ≤ from → freeOf r ≤ length text
+    pub free-small : {p : reader.Answer A} {r : Answer} → AnswerIs es text seen from first same p r → first ≤ from → freeOf r ≤ length text
     free-small (read {next = n} k) l = let a = k .room in let b = k .lies .order in let d = k .lies .high in omega arith
     free-small (refused k) l = omega arith
 
-    pub counts : {p : reader.Answer A} {r : Answer} → Says es text seen from first same p r → Counts first r
+    pub counts : {p : reader.Answer A} {r : Answer} → AnswerIs es text seen from first same p r → Counts first r
     counts (read k) = let x = k .counted .free-is in omega arith
     counts (refused k) = tt
 
-    pub next-lies : {p : reader.Answer A} {r : Answer} → Says es text seen from first same p r → Next text r
+    pub next-lies : {p : reader.Answer A} {r : Answer} → AnswerIs es text seen from first same p r → Next text r
     next-lies (read k) = lowered (omega arith) (k .lies)
     next-lies (refused k) = tt
 
 -- one entry more leaves the token that stands next
-pub closed-next : {A : Type 0} {es : ℕ → A → List Entry} {text seen : List ℕ} {from first : ℕ} {same : Bool} {p : reader.Answer A} {r r₂ : Answer} (y : ℕ → Entry) → Says es text seen from first same p r
+pub closed-next : {A : Type 0} {es : ℕ → A → List Entry} {text seen : List ℕ} {from first : ℕ} {same : Bool} {p : reader.Answer A} {r r₂ : Answer} (y : ℕ → Entry) → AnswerIs es text seen from first same p r
     → r₂ ≡ closedOf seen y r → Next text r₂
 unfolding closedOf
 closed-next y (read k) e = rw e (lowered (omega arith) (k .lies))
@@ -127,7 +127,7 @@ pub weaker : {A : Type 0} {es : ℕ → A → List Entry} {text seen : List ℕ}
     → Done es text seen from first same T T₁ p r → Done es text seen from′ first same T T₁ p r
 weaker {es = es} {text} {seen} {from′} {from} {first} {same} {p = p} l d = record { says = go (d .says); wrote = d .wrote }
   where
-    go : {r : Answer} → Says es text seen from first same p r → Says es text seen from′ first same p r
+    go : {r : Answer} → AnswerIs es text seen from first same p r → AnswerIs es text seen from′ first same p r
     go (read {next = n} {free = g} {ok = o} k) =
         read {next = n} {free = g} {ok = o} (record { value = k .value; is = k .is; lies = lowered (omega arith) (k .lies); room = let x = k .room in omega arith; counted = k .counted })
     go (refused h) = refused h
@@ -140,7 +140,7 @@ module _ {A B : Type 0} {es : ℕ → A → List Entry} {es′ : ℕ → B → L
   unfolding bind
   continuing {r} shape room d = go r (d .says) (d .wrote)
     where
-      go : (r : Answer) → Says es text seen from free ok p r → Put es free T T₁ p → Done es′ text seen from′ first same T₀ T₁ (bind p (λ v. took (f v))) r
+      go : (r : Answer) → AnswerIs es text seen from free ok p r → Put es free T T₁ p → Done es′ text seen from′ first same T₀ T₁ (bind p (λ v. took (f v))) r
       go (Read next free₁ ok₁) (read k) w =
           let x = k .room in let y = h .counted .free-is in
           settled (f (k .value)) (rw (k .is)) (lowered (omega arith) (k .lies)) (omega arith)
@@ -153,7 +153,7 @@ module _ {A B : Type 0} {es : ℕ → A → List Entry} {es′ : ℕ → B → L
   unfolding closedOf bind
   closing {T₂} {r} {r₂} y shape room d c = go r (d .says) (d .wrote) c
     where
-      go : (r : Answer) → Says es text seen from free ok p r → Put es free T T₁ p → (r₂ ≡ closedOf seen y r) × EntryPut T₁ y r T₂ → Done es′ text seen from′ first same T₀ T₂ (bind p (λ v. took (f v))) r₂
+      go : (r : Answer) → AnswerIs es text seen from free ok p r → Put es free T T₁ p → (r₂ ≡ closedOf seen y r) × EntryPut T₁ y r T₂ → Done es′ text seen from′ first same T₀ T₂ (bind p (λ v. took (f v))) r₂
       go (Read next free₁ ok₁) (read k) w c =
           let x = k .room in let z = h .counted .free-is in
           subst (Done es′ text seen from′ first same T₀ T₂ (bind p (λ v. took (f v)))) (sym (c .0))
@@ -184,7 +184,7 @@ module _ {A : Type 0} {es : ℕ → A → List Entry} {text seen : List ℕ} {fr
           subst (Done es text seen from first same T T₁ (bind p (λ v. need kind (took v)))) (sym (c ∙ rw e))
           (turned-done (turned-as (rw (k .is)) (need-off text t kind (took (k .value)) (eqb-false _ _ e) refl)))
 
-      go : (r : Answer) → Says es text seen from first same p r → Put es first T T₁ p → r₂ ≡ expectedOf text kind r → Done es text seen from first same T T₁ (bind p (λ v. need kind (took v))) r₂
+      go : (r : Answer) → AnswerIs es text seen from first same p r → Put es first T T₁ p → r₂ ≡ expectedOf text kind r → Done es text seen from first same T T₁ (bind p (λ v. need kind (took v))) r₂
       go (Read t free ok) (read k) w c = at-token t free ok k w (eqb (t .kind) kind) refl c
       go (Refused g) (refused k) w c = subst (Done es text seen from first same T T₁ (bind p (λ v. need kind (took v)))) (sym c) (turned-done (turned-bind (λ v. need kind (took v)) k))
 

@@ -14,7 +14,7 @@ use Rattle.reading.specs.Reader as reader
 use Rattle.reading.specs.Reader.{took, refuse}
 use Rattle.grammar.specs.Policies.{span}
 use Rattle.grammar.specs.Parser as parser
-use Rattle.grammar.specs.Parser.{plain, calling, spannedBy}
+use Rattle.grammar.specs.Parser.{uncalled, calling, spannedBy}
 use Rattle.table.specs.declared.Entry.{Entry}
 use Rattle.table.specs.Entries.{whichKind}
 use Rattle.table.specs.Layout.{putAt, puts, entryIs, held}
@@ -47,14 +47,14 @@ turnedAway end number t =
     cond (eqb (t .kind) kinds.endOfText) (refusal 10 end 0) (refusal (cond (ltb (t .kind) 7) (t .kind) number) (t .start) (t .end - t .start))
 
 -- what was refused: the reader's refusal is the one that is told
-pub record Turned (text : List ℕ) {A : Type 0} (p : reader.Answer A) (f : Refusal) : Type 0 where
+pub record TurnedAway (text : List ℕ) {A : Type 0} (p : reader.Answer A) (f : Refusal) : Type 0 where
   pub number : ℕ
   pub rest : List Lexeme
   pub is : p ≡ refuse number rest
   pub told : f ≡ refusalAt text number rest
 
 -- entries from number `first` on, counted and compared: the next free number, and whether all before and these are held
-pub record Counted (seen : List ℕ) (es : List Entry) (first : ℕ) (same : Bool) (free : ℕ) (ok : Bool) : Type 0 where
+pub record EntriesCounted (seen : List ℕ) (es : List Entry) (first : ℕ) (same : Bool) (free : ℕ) (ok : Bool) : Type 0 where
   pub free-is : free ≡ first + length es
   pub ok-is : ok ≡ same && held seen first es
 
@@ -66,12 +66,12 @@ pub record Taken {A : Type 0} (es : ℕ → A → List Entry) (text seen : List 
   pub is : p ≡ took value (stream text next)
   pub lies : Reads text (from + 1) next
   pub room : free + from ≤ next .start + first
-  pub counted : Counted seen (es first value) first same free ok
+  pub counted : EntriesCounted seen (es first value) first same free ok
 
 -- an answer: what was read, or what was refused
-pub data Says {A : Type 0} (es : ℕ → A → List Entry) (text seen : List ℕ) (from first : ℕ) (same : Bool) (p : reader.Answer A) : Answer → Type 0 where
-  read : {next : Token} {free : ℕ} {ok : Bool} → Taken es text seen from first same p next free ok → Says es text seen from first same p (Read next free ok)
-  refused : {f : Refusal} → Turned text p f → Says es text seen from first same p (Refused f)
+pub data AnswerIs {A : Type 0} (es : ℕ → A → List Entry) (text seen : List ℕ) (from first : ℕ) (same : Bool) (p : reader.Answer A) : Answer → Type 0 where
+  read : {next : Token} {free : ℕ} {ok : Bool} → Taken es text seen from first same p next free ok → AnswerIs es text seen from first same p (Read next free ok)
+  refused : {f : Refusal} → TurnedAway text p f → AnswerIs es text seen from first same p (Refused f)
 
 -- what was read is in the table, as far as the table goes, and no other byte has changed; of a refusal nothing is said
 pub data Put {A : Type 0} (es : ℕ → A → List Entry) (first : ℕ) (old new : List ℕ) : reader.Answer A → Type 0 where
@@ -81,7 +81,7 @@ pub data Put {A : Type 0} (es : ℕ → A → List Entry) (first : ℕ) (old new
 -- the readers' promise
 pub record Done {A : Type 0} (es : ℕ → A → List Entry) (text seen : List ℕ) (from first : ℕ) (same : Bool) (old new : List ℕ) (p : reader.Answer A) (r : Answer)
     : Type 0 where
-  pub says : Says es text seen from first same p r
+  pub says : AnswerIs es text seen from first same p r
   pub wrote : Put es first old new p
 
 -- the same of a reader that goes on at the token t, before which k tokens at least are read of what it reads
@@ -93,11 +93,11 @@ DoneAt es text seen t k first same old new reads r = Done es text seen (t .start
 
 -- the kind of the entry of the call that begins after a path, and 0 where none does
 unfoldable pub callAfter : parser.Way → ℕ
-callAfter (plain p) = 0
+callAfter (uncalled p) = 0
 callAfter (calling p w) = whichKind w
 
 -- where a path was found, and what stands after it
-pub record Walked (text : List ℕ) (from : ℕ) (p : reader.Answer parser.Way) (w : Path) : Type 0 where
+pub record PathWalked (text : List ℕ) (from : ℕ) (p : reader.Answer parser.Way) (w : Path) : Type 0 where
   pub way : parser.Way
   pub is : p ≡ took way (stream text (w .next))
   pub span-is : spannedBy way ≡ span (w .start) (w .end)
@@ -105,9 +105,9 @@ pub record Walked (text : List ℕ) (from : ℕ) (p : reader.Answer parser.Way) 
   pub lies : Reads text (from + 1) (w .next)
 
 -- the same of a path
-pub data Walks (text : List ℕ) (from : ℕ) (p : reader.Answer parser.Way) : Way → Type 0 where
-  found : {w : Path} → Walked text from p w → Walks text from p (Found w)
-  lost : {f : Refusal} → Turned text p f → Walks text from p (Lost f)
+pub data PathWalks (text : List ℕ) (from : ℕ) (p : reader.Answer parser.Way) : Way → Type 0 where
+  found : {w : Path} → PathWalked text from p w → PathWalks text from p (Found w)
+  lost : {f : Refusal} → TurnedAway text p f → PathWalks text from p (Lost f)
 
 -- ---- parts of the code that read nothing of their own
 

@@ -17,6 +17,7 @@ use table::entries;
 use tokens::kinds;
 use tokens::reader::Token;
 use tokens::reader::next_token;
+use tokens::sizes::MOST_LITERALS;
 
 // Whether a token is a literal.
 pub fn is_literal(t: Token) -> bool
@@ -70,9 +71,6 @@ fn is_sort(strings: bool, t: Token) -> bool
     }
 }
 
-// How many literals a list may have.
-const LITERALS: usize = 16;
-
 // A list after its `[`: 1 to 16 literals with commas between them, and `]`.
 pub fn read_list(
     classes: &[u8; 256],
@@ -95,7 +93,7 @@ pub fn read_list(
         if !is_sort(strings, at) {
             return Answer::Refused(turned_away(text, at, refusals::NOT_ADMITTED));
         }
-        if LITERALS <= free - number {
+        if MOST_LITERALS <= free - number {
             return Answer::Refused(turned_away(text, at, refusals::TOO_MANY_LITERALS));
         }
         ok = append(table, seen, free, ok, literal_entry(at));

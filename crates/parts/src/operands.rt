@@ -2,7 +2,8 @@
 ghost use mathlib.Core.List.{[], _∷_};
 ghost use Rattle.reading.specs.Lexemes.{stream};
 ghost use Rattle.grammar.specs.Parser.{read-attribute, read-operand};
-ghost use Rattle.table.specs.Entries.{rootKind, placed, operandEntry};
+ghost use Rattle.grammar.specs.Policies.{rootByte};
+ghost use Rattle.table.specs.Entries.{placed, operandEntry};
 ghost use Rattle.parts.specs.Answers.{ReadyToRead, Done};
 ghost use Rattle.parts.specs.Names.{rootFrom};
 use crate::answers::Answer;
@@ -29,7 +30,7 @@ pub fn read_attribute(
     same: bool,
 ) -> Answer
     requires { ⌜ ReadyToRead (now classes) (now text) number t ⌝ }
-    ensures { λ r. ⌜ Done (λ e s. placed (rootKind (rootFrom root)) s ∷ []) (now (text .entry)) (now (seen .entry)) (t .start) number same
+    ensures { λ r. ⌜ Done (λ e s. placed (rootByte (rootFrom root)) s ∷ []) (now (text .entry)) (now (seen .entry)) (t .start) number same
         (now (table .entry)) (now (table .exit)) (read-attribute (rootFrom root) (λ root s. s) (stream (now (text .entry)) t)) r ⌝ }
 {
     if t.kind != b'.' {

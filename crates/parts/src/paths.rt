@@ -6,8 +6,9 @@ ghost use Rattle.tokens.specs.Tokens.{Reads};
 ghost use Rattle.reading.specs.Lexemes.{lexeme, stream};
 ghost use Rattle.grammar.specs.Rules.{isRoot, admitted};
 ghost use Rattle.grammar.specs.Parser.{noName, read-way, read-path};
-ghost use Rattle.table.specs.Entries.{rootKind, hasKind, placed};
-ghost use Rattle.parts.specs.Answers.{ReadyToRead, Done, Walks};
+ghost use Rattle.grammar.specs.Policies.{rootByte};
+ghost use Rattle.table.specs.Entries.{hasKind, placed};
+ghost use Rattle.parts.specs.Answers.{ReadyToRead, Done, PathWalks};
 ghost use Rattle.parts.specs.Names.{rootFrom, exitOf, callOf};
 use crate::answers::Answer;
 use crate::answers::Refusal;
@@ -20,6 +21,7 @@ use table::entries;
 use tokens::kinds;
 use tokens::reader::Token;
 use tokens::reader::next_token;
+use tokens::sizes::MOST_PATH_BYTES;
 
 // Where a path starts and ends, the kind of the call that begins after it or 0, and the token after all that.
 pub struct Path {
@@ -44,7 +46,7 @@ pub fn is_root(t: Token) -> bool
 
 // The kind of an attribute's entry, by the kind of its root's token.
 pub fn root_kind(root: u8) -> u8
-    ensures { λ r. ⌜ r ≡ rootKind (rootFrom root) ⌝ }
+    ensures { λ r. ⌜ r ≡ rootByte (rootFrom root) ⌝ }
 {
     if root == kinds::PRINCIPAL {
         return entries::PRINCIPAL;
@@ -97,9 +99,6 @@ fn no_name(root: u8, t: Token) -> u8
     }
 }
 
-// How many bytes a path may have, its blanks left out.
-const PATH_BYTES: usize = 64;
-
 // Whether a name may go on a path of which `used` bytes are read: after action only `name` alone, else up to 64 bytes.
 fn is_admitted(text: &[u8], root: u8, used: usize, t: Token) -> bool
     requires { ⌜ (used ≤ 2 ^ 60) × Reads (now text) 0 t ⌝ }
@@ -111,13 +110,13 @@ fn is_admitted(text: &[u8], root: u8, used: usize, t: Token) -> bool
         let name = same(&text[start..end], b"name");
         return (used == 0) & name;
     }
-    used + (t.end - t.start) <= PATH_BYTES
+    used + (t.end - t.start) <= MOST_PATH_BYTES
 }
 
 // A path. Where it is a left operand, containsAll or containsAny may end it after a dot.
 pub fn read_way(classes: &[u8; 256], text: &[u8], root: u8, left: bool, t: Token) -> Way
     requires { ⌜ ReadyToRead (now classes) (now text) 0 t ⌝ }
-    ensures { λ r. ⌜ Walks (now (text .entry)) (t .start) (read-way (exitOf left) (rootFrom root) (stream (now (text .entry)) t)) r ⌝ }
+    ensures { λ r. ⌜ PathWalks (now (text .entry)) (t .start) (read-way (exitOf left) (rootFrom root) (stream (now (text .entry)) t)) r ⌝ }
 {
     let start = t.start;
     let mut name = t;

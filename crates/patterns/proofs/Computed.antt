@@ -8,17 +8,17 @@ use lib.Dec.{eqb}
 use borrow.Author.Tests.{eqb-true, eqb-false}
 use Rattle.slices.specs.Decides.{Decides}
 use Rattle.slices.proofs.Decided.{one-answer, yes-to, no-to, refuted, both}
-use Rattle.patterns.specs.Like.{star, mark, colon, Admits, Matches, ends, one, none, more}
+use Rattle.patterns.specs.Like.{star, questionMark, colon, Admits, Matches, ends, one, none, more}
 use Rattle.patterns.specs.Likes.{stands, steps, runs, likes}
 use Rattle.patterns.proofs.Laws.{mark-admits, itself-admits, head-admits, tails-match, nothing-left, star-ends, star-takes}
 
 stands-decides : (x c : ℕ) → x ≢ star → Decides (Admits x c) (stands x c)
 unfolding stands
-stands-decides x c n = go (eqb x mark) refl
+stands-decides x c n = go (eqb x questionMark) refl
   where
-    go : (b : Bool) → eqb x mark ≡ b → Decides (Admits x c) (cond b (not (eqb c colon)) (eqb x c))
-    go true e = rw (eqb-true x mark e) (mark-admits c)
-    go false e = itself-admits x c n (eqb-false x mark e)
+    go : (b : Bool) → eqb x questionMark ≡ b → Decides (Admits x c) (cond b (not (eqb c colon)) (eqb x c))
+    go true e = rw (eqb-true x questionMark e) (mark-admits c)
+    go false e = itself-admits x c n (eqb-false x questionMark e)
 
 -- ---- a test f that decides what the rest p of a pattern matches
 

@@ -10,8 +10,8 @@ abbrev pub star : ℕ
 star = code "*"
 
 -- one character but a colon
-abbrev pub mark : ℕ
-mark = code "?"
+abbrev pub questionMark : ℕ
+questionMark = code "?"
 
 -- what no wildcard stands for
 abbrev pub colon : ℕ
@@ -19,8 +19,8 @@ colon = code ":"
 
 -- a pattern's character that is no star, and a character that it stands for
 pub data Admits : ℕ → ℕ → Type 0 where
-  itself : {x : ℕ} → x ≢ star → x ≢ mark → Admits x x
-  any : {c : ℕ} → c ≢ colon → Admits mark c
+  itself : {x : ℕ} → x ≢ star → x ≢ questionMark → Admits x x
+  any : {c : ℕ} → c ≢ colon → Admits questionMark c
 
 -- a pattern, and a string that it matches whole
 pub data Matches : List ℕ → List ℕ → Type 0 where

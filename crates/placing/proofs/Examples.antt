@@ -11,7 +11,7 @@ use Rattle.reading.specs.Reader.{took}
 use Rattle.grammar.specs.Policies.{span, Root.Principal, Root.Env, Comparator.AtLeast, text, number, attribute, literal, Tree, compare, has, not, brackets, both, typed, oneOf, Policy}
 use Rattle.grammar.specs.Parser.{read-text}
 use Rattle.tokens.specs.Blanks.{unblanked}
-use Rattle.placing.specs.Placed.{bytesAt, quotedAt, pathAt, depth}
+use Rattle.placing.specs.Placed.{bytesAt, quotedAt, unblankedAt, depth}
 use Rattle.placing.specs.Said.{literalWords, listWords, operandWords, treeWords, partWords, actionWords, conditionWords, wordsOf}
 use Rattle.grammar.proofs.Opened.{grammar-opened}
 
@@ -31,15 +31,15 @@ rule-read = refl
 
 pub rule-spans :
     (quotedAt rule (span 39 46) ≡ bytes "teach")
-    × (pathAt rule (span 87 92) ≡ bytes "grade")
+    × (unblankedAt rule (span 87 92) ≡ bytes "grade")
     × (bytesAt rule (span 96 97) ≡ bytes "3")
-    × (pathAt rule (span 117 121) ≡ bytes "loan")
+    × (unblankedAt rule (span 117 121) ≡ bytes "loan")
     × (depth condition ≡ 3)
 unfolding unblanked classOf depth
 rule-spans = (refl, refl, refl, refl, refl)
 
 -- blanks about a path's dots
-pub path-with-blanks : pathAt (bytes "env.door .\n\tstate == 1") (span 4 17) ≡ bytes "door.state"
+pub path-with-blanks : unblankedAt (bytes "env.door .\n\tstate == 1") (span 4 17) ≡ bytes "door.state"
 unfolding unblanked classOf
 path-with-blanks = refl
 

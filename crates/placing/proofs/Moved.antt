@@ -1,52 +1,57 @@
 -- Policies say the same where their text is put behind other text. Assumes nothing.
 use mathlib.Core.Path.{_≡_, refl, ap}
-use mathlib.Core.List.{List, [], _∷_, _++_}
+use mathlib.Core.List.{List, [], _∷_, _++_, map}
 use mathlib.Core.Option.{Option, none, some}
 use Prim.Native.Nat.{ℕ, suc, _+_, _-_}
 use native.Mathlib.Omega.{arith}
 use lib.ListN.{length, drop}
 use Rattle.grammar.specs.Policies.{Span, Literal, text, number, truth, Operand, attribute, literal, Tree, constant, compare, like, among, within, contains, has, not, brackets, both, either, choice, Part, any, typed, pinned, Actions, every, oneOf}
+use Rattle.grammar.specs.Moves.{Move, further, movedSpan, movedLiteral, movedOperand, movedTree, movedPart, movedActions, movedWhen}
 use Rattle.tokens.specs.Blanks.{unblanked}
-use Rattle.placing.specs.Placed.{bytesAt, quotedAt, pathAt}
+use Rattle.placing.specs.Placed.{bytesAt, quotedAt, unblankedAt}
 use Rattle.placing.specs.Said.{literalWords, listWords, operandWords, treeWords, partWords, actionWords, conditionWords, wordsOf}
-use Rattle.placing.specs.Moved.{moved, literalMoved, listMoved, operandMoved, treeMoved, partMoved, actionMoved, conditionMoved, policiesMoved, WordsMoved}
+use Rattle.placing.specs.Moved.{WordsMoved}
 
 -- what lies behind the other text
-behind : (a t : List ℕ) (k : ℕ) → drop (length a + k) (a ++ t) ≡ drop k t
-behind [] t k = let e : 0 + k ≡ k = omega arith in rw e
-behind (x ∷ a) t k = let e : suc (length a) + k ≡ suc (length a + k) = omega arith in rw e (behind a t k)
+drop-behind : (a t : List ℕ) (k : ℕ) → drop (length a + k) (a ++ t) ≡ drop k t
+drop-behind [] t k = let e : 0 + k ≡ k = omega arith in rw e
+drop-behind (x ∷ a) t k = let e : suc (length a) + k ≡ suc (length a + k) = omega arith in rw e (drop-behind a t k)
 
 module _ (a t : List ℕ) where
-  bytes-moved : (s : Span) → bytesAt (a ++ t) (moved (length a) s) ≡ bytesAt t s
-  bytes-moved s = let e : length a + s .end - (length a + s .start) ≡ s .end - s .start = omega arith in rw (e, behind a t (s .start))
+  -- so many bytes further on
+  abbrev m : Move
+  m = further (length a)
 
-  quoted-moved : (s : Span) → quotedAt (a ++ t) (moved (length a) s) ≡ quotedAt t s
+  bytes-moved : (s : Span) → bytesAt (a ++ t) (movedSpan m s) ≡ bytesAt t s
+  bytes-moved s = let e : length a + s .end - (length a + s .start) ≡ s .end - s .start = omega arith in rw (e, drop-behind a t (s .start))
+
+  quoted-moved : (s : Span) → quotedAt (a ++ t) (movedSpan m s) ≡ quotedAt t s
   quoted-moved s =
       let e : length a + s .end - (length a + s .start) ≡ s .end - s .start = omega arith in
       let f : length a + s .start + 1 ≡ length a + (s .start + 1) = omega arith in
-      rw (e, f, behind a t (s .start + 1))
+      rw (e, f, drop-behind a t (s .start + 1))
 
-  path-moved : (s : Span) → pathAt (a ++ t) (moved (length a) s) ≡ pathAt t s
+  path-moved : (s : Span) → unblankedAt (a ++ t) (movedSpan m s) ≡ unblankedAt t s
   path-moved s = ap unblanked (bytes-moved s)
 
-  literal-moved : (l : Literal) → literalWords (a ++ t) (literalMoved (length a) l) ≡ literalWords t l
-  unfolding literalWords literalMoved
+  literal-moved : (l : Literal) → literalWords (a ++ t) (movedLiteral m l) ≡ literalWords t l
+  unfolding literalWords
   literal-moved (text s) = ap text (quoted-moved s)
   literal-moved (number s) = ap number (bytes-moved s)
   literal-moved (truth b) = refl
 
-  list-moved : (ls : List Literal) → listWords (a ++ t) (listMoved (length a) ls) ≡ listWords t ls
-  unfolding listWords listMoved
+  list-moved : (ls : List Literal) → listWords (a ++ t) (map (movedLiteral m) ls) ≡ listWords t ls
+  unfolding listWords
   list-moved [] = refl
   list-moved (l ∷ ls) = rw (literal-moved l, list-moved ls)
 
-  operand-moved : (o : Operand) → operandWords (a ++ t) (operandMoved (length a) o) ≡ operandWords t o
-  unfolding operandWords operandMoved
+  operand-moved : (o : Operand) → operandWords (a ++ t) (movedOperand m o) ≡ operandWords t o
+  unfolding operandWords
   operand-moved (attribute root s) = ap (attribute root) (path-moved s)
   operand-moved (literal l) = ap literal (literal-moved l)
 
-  tree-moved : (c : Tree) → treeWords (a ++ t) (treeMoved (length a) c) ≡ treeWords t c
-  unfolding treeWords treeMoved
+  tree-moved : (c : Tree) → treeWords (a ++ t) (movedTree m c) ≡ treeWords t c
+  unfolding treeWords
   tree-moved (constant b) = refl
   tree-moved (compare c x y) = rw (operand-moved x, operand-moved y)
   tree-moved (like x s) = rw (operand-moved x) (ap (like (operandWords t x)) (quoted-moved s))
@@ -60,24 +65,24 @@ module _ (a t : List ℕ) where
   tree-moved (either x y) = rw (tree-moved x, tree-moved y)
   tree-moved (choice c x y) = rw (tree-moved c, tree-moved x, tree-moved y)
 
-  part-moved : (p : Part) → partWords (a ++ t) (partMoved (length a) p) ≡ partWords t p
-  unfolding partWords partMoved
+  part-moved : (p : Part) → partWords (a ++ t) (movedPart m p) ≡ partWords t p
+  unfolding partWords
   part-moved any = refl
   part-moved (typed n) = refl
   part-moved (pinned s) = ap pinned (quoted-moved s)
 
-  action-moved : (x : Actions) → actionWords (a ++ t) (actionMoved (length a) x) ≡ actionWords t x
-  unfolding actionWords actionMoved
+  action-moved : (x : Actions) → actionWords (a ++ t) (movedActions m x) ≡ actionWords t x
+  unfolding actionWords
   action-moved every = refl
   action-moved (oneOf ls) = ap oneOf (list-moved ls)
 
-  condition-moved : (c : Option Tree) → conditionWords (a ++ t) (conditionMoved (length a) c) ≡ conditionWords t c
-  unfolding conditionWords conditionMoved
+  condition-moved : (c : Option Tree) → conditionWords (a ++ t) (movedWhen m c) ≡ conditionWords t c
+  unfolding conditionWords
   condition-moved none = refl
   condition-moved (some c) = rw (tree-moved c)
 
 pub words-moved : WordsMoved
-unfolding WordsMoved wordsOf policiesMoved
+unfolding WordsMoved wordsOf
 words-moved a t [] = refl
 words-moved a t (p ∷ ps) =
     rw (part-moved a t (p .principal), action-moved a t (p .action), part-moved a t (p .resource), condition-moved a t (p .condition), words-moved a t ps)

@@ -22,7 +22,7 @@ use Rattle.tokens.proofs.FormLaws.{mark-passes}
 use Rattle.tokens.proofs.ReadLaws.{reads}
 use Rattle.tokens.proofs.Told.{token-told}
 use Rattle.numbers.proofs.NumberTokens.{token-is-number}
-use Rattle.reading.specs.Lexemes.{Lexeme, lexeme, choose, following, tokensUpTo, tokensFrom, tokensOf}
+use Rattle.reading.specs.Lexemes.{Lexeme, lexeme, choose, tokensAfter, tokensUpTo, tokensFrom, tokensOf}
 use Rattle.grammar.specs.Policies.{span}
 use Rattle.grammar.specs.Rules.{spanOf}
 use Rattle.placing.specs.Placed.{bytesAt, quotedAt, IsName, a-name, StringPlaced, NumberPlaced}
@@ -108,7 +108,7 @@ pub data Running (text : List ℕ) : ℕ → List Lexeme → Type 0 where
   token : {at : ℕ} {x : Lexeme} {i : List Lexeme} → Lexed text at x → Running text (x .end) i → Running text at (x ∷ i)
 
 running : (text : List ℕ) (n at : ℕ) → at ≤ length text → Running text at (tokensUpTo n text at)
-unfolding tokensUpTo following choose
+unfolding tokensUpTo tokensAfter choose
 running text zero at h = no-more
 running text (suc n) at h = go (eqb (tokenAt text at .kind) 0) refl (running text n (tokenAt text at .end) (reads text at h .high))
   where

@@ -11,10 +11,11 @@ use borrow.Author.Tests.{eqb-true, eqb-false, ltb-true, not-true}
 use Rattle.slices.specs.Same.{same}
 use Rattle.tokens.specs.Kinds as kinds
 use Rattle.tokens.proofs.TokenLaws.{and-right}
+use Rattle.tokens.specs.Sizes.{mostLiterals, mostPolicies}
 use Rattle.reading.specs.Lexemes.{Lexeme, is}
 use Rattle.reading.specs.Reads.{Reading, Chain, Chain.alone, Chain.more, Onto, Onto.onto, Before, Before.ended, After, After.begun}
 use Rattle.grammar.specs.Policies.{Span, Root, Literal, text, number, truth, Operand, attribute, Tree, both, either, Part, any, typed, Actions, Policy}
-use Rattle.grammar.specs.Rules.{inside, spanOf, isLiteral, literalOf, typeAmong, typeOf, isType, principalTypes, resourceTypes, mostLiterals, mostPolicies, isPattern}
+use Rattle.grammar.specs.Rules.{inside, spanOf, isLiteral, literalOf, typeAmong, typeOf, isType, principalTypes, resourceTypes, isPattern}
 use Rattle.grammar.specs.Grammar.{sizes, spanned, APath, Attribute, rooted, AnOperand, given, Element, element, Listing, Simple, comparison, likeness, listed, held, call, having, Conjunction, Disjunction, ConditionOver, simple, negation, bracketed, conditional, Condition, Typed, ResourceRest, ActionRest, When, PolicyRest, Policies}
 use Rattle.grammar.specs.Grammar as grammar
 use Rattle.placing.specs.Placed.{quotedAt, StringPlaced, NumberPlaced, PathPlaced, Each, none-left, and-each, LiteralPlaced, a-string, a-number, a-truth, ActionPlaced, an-action, OperandPlaced, an-attribute, a-literal, Listed, TreePlaced, a-constant, a-comparison, a-likeness, in-list, in-attribute, a-call, a-presence, a-negation, in-brackets, a-conjunction, a-disjunction, a-choice, depth, PrincipalPlaced, any-principal, principal-type, ResourcePlaced, any-resource, resource-type, one-resource, ActionsPlaced, any-action, one-of, ConditionPlaced, no-condition, a-condition, PolicyPlaced, PoliciesPlaced}
@@ -122,7 +123,7 @@ module _ {t : List ℕ} where
     where
       go : {i r : List Lexeme} {a : Operand} → AnOperand sizes i r a → FromText t i → OperandPlaced t a × FromText t r
       go (given h) f = gives-attribute .at h f
-      go (grammar.AnOperand.plain e) f = (a-literal (literal-placed (head-of f)), tail-of f)
+      go (grammar.AnOperand.literally e) f = (a-literal (literal-placed (head-of f)), tail-of f)
 
   module _ (sort : Lexeme → Bool) (P : Literal → Type 0) (one : (at : ℕ) (x : Lexeme) → sort x ≡ true → Lexed t at x → P (literalOf x)) where
     gives-element : (ls : List Literal) → Each P ls → Gives t (Element sizes sort ls) (Listed P)

@@ -8,7 +8,7 @@ use lib.ListN.{take, drop}
 use lib.Seq.{take-take, drop-drop}
 use Rattle.grammar.specs.Policies.{Span, Literal, text, number, truth, Operand, attribute, literal, Tree, constant, compare, like, among, within, contains, has, not, brackets, both, either, choice, Part, any, typed, pinned, Actions, every, oneOf}
 use Rattle.tokens.specs.Blanks.{unblanked}
-use Rattle.placing.specs.Placed.{bytesAt, quotedAt, pathAt, Each, and-each}
+use Rattle.placing.specs.Placed.{bytesAt, quotedAt, unblankedAt, Each, and-each}
 use Rattle.placing.specs.Said.{literalWords, listWords, operandWords, treeWords, partWords, actionWords, conditionWords, wordsOf}
 use Rattle.placing.specs.Words.{literalPlaces, listPlaces, operandPlaces, treePlaces, partPlaces, actionPlaces, conditionPlaces, policyPlaces, SameAt, SaidAlike, AllSaidAlike}
 use Rattle.placing.proofs.EachLaws.{each-first, each-rest, each-left, each-right}
@@ -28,7 +28,7 @@ module _ (t t' : List ℕ) where
   quoted-alike : (s : Span) → SameAt t t' s → quotedAt t s ≡ quotedAt t' s
   quoted-alike s h = quoted-by t s ∙ ap (λ (l : List ℕ). take (s .end - s .start - 2) (drop 1 l)) (h .same) ∙ sym (quoted-by t' s)
 
-  path-alike : (s : Span) → SameAt t t' s → pathAt t s ≡ pathAt t' s
+  path-alike : (s : Span) → SameAt t t' s → unblankedAt t s ≡ unblankedAt t' s
   path-alike s h = ap unblanked (h .same)
 
   -- ---- conditions

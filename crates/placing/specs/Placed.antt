@@ -8,13 +8,14 @@ use lib.ListN.{length, getD, take, drop}
 use Rattle.slices.specs.Ascii.{bytes}
 use Rattle.tokens.specs.Blanks.{unblanked}
 use Rattle.tokens.specs.Kinds as kinds
-use Rattle.tokens.specs.Runs.{is}
+use Rattle.tokens.specs.Runs.{isOf}
 use Rattle.tokens.specs.Words.{wordKind}
 use Rattle.tokens.specs.Forms.{All, quote}
 use Rattle.tokens.specs.declared.classes.Sort.the-variants.{Letters, WordBytes, StringBytes}
+use Rattle.tokens.specs.Sizes.{mostPathBytes, mostLiterals, mostPolicies, mostStringBytes, mostLevels}
 use Rattle.numbers.specs.Literals.{IsNumber}
 use Rattle.grammar.specs.Policies.{Span, Root, Root.Action, Comparator, Literal, text, number, truth, Operand, attribute, literal, Which, Tree, constant, compare, like, among, within, contains, has, not, brackets, both, either, choice, Part, any, typed, pinned, Actions, every, oneOf, Policy}
-use Rattle.grammar.specs.Rules.{isPattern, mostPathBytes, mostLiterals, mostPolicies}
+use Rattle.grammar.specs.Rules.{isPattern}
 
 -- ---- bytes
 
@@ -27,12 +28,12 @@ abbrev pub quotedAt : List ℕ → Span → List ℕ
 quotedAt t s = take (s .end - s .start - 2) (drop (s .start + 1) t)
 
 -- the bytes of the path at a span: blanks may stand about its dots
-abbrev pub pathAt : List ℕ → Span → List ℕ
-pathAt t s = unblanked (bytesAt t s)
+abbrev pub unblankedAt : List ℕ → Span → List ℕ
+unblankedAt t s = unblanked (bytesAt t s)
 
 -- a name: a letter, then word bytes, and no reserved word
 pub data IsName : List ℕ → Type 0 where
-  a-name : {b : ℕ} {rest : List ℕ} → is Letters b ≡ true → All WordBytes rest → wordKind (b ∷ rest) ≡ kinds.name → IsName (b ∷ rest)
+  a-name : {b : ℕ} {rest : List ℕ} → isOf Letters b ≡ true → All WordBytes rest → wordKind (b ∷ rest) ≡ kinds.name → IsName (b ∷ rest)
 
 -- a path: names joined by dots
 pub data IsPath : List ℕ → Type 0 where
@@ -50,7 +51,7 @@ pub record Lies (t : List ℕ) (s : Span) : Type 0 where
 pub record StringPlaced (t : List ℕ) (s : Span) : Type 0 where
   pub lies : Lies t s
   pub two : s .start + 2 ≤ s .end
-  pub few : s .end ≤ s .start + 129
+  pub few : s .end ≤ s .start + (mostStringBytes + 2)
   pub opened : getD t (s .start) 0 ≡ quote
   pub inside : All StringBytes (quotedAt t s)
   pub closed : getD t (s .end - 1) 0 ≡ quote
@@ -63,9 +64,9 @@ pub record NumberPlaced (t : List ℕ) (s : Span) : Type 0 where
 -- a path after a root: at most 64 bytes with its dots, and after action only `name`
 pub record PathPlaced (t : List ℕ) (root : Root) (s : Span) : Type 0 where
   pub lies : Lies t s
-  pub path : IsPath (pathAt t s)
-  pub few : length (pathAt t s) ≤ mostPathBytes
-  pub action : root ≡ Action → pathAt t s ≡ bytes "name"
+  pub path : IsPath (unblankedAt t s)
+  pub few : length (unblankedAt t s) ≤ mostPathBytes
+  pub action : root ≡ Action → unblankedAt t s ≡ bytes "name"
 
 -- ---- literals, operands, lists
 
@@ -148,7 +149,7 @@ pub data ActionsPlaced (t : List ℕ) : Actions → Type 0 where
 -- a condition, if there is one: it nests to 32 levels
 pub data ConditionPlaced (t : List ℕ) : Option Tree → Type 0 where
   no-condition : ConditionPlaced t none
-  a-condition : {c : Tree} → TreePlaced t c → depth c ≤ 32 → ConditionPlaced t (some c)
+  a-condition : {c : Tree} → TreePlaced t c → depth c ≤ mostLevels → ConditionPlaced t (some c)
 
 -- a policy: its parts and its condition
 pub record PolicyPlaced (t : List ℕ) (p : Policy) : Type 0 where

@@ -3,7 +3,7 @@ use mathlib.Core.List.{List, [], _∷_}
 use mathlib.Core.Option.{Option, none, some}
 use Prim.Native.Nat.{ℕ}
 use Rattle.grammar.specs.Policies.{LiteralOf, text, number, truth, OperandOf, attribute, literal, TreeOf, constant, compare, like, among, within, contains, has, not, brackets, both, either, choice, PartOf, any, typed, pinned, ActionsOf, every, oneOf, PolicyOf, Literal, Operand, Tree, Part, Actions, Policy}
-use Rattle.placing.specs.Placed.{bytesAt, quotedAt, pathAt}
+use Rattle.placing.specs.Placed.{bytesAt, quotedAt, unblankedAt}
 
 -- a path without its blanks, what stands between a string's quotes, the bytes of a number
 abbrev pub Word : Type 0
@@ -21,7 +21,7 @@ listWords t [] = []
 listWords t (l ∷ ls) = literalWords t l ∷ listWords t ls
 
 unfoldable pub operandWords : List ℕ → Operand → OperandOf Word
-operandWords t (attribute root s) = attribute root (pathAt t s)
+operandWords t (attribute root s) = attribute root (unblankedAt t s)
 operandWords t (literal l) = literal (literalWords t l)
 
 unfoldable pub treeWords : List ℕ → Tree → TreeOf Word
@@ -29,9 +29,9 @@ treeWords t (constant b) = constant b
 treeWords t (compare c a b) = compare c (operandWords t a) (operandWords t b)
 treeWords t (like a s) = like (operandWords t a) (quotedAt t s)
 treeWords t (among a ls) = among (operandWords t a) (listWords t ls)
-treeWords t (within a root s) = within (operandWords t a) root (pathAt t s)
-treeWords t (contains w root s ls) = contains w root (pathAt t s) (listWords t ls)
-treeWords t (has root s) = has root (pathAt t s)
+treeWords t (within a root s) = within (operandWords t a) root (unblankedAt t s)
+treeWords t (contains w root s ls) = contains w root (unblankedAt t s) (listWords t ls)
+treeWords t (has root s) = has root (unblankedAt t s)
 treeWords t (not a) = not (treeWords t a)
 treeWords t (brackets a) = brackets (treeWords t a)
 treeWords t (both a b) = both (treeWords t a) (treeWords t b)

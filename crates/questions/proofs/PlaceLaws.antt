@@ -9,12 +9,12 @@ use native.Mathlib.Omega.{arith}
 use lib.Dec.{eqb, ltb}
 use lib.ListN.{length, getD, set}
 use lib.Seq.{getD-set-same, getD-set-other}
-use Rattle.bags.specs.Reading.{place, many}
+use Rattle.bags.specs.Reading.{endPlace, many}
 use Rattle.bags.specs.declared.After.{After}
 use Rattle.bags.specs.declared.After.the-variants.{At}
 use Rattle.bags.proofs.ReadLaws.{same-end, nth, each-done, each-more}
 use Rattle.questions.specs.Columns.{candidateEnd, countAt, columnEnd}
-use Rattle.questions.specs.Questions.{headOf, countOf, choiceOf, cell, rowsOf}
+use Rattle.questions.specs.Questions.{headOf, countOf, choiceAt, cell, rowsOf}
 use Rattle.questions.proofs.ColumnLaws.{Columned, column-at}
 
 -- ---- a store
@@ -69,17 +69,17 @@ column-of s n at last columns i l = let r = nth (columnEnd s) n i at last l colu
 module _ (s : List ℕ) (at : ℕ) where
   pub grid-none : (i j : ℕ) → 0 ≡ cell s at 0 i j
   unfolding cell
-  grid-none i j = first-none (λ i. choiceOf s (headOf s at i) j) i
+  grid-none i j = first-none (λ i. choiceAt s (headOf s at i) j) i
 
   pub grid-more : (grid : List (List ℕ)) (n next : ℕ) (cells : List ℕ) → n < length grid → many n (columnEnd s) at ≡ At next
-      → ((j : ℕ) → j < 8 → getD cells j 0 ≡ firstOf (countOf s next) (λ j. place (many j (candidateEnd s) (countAt s next + 1))) j)
+      → ((j : ℕ) → j < 8 → getD cells j 0 ≡ firstOf (countOf s next) (λ j. endPlace (many j (candidateEnd s) (countAt s next + 1))) j)
       → ((i j : ℕ) → i < 6 → j < 8 → getD (getD grid i []) j 0 ≡ cell s at n i j)
       → (i j : ℕ) → i < 6 → j < 8 → getD (getD (set grid n cells) i []) j 0 ≡ cell s at (n + 1) i j
-  unfolding cell choiceOf
+  unfolding cell choiceAt
   grid-more grid n next cells fits is cells-are grid-is i j hi hj =
       set-cases grid n cells [] fits (λ x. getD x j 0 ≡ cell s at (n + 1) i j) i
-      (λ e. cells-are j hj ∙ ap (λ (a : After). choiceOf s (place a) j) (sym is) ∙ ap (λ (i : ℕ). choiceOf s (headOf s at i) j) (sym e) ∙ first-here (λ i. choiceOf s (headOf s at i) j) i n e)
-      (λ d. grid-is i j hi hj ∙ first-before (λ i. choiceOf s (headOf s at i) j) i n d)
+      (λ e. cells-are j hj ∙ ap (λ (a : After). choiceAt s (endPlace a) j) (sym is) ∙ ap (λ (i : ℕ). choiceAt s (headOf s at i) j) (sym e) ∙ first-here (λ i. choiceAt s (headOf s at i) j) i n e)
+      (λ d. grid-is i j hi hj ∙ first-before (λ i. choiceAt s (headOf s at i) j) i n d)
 
 -- ---- rows
 

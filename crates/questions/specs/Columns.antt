@@ -14,6 +14,7 @@ use Rattle.bags.specs.declared.After.the-variants.{At}
 use Rattle.questions.specs.Distinct.{distinct}
 use Rattle.questions.specs.declared.elements.Element.{Element}
 use Rattle.questions.specs.declared.elements.Element.the-variants.{Candidate, Column}
+use Rattle.questions.specs.Sizes.{mostCandidates}
 
 -- a candidate: a kind byte and a value; kind 0 has no value
 unfoldable pub candidateEnd : List ℕ → ℕ → After
@@ -37,7 +38,7 @@ candidatesEnd n s at = only (distinct (each n (candidateEnd s) (nameOf Candidate
 
 -- a root byte of 1 to 3, and a count byte of 1 to 8
 unfoldable pub headOk : ℕ → ℕ → Bool
-headOk root count = leb 1 root && leb root 3 && leb 1 count && leb count 8
+headOk root count = leb 1 root && leb root 3 && leb 1 count && leb count mostCandidates
 
 -- a column: a root byte, a path length, the path, a count byte, and that many candidates
 unfoldable pub columnEnd : List ℕ → ℕ → After

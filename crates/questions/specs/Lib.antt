@@ -1,3 +1,4 @@
+pub mod Sizes
 pub mod Distinct
 pub mod Columns
 pub mod Questions

@@ -6,6 +6,8 @@ ghost use Rattle.questions.specs.Columns.{candidateEnd, candidatesEnd, h
 ghost use Rattle.questions.specs.Questions.{fourthEnd};
 use crate::elements::Element;
 use crate::elements::all_differ;
+use crate::sizes::MOST_CANDIDATES;
+use crate::sizes::MOST_COLUMNS;
 use bags::After;
 use bags::paths::is_path;
 use bags::values::ABSENT;
@@ -62,7 +64,7 @@ fn candidates_end(n: usize, s: &[u8], at: usize) -> After
 fn head_ok(root: u8, count: u8) -> bool
     ensures { λ r. ⌜ r ≡ headOk root count ⌝ }
 {
-    (1 <= root) & (root <= 3) & (1 <= count) & (count <= 8)
+    (1 <= root) & (root <= 3) & (1 <= count) & (count as usize <= MOST_CANDIDATES)
 }
 
 fn column_end(classes: &[u8; 256], s: &[u8], at: usize) -> After
@@ -135,7 +137,7 @@ pub fn fourth_end(classes: &[u8; 256], s: &[u8], at: usize) -> After
         return After::Bad;
     }
     let n = s[at] as usize;
-    if 6 < n {
+    if MOST_COLUMNS < n {
         return After::Bad;
     }
     columns_end(classes, n, s, at + 1)

@@ -5,20 +5,23 @@ ghost use mathlib.Core.List.{[]};
 ghost use Prim.Native.Nat.{ℕ, _+_, _≤_, _<_};
 ghost use lib.Dec.{ltb};
 ghost use lib.ListN.{getD};
-ghost use Rattle.bags.specs.Reading.{many, place};
+ghost use Rattle.bags.specs.Reading.{many, endPlace};
 ghost use Rattle.bags.specs.declared.After.the-variants.{At};
 ghost use Rattle.questions.specs.Columns.{candidateEnd, columnEnd};
 ghost use Rattle.questions.specs.Questions.{headOf, cell, rowsOf};
+ghost use Rattle.questions.specs.Sizes.{mostColumns, mostCandidates, mostRows};
 use crate::elements::candidate_next;
 use crate::elements::column_next;
+use crate::sizes::MOST_CANDIDATES;
+use crate::sizes::MOST_COLUMNS;
 
 // The places of the `n` candidates from `at`, and 0 past the last.
-fn candidate_places(s: &[u8], at: usize, n: usize) -> [usize; 8]
-    requires { ⌜ n ≤ 8 ⌝ }
+fn candidate_places(s: &[u8], at: usize, n: usize) -> [usize; MOST_CANDIDATES]
+    requires { ⌜ n ≤ mostCandidates ⌝ }
     requires { ⌜ ((e : ℕ) × (many n (candidateEnd (now s)) at ≡ At e)) ⌝ }
-    ensures { λ r. ⌜ ((j : ℕ) → j < 8 → getD r j 0 ≡ cond (ltb j n) (place (many j (candidateEnd (now (s .entry))) at)) 0) ⌝ }
+    ensures { λ r. ⌜ ((j : ℕ) → j < mostCandidates → getD r j 0 ≡ cond (ltb j n) (endPlace (many j (candidateEnd (now (s .entry))) at)) 0) ⌝ }
 {
-    let mut cells = [0usize; 8];
+    let mut cells = [0usize; MOST_CANDIDATES];
     let mut next = at;
     let mut j = 0;
     while j < n {
@@ -30,12 +33,12 @@ fn candidate_places(s: &[u8], at: usize, n: usize) -> [usize; 8]
 }
 
 // The places of the candidates of the `n` columns from `at`, by column and choice; 0 where there is none.
-pub fn places(s: &[u8], at: usize, n: usize) -> [[usize; 8]; 6]
-    requires { ⌜ n ≤ 6 ⌝ }
+pub fn places(s: &[u8], at: usize, n: usize) -> [[usize; MOST_CANDIDATES]; MOST_COLUMNS]
+    requires { ⌜ n ≤ mostColumns ⌝ }
     requires { ⌜ ((e : ℕ) × (many n (columnEnd (now s)) at ≡ At e)) ⌝ }
-    ensures { λ r. ⌜ ((i j : ℕ) → i < 6 → j < 8 → getD (getD r i []) j 0 ≡ cell (now (s .entry)) at n i j) ⌝ }
+    ensures { λ r. ⌜ ((i j : ℕ) → i < mostColumns → j < mostCandidates → getD (getD r i []) j 0 ≡ cell (now (s .entry)) at n i j) ⌝ }
 {
-    let mut grid = [[0usize; 8]; 6];
+    let mut grid = [[0usize; MOST_CANDIDATES]; MOST_COLUMNS];
     let mut next = at;
     let mut i = 0;
     while i < n {
@@ -49,12 +52,12 @@ pub fn places(s: &[u8], at: usize, n: usize) -> [[usize; 8]; 6]
 }
 
 // The places of the `n` columns from `at`, and 0 past the last.
-pub fn heads(s: &[u8], at: usize, n: usize) -> [usize; 6]
-    requires { ⌜ n ≤ 6 ⌝ }
+pub fn heads(s: &[u8], at: usize, n: usize) -> [usize; MOST_COLUMNS]
+    requires { ⌜ n ≤ mostColumns ⌝ }
     requires { ⌜ ((e : ℕ) × (many n (columnEnd (now s)) at ≡ At e)) ⌝ }
-    ensures { λ r. ⌜ ((i : ℕ) → i < 6 → getD r i 0 ≡ cond (ltb i n) (headOf (now (s .entry)) at i) 0) ⌝ }
+    ensures { λ r. ⌜ ((i : ℕ) → i < mostColumns → getD r i 0 ≡ cond (ltb i n) (headOf (now (s .entry)) at i) 0) ⌝ }
 {
-    let mut starts = [0usize; 6];
+    let mut starts = [0usize; MOST_COLUMNS];
     let mut next = at;
     let mut i = 0;
     while i < n {
@@ -67,10 +70,10 @@ pub fn heads(s: &[u8], at: usize, n: usize) -> [usize; 6]
 
 // The number of rows of the `n` columns from `at`.
 pub fn rows(s: &[u8], at: usize, n: usize) -> usize
-    requires { ⌜ n ≤ 6 ⌝ }
+    requires { ⌜ n ≤ mostColumns ⌝ }
     requires { ⌜ ((e : ℕ) × (many n (columnEnd (now s)) at ≡ At e)) ⌝ }
     ensures is { λ r. ⌜ r ≡ rowsOf n (now (s .entry)) at ⌝ }
-    ensures few { λ r. ⌜ r ≤ 262144 ⌝ }
+    ensures few { λ r. ⌜ r ≤ mostRows ⌝ }
 {
     let mut total = 1;
     let mut left = n;

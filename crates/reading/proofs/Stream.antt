@@ -10,15 +10,15 @@ use borrow.Author.Tests.{ne-eqb, eqb-true, eqb-false}
 use Rattle.tokens.specs.declared.reader.Token.{Token}
 use Rattle.tokens.specs.Tokens.{tokenAt}
 use Rattle.tokens.proofs.ReadLaws.{reads}
-use Rattle.reading.specs.Lexemes.{Lexeme, lexeme, choose, following, tokensUpTo, tokensFrom, stream}
+use Rattle.reading.specs.Lexemes.{Lexeme, lexeme, choose, tokensAfter, tokensUpTo, tokensFrom, stream}
 use Rattle.reading.specs.Reader.{Reader, on}
 use Rattle.reading.proofs.Readers.{on-token, on-other}
 
 module _ (text : List ℕ) where
   -- the token at a place, and then f or g: they need only agree on what is left
   followed : (f g : ℕ → List Lexeme) (at : ℕ) → at ≤ length text → ((end : ℕ) → at < end → end ≤ length text → f end ≡ g end)
-      → following text (tokenAt text at) f ≡ following text (tokenAt text at) g
-  unfolding following choose
+      → tokensAfter text (tokenAt text at) f ≡ tokensAfter text (tokenAt text at) g
+  unfolding tokensAfter choose
   followed f g at h k = go (eqb (tokenAt text at .kind) 0) refl
     where
       go : (b : Bool) → eqb (tokenAt text at .kind) 0 ≡ b
@@ -42,11 +42,11 @@ module _ (text : List ℕ) where
 
   module _ (t : Token) where
     pub stream-end : t .kind ≡ 0 → stream text t ≡ []
-    unfolding stream following choose
+    unfolding stream tokensAfter choose
     stream-end e = rw e
 
     pub stream-token : (t .kind ≡ 0 → ⊥) → stream text t ≡ lexeme text t ∷ tokensFrom text (t .end)
-    unfolding stream following choose
+    unfolding stream tokensAfter choose
     stream-token e = rw (ne-eqb (t .kind) 0 e)
 
     -- with the next token n

@@ -15,13 +15,13 @@ choose true f g = f tt
 choose false f g = g tt
 
 -- a token of a text, and those that `rest` gives from its end on; none where it is the end of the text
-unfoldable pub following : List ℕ → Token → (ℕ → List Lexeme) → List Lexeme
-following text t rest = choose (eqb (t .kind) endOfText) (λ _. []) (λ _. lexeme text t ∷ rest (t .end))
+unfoldable pub tokensAfter : List ℕ → Token → (ℕ → List Lexeme) → List Lexeme
+tokensAfter text t rest = choose (eqb (t .kind) endOfText) (λ _. []) (λ _. lexeme text t ∷ rest (t .end))
 
 -- the first n tokens of a text from a place on, or all there are
 unfoldable pub tokensUpTo : ℕ → List ℕ → ℕ → List Lexeme
 tokensUpTo zero text at = []
-tokensUpTo (suc n) text at = following text (tokenAt text at) (tokensUpTo n text)
+tokensUpTo (suc n) text at = tokensAfter text (tokenAt text at) (tokensUpTo n text)
 
 -- the tokens of a text from a place on, up to its end: no text has more tokens than bytes
 unfoldable pub tokensFrom : List ℕ → ℕ → List Lexeme
@@ -29,7 +29,7 @@ tokensFrom text at = tokensUpTo (suc (length text)) text at
 
 -- the tokens of a text from a token on that was read there
 unfoldable pub stream : List ℕ → Token → List Lexeme
-stream text t = following text t (tokensFrom text)
+stream text t = tokensAfter text t (tokensFrom text)
 
 -- all tokens of a text
 abbrev pub tokensOf : List ℕ → List Lexeme

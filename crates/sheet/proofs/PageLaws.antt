@@ -12,12 +12,12 @@ use Rattle.meaning.specs.declared.Decision.{Decision}
 use Rattle.pages.specs.Listing.{yesOf, listed, pageRows, nextRow}
 use Rattle.pages.specs.declared.Page.{Page}
 use Rattle.pages.proofs.Listed.{next-lists, next-within, next-past}
-use Rattle.sheets.specs.Sheets.{rowsAsked, decisions, requestRefusal, refusalOf, unless, answerOf, SheetListed}
+use Rattle.sheets.specs.Sheets.{rowsAsked, decisions, requestRefusal, refusalOf, unless, sheetAnswer, SheetListed}
 use Rattle.sheets.specs.declared.Answer.{Answer}
 use Rattle.sheets.specs.declared.Answer.the-variants.{Listed, Refused}
 use Rattle.sheet.specs.declared.Printed.{Printed}
 use Rattle.sheet.specs.declared.Printed.the-variants.{Rows, Refusal}
-use Rattle.sheet.specs.Printed.{refusalFor, Accepted, PagePrinted, pageRoom, Counted, allListed, printedFor}
+use Rattle.sheet.specs.Printed.{refusalFor, Accepted, PagePrinted, pageRoom, ListedBefore, allListed, printedFor}
 
 -- ---- refusals
 
@@ -37,12 +37,12 @@ module _ {text table s : List ℕ} {q : Request} {start : ℕ} {page after : Lis
   refusal-is long h = rw (le-leb 6 (length page) long, le-leb start (rowsAsked s) h)
 
   pub refusal-told : 6 ≤ length page → start ≤ rowsAsked s → {a : Answer} → answer ≡ a → refusedBy a ≡ refusalFor text table s q
-  unfolding answerOf
+  unfolding sheetAnswer
   refusal-told long h e = ap refusedBy (sym e ∙ l .answered) ∙ told-by (refusalOf text table s q start page 0) _ _ ∙ refusal-is long h
 
   module _ {rows : ℕ} (a : Accepted text table s q rows) (h : start ≤ rows) (long : length page ≡ 60000) where
     answer-is : answer ≡ Listed (length (pageRows (decisions text s q) rows start pageRoom)) (nextRow (decisions text s q) rows start pageRoom)
-    unfolding answerOf unless
+    unfolding sheetAnswer unless
     answer-is = l .answered ∙ rw (refusal-is (omega arith) (rw (← a .counted) (omega arith)), a .no-refusal, a .counted, long) refl
 
     pub page-printed : {written next : ℕ} → answer ≡ Listed written next → PagePrinted text s q rows start (record { written = written; next = next })
@@ -77,7 +77,7 @@ refused-as (suc n) a w o told same e = cc
 -- what is refused on its first page
 pub refusal-printed : {text table s : List ℕ} {q : Request} {page after : List ℕ} {answer : Answer} {number : ℕ} → SheetListed text table s q 0 page 0 answer after
     → 6 ≤ length page → answer ≡ Refused number → Refusal number ≡ printedFor text table s q
-unfolding printedFor answerOf
+unfolding printedFor sheetAnswer
 refusal-printed l long e = refused-as _ _ _ _ (l .answered) (refusal-is l long (omega arith)) e
 
 -- what is accepted
@@ -117,7 +117,7 @@ all-counted d rows start e h =
     omega arith
 
 -- behind the first page
-pub first-counted : {text s : List ℕ} {q : Request} {rows : ℕ} {page : Page} → PagePrinted text s q rows 0 page → Counted text s q rows (page .next) (page .written)
+pub first-counted : {text s : List ℕ} {q : Request} {rows : ℕ} {page : Page} → PagePrinted text s q rows 0 page → ListedBefore text s q rows (page .next) (page .written)
 first-counted w = record { all = rows-joined w (omega arith); within = goes-within w (omega arith); few = omega (arith, few-written w (omega arith)) }
 
 -- what is listed on its first page is accepted, and that page is the sheet's

@@ -4,6 +4,7 @@ use mathlib.Core.Bool.{cond}
 use mathlib.Core.List.{List, [], _∷_, _++_}
 use Prim.Native.Nat.{ℕ, zero, suc, _+_, _*_, _≤_}
 use lib.ListN.{length, getD, take, drop}
+use Rattle.questions.specs.Sizes.{mostRows}
 use Rattle.folder.specs.Decimals.{numbersLine}
 use Rattle.questions.specs.Questions.{isQuestion}
 use Rattle.meaning.specs.Targets.{Request}
@@ -21,7 +22,7 @@ refusalFor text table s q = cond (isQuestion s) (requestRefusal text table q) 24
 pub record Accepted (text table s : List ℕ) (q : Request) (rows : ℕ) : Type 0 where
   pub no-refusal : refusalFor text table s q ≡ 0
   pub counted : rows ≡ rowsAsked s
-  pub few : rows ≤ 262144
+  pub few : rows ≤ mostRows
 
 -- a page that is printed has up to 10,000 rows
 abbrev pub pageRoom : ℕ
@@ -37,7 +38,7 @@ abbrev pub allListed : List ℕ → List ℕ → Request → ℕ → ℕ
 allListed text s q rows = length (listed (decisions text s q) rows 0)
 
 -- so many rows are listed before a start row
-pub record Counted (text s : List ℕ) (q : Request) (rows start before : ℕ) : Type 0 where
+pub record ListedBefore (text s : List ℕ) (q : Request) (rows start before : ℕ) : Type 0 where
   pub all : before + length (listed (decisions text s q) rows start) ≡ allListed text s q rows
   pub within : start ≤ rows
   pub few : before ≤ pageRoom * start + pageRoom

@@ -2,10 +2,11 @@
 ghost use mathlib.Core.Path.{_≡_};
 ghost use Prim.Native.Nat.{_+_, _*_, _≤_, _<_};
 ghost use lib.ListN.{length, drop};
+ghost use Rattle.pages.specs.Listing.{rowSize};
 ghost use Rattle.folder.specs.Added.{Added};
 ghost use Rattle.targets.specs.Matching.{request};
 ghost use Rattle.sheet.specs.Lines.{requestIn, EndsAt, GoesOnAt};
-ghost use Rattle.sheet.specs.Printed.{Accepted, PagePrinted, Counted, RowsPut, rowAt, pageRoom, allListed, printedFor};
+ghost use Rattle.sheet.specs.Printed.{Accepted, PagePrinted, ListedBefore, RowsPut, rowAt, pageRoom, allListed, printedFor};
 use compiling::Compiled;
 use compiling::compile;
 use folder::cases::wide;
@@ -15,6 +16,7 @@ use folder::lines::put_three;
 use folder::read_file;
 use libc::STDOUT_FILENO;
 use pages::Page;
+use pages::listing::ROW_SIZE;
 use sheets::Answer;
 use sheets::row_count;
 use sheets::sheet;
@@ -72,7 +74,7 @@ fn number4(a: u8, b: u8, c: u8, d: u8) -> usize
 
 // The line of the row that lies at a byte of a page: row number, outcome and policy.
 fn put_row(page: &[u8], at: usize, out: &mut [u8], filled: usize) -> usize
-    requires { ⌜ (at + 6 ≤ length (now page)) × (filled + 63 ≤ length (now out)) ⌝ }
+    requires { ⌜ (at + rowSize ≤ length (now page)) × (filled + 63 ≤ length (now out)) ⌝ }
     ensures { λ r. ⌜ Added (now (out .entry)) filled (rowAt (drop at (now (page .entry)))) (now (out .exit)) r × (r ≤ filled + 19) ⌝ }
 {
     let row = number4(page[at], page[at + 1], page[at + 2], page[at + 3]);
@@ -83,7 +85,7 @@ fn put_row(page: &[u8], at: usize, out: &mut [u8], filled: usize) -> usize
 
 // The lines of so many rows of a page.
 fn put_rows(page: &[u8], written: usize, out: &mut [u8]) -> usize
-    requires { ⌜ (6 * written ≤ length (now page)) × (19 * written + 63 ≤ length (now out)) ⌝ }
+    requires { ⌜ (rowSize * written ≤ length (now page)) × (19 * written + 63 ≤ length (now out)) ⌝ }
     ensures { λ r. ⌜ RowsPut (now (page .entry)) written (now (out .exit)) r ⌝ }
 {
     let mut left = written;
@@ -91,7 +93,7 @@ fn put_rows(page: &[u8], written: usize, out: &mut [u8]) -> usize
     let mut filled = 0;
     while 0 < left {
         filled = put_row(page, at, out, filled);
-        at += 6;
+        at += ROW_SIZE;
         left -= 1;
     }
     filled
@@ -99,7 +101,7 @@ fn put_rows(page: &[u8], written: usize, out: &mut [u8]) -> usize
 
 // Prints so many rows of a page, at once.
 fn print_rows(page: &[u8], written: usize)
-    requires { ⌜ (6 * written ≤ length (now page)) × (written ≤ pageRoom) ⌝ }
+    requires { ⌜ (rowSize * written ≤ length (now page)) × (written ≤ pageRoom) ⌝ }
 {
     let mut out = [0u8; 190063]; // 19 bytes for each of 10,000 rows, and room for a line of any numbers
     let n = put_rows(page, written, &mut out);
@@ -159,7 +161,7 @@ fn print_pages<'a>(
     before: usize,
 ) -> usize
     requires { ⌜ Accepted (now text) (now table) (now question) (request (now subject) (now action) (now resource)) rows ⌝ }
-    requires { ⌜ Counted (now text) (now question) (request (now subject) (now action) (now resource)) rows first before ⌝ }
+    requires { ⌜ ListedBefore (now text) (now question) (request (now subject) (now action) (now resource)) rows first before ⌝ }
     ensures { λ r. ⌜ r ≡ allListed (now (text .entry)) (now (question .entry))
         (request (now (subject .entry)) (now (action .entry)) (now (resource .entry))) rows ⌝ }
 {

@@ -24,7 +24,7 @@ use Rattle.deciding.specs.Answers.{wordsIn}
 use Rattle.deciding.proofs.HeldLaws.{held-says}
 use Rattle.pages.specs.Listing.{rowSize, PageWritten}
 use Rattle.pages.specs.declared.Page.{Page}
-use Rattle.sheets.specs.Sheets.{rowsIn, rowsAsked, decisionBy, decisionAt, dividedAs, sectionsIn, requestRefusal, refusalOf, unless, PartListed, answerOf, sheetAfter, SheetListed}
+use Rattle.sheets.specs.Sheets.{rowsIn, rowsAsked, decisionBy, decisionAt, dividedAs, sectionsIn, requestRefusal, refusalOf, unless, PartListed, sheetAnswer, sheetAfter, SheetListed}
 use Rattle.sheets.specs.declared.Answer.{Answer}
 use Rattle.sheets.specs.declared.Answer.the-variants.{Listed, Refused}
 
@@ -89,7 +89,7 @@ joined-back at sheet (suc n) written after e = rw e (take-append-drop at sheet)
 
 module _ (text table s : List ℕ) (q : Request) (start : ℕ) (sheet : List ℕ) (at : ℕ) where
   refused-with : (n : ℕ) → refusalOf text table s q start sheet at ≡ suc n → SheetListed text table s q start sheet at (Refused (suc n)) sheet
-  unfolding unless answerOf sheetAfter
+  unfolding unless sheetAnswer sheetAfter
   refused-with n e = record { answered = rw e; sheet = rw e }
 
   pub refused-25 : length sheet < at + rowSize → SheetListed text table s q start sheet at (Refused 25) sheet
@@ -118,7 +118,7 @@ module _ (text table s : List ℕ) (q : Request) (start : ℕ) (sheet : List ℕ
       pub listed-there : start ≤ rowsIn s p → {answer : Answer} {after : List ℕ}
           → PartListed text table s p q start (take (length sheet - at) (drop at sheet)) answer after
           → SheetListed text table s q start sheet at answer (putMid at (length sheet - at) sheet after)
-      unfolding answerOf sheetAfter
+      unfolding sheetAnswer sheetAfter
       listed-there g {answer} {after} w =
           let v : PartListed text table s (sectionsIn s) q start (drop at sheet) answer after = rw (sections-are, ← tail-lent at sheet) w in
           record { answered = rw (passes g) (v .answered); sheet = rw (tail-back at sheet after, passes g) (joined-back at sheet (requestRefusal text table q) _ after (v .bytes)) }

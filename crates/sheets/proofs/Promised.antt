@@ -26,11 +26,11 @@ use Rattle.deciding.specs.Promise.{Wellformed, RequestRefused, bad-subject, bad
 use Rattle.deciding.proofs.Promised.{begun, begins-then, not-begun, begins-not}
 use Rattle.pages.specs.Rows.{countsOf, Combination}
 use Rattle.pages.specs.Lines.{counts}
-use Rattle.pages.specs.Listing.{listed, pageRows, nextRow, rowSize, bytesOf, roomIn, PageWritten}
+use Rattle.pages.specs.Listing.{listed, pageRows, nextRow, rowSize, rowsBytes, roomIn, PageWritten}
 use Rattle.pages.proofs.Progress.{bytes-length}
 use Rattle.pages.proofs.Listed.{next-within, next-past}
 use Rattle.pages.proofs.AskedForms.{counts-are, combination-shows}
-use Rattle.sheets.specs.Sheets.{countsIn, sectionsIn, dividedAs, decisionBy, decisions, rowsAsked, requestRefusal, refusalOf, unless, writtenOver, answerOf, sheetAfter, Said, saidOf, saidTo}
+use Rattle.sheets.specs.Sheets.{countsIn, sectionsIn, dividedAs, decisionBy, decisions, rowsAsked, requestRefusal, refusalOf, unless, writtenOver, sheetAnswer, sheetAfter, SheetSaid, sheetSaid, saidTo}
 use Rattle.sheets.specs.Promise.{SheetCall, Wellasked, SheetRefused, no-room, no-question, above, never-the-system, bad-request, not-compiled, none-wrong, SheetRefusedExactly, ListedAlike}
 use Rattle.sheets.specs.declared.Answer.the-variants.{Listed, Refused}
 
@@ -64,8 +64,8 @@ module _ {s : List ℕ} {base : Contents} {cs : List Column} (w : QuestionBytes 
 
 -- ---- a call that lists
 
-none-refused : (n w o : ℕ) → saidOf (unless n (Listed w o) Refused) .refusal ≡ 0 → n ≡ 0
-unfolding unless saidOf
+none-refused : (n w o : ℕ) → sheetSaid (unless n (Listed w o) Refused) .refusal ≡ 0 → n ≡ 0
+unfolding unless sheetSaid
 none-refused zero w o e = refl
 none-refused (suc n) w o e = e
 
@@ -82,11 +82,11 @@ module _ (text table s : List ℕ) (q : Request) (start : ℕ) (sheet : List ℕ
   abbrev room : ℕ
   room = roomIn (drop at sheet)
 
-  abbrev said : Said
+  abbrev said : SheetSaid
   said = saidTo text table s q start sheet at
 
   accepted : refusalOf text table s q start sheet at ≡ 0
-  unfolding answerOf
+  unfolding sheetAnswer
   accepted = none-refused (refusalOf text table s q start sheet at) (length (pageRows d (rowsAsked s) start room)) (nextRow d (rowsAsked s) start room) e
 
   pub passed : (at + rowSize ≤ length sheet) × (start ≤ rowsAsked s)
@@ -96,11 +96,11 @@ module _ (text table s : List ℕ) (q : Request) (start : ℕ) (sheet : List ℕ
       (leb-true (at + rowSize) (length sheet) (t .0), leb-true start (rowsAsked s) (t .2))
 
   written-is : length (pageRows d (rowsAsked s) start room) ≡ said .written
-  unfolding answerOf unless saidOf
+  unfolding sheetAnswer unless sheetSaid
   written-is = rw accepted
 
   next-is : nextRow d (rowsAsked s) start room ≡ said .next
-  unfolding answerOf unless saidOf
+  unfolding sheetAnswer unless sheetSaid
   next-is = rw accepted
 
   after-is : sheetAfter text table s q start sheet at ≡ take at sheet ++ writtenOver d (rowsAsked s) start (drop at sheet)
@@ -127,13 +127,13 @@ module _ (text table s : List ℕ) (q : Request) (start : ℕ) (sheet : List ℕ
   unfolding pageRows
   fits-there = omega (arith, written-is, length-take room (listed d (rowsAsked s) start), passed .0, length-drop at sheet)
 
-  bytes-long : length (bytesOf d (pageRows d (rowsAsked s) start room)) ≡ rowSize * said .written
+  bytes-long : length (rowsBytes d (pageRows d (rowsAsked s) start room)) ≡ rowSize * said .written
   bytes-long = bytes-length d (pageRows d (rowsAsked s) start room) ∙ ap (λ (n : ℕ). rowSize * n) written-is
 
   pub others-there : (take at (sheetAfter text table s q start sheet at) ≡ take at sheet)
       × (drop (at + rowSize * said .written) (sheetAfter text table s q start sheet at) ≡ drop (at + rowSize * said .written) sheet)
   others-there =
-      let bytes = bytesOf d (pageRows d (rowsAsked s) start room) in (
+      let bytes = rowsBytes d (pageRows d (rowsAsked s) start room) in (
         rw after-is (take-at (take at sheet) (writtenOver d (rowsAsked s) start (drop at sheet)) at front),
         sym (drop-drop (rowSize * said .written) at (sheetAfter text table s q start sheet at)) ∙ ap (drop (rowSize * said .written)) part-is
             ∙ drop-at bytes (drop (length bytes) (drop at sheet)) (rowSize * said .written) bytes-long ∙ ap (λ (n : ℕ). drop n (drop at sheet)) bytes-long ∙ drop-drop (rowSize * said .written) at sheet,
@@ -142,20 +142,20 @@ module _ (text table s : List ℕ) (q : Request) (start : ℕ) (sheet : List ℕ
 -- ---- the refusals
 
 -- with a refusal
-refused-as-told : {A : Type 0} (n w o : ℕ) (a b : A) → (saidOf (unless n (Listed w o) Refused) .refusal ≡ 0 → ⊥)
-    → (unless n a (λ _. b) ≡ b) × (saidOf (unless n (Listed w o) Refused) .written ≡ 0) × (saidOf (unless n (Listed w o) Refused) .next ≡ 0)
-unfolding unless saidOf
+refused-as-told : {A : Type 0} (n w o : ℕ) (a b : A) → (sheetSaid (unless n (Listed w o) Refused) .refusal ≡ 0 → ⊥)
+    → (unless n a (λ _. b) ≡ b) × (sheetSaid (unless n (Listed w o) Refused) .written ≡ 0) × (sheetSaid (unless n (Listed w o) Refused) .next ≡ 0)
+unfolding unless sheetSaid
 refused-as-told zero w o a b h = absurd (h refl)
 refused-as-told (suc n) w o a b h = (refl, refl, refl)
 
 -- a refusal changes nothing, and has zeros beside its number
 pub nothing-changed : (text table s : List ℕ) (q : Request) (start : ℕ) (sheet : List ℕ) (at : ℕ) → (saidTo text table s q start sheet at .refusal ≡ 0 → ⊥)
     → (sheetAfter text table s q start sheet at ≡ sheet) × (saidTo text table s q start sheet at .written ≡ 0) × (saidTo text table s q start sheet at .next ≡ 0)
-unfolding answerOf sheetAfter
+unfolding sheetAnswer sheetAfter
 nothing-changed text table s q start sheet at h = refused-as-told (refusalOf text table s q start sheet at) _ _ _ sheet h
 
-number-is : (n w o : ℕ) → saidOf (unless n (Listed w o) Refused) .refusal ≡ n
-unfolding saidOf unless
+number-is : (n w o : ℕ) → sheetSaid (unless n (Listed w o) Refused) .refusal ≡ n
+unfolding sheetSaid unless
 number-is zero w o = refl
 number-is (suc n) w o = refl
 
@@ -223,7 +223,7 @@ module _ (text table s : List ℕ) (q : Request) (start : ℕ) (sheet : List ℕ
   told (none-wrong w f b) = rw (reaches w, f .other, f .subject-is, f .action-is, f .resource-is, begins-then text table b)
 
   refusal-said : saidTo text table s q start sheet at .refusal ≡ refusalOf text table s q start sheet at
-  unfolding answerOf
+  unfolding sheetAnswer
   refusal-said = number-is (refusalOf text table s q start sheet at) _ _
 
 pub sheet-refused-exactly : SheetRefusedExactly
@@ -237,6 +237,6 @@ sheet-refused-exactly c number =
 -- ---- what a text says
 
 pub listed-alike : ListedAlike
-unfolding ListedAlike answerOf sheetAfter refusalOf requestRefusal
+unfolding ListedAlike sheetAnswer sheetAfter refusalOf requestRefusal
 listed-alike text text' table table' s q start sheet at same b b' =
     (rw (begins-then text table b, begins-then text' table' b', same), rw (begins-then text table b, begins-then text' table' b', same))

@@ -3,10 +3,12 @@ use mathlib.Core.Path.{_≡_}
 use mathlib.Core.List.{List}
 use Prim.Native.Nat.{ℕ, _≤_, _<_}
 use lib.ListN.{length}
+use Rattle.tokens.specs.Sizes.{mostPolicies}
 use Rattle.bags.specs.declared.sections.Sections.{Sections}
 use Rattle.questions.specs.Questions.{Question}
 use Rattle.stored.specs.ReadBack.{policiesAt}
 use Rattle.stored.specs.Ready.{ReadyPolicies}
+use Rattle.questions.specs.Sizes.{mostRows}
 use Rattle.meaning.specs.Targets.{Request, isSystem}
 use Rattle.targets.specs.Matching.{TypesOf}
 use Rattle.targets.specs.declared.Types.{Types}
@@ -20,7 +22,7 @@ use Rattle.sheets.specs.declared.writing.Rules.{Rules}
 pub record Asked (s : List ℕ) (p : Sections) (all start : ℕ) : Type 0 where
   pub question : Question s p
   pub all-rows : all ≡ rowsIn s p
-  pub few : all ≤ 262144
+  pub few : all ≤ mostRows
   pub within : start ≤ all
 
 -- The rules for a subject: at most 64 policies that can be evaluated, and, where there are any, the types of subject and resource.
@@ -28,7 +30,7 @@ pub record RulesFor (rules : Rules) (text table subject resource : List ℕ) (ty
   pub whose : rules .system ≡ isSystem subject
   pub ready : ReadyPolicies text table (rules .entries)
   pub many : rules .policies ≡ length (policiesAt table (rules .entries))
-  pub few : rules .policies ≤ 64
+  pub few : rules .policies ≤ mostPolicies
   pub typed : 0 < rules .entries → TypesOf types subject resource
 
 -- a walk over the rows of such a question

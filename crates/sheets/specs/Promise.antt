@@ -15,7 +15,7 @@ use Rattle.deciding.specs.Answers.{wordsIn}
 use Rattle.deciding.specs.Promise.{Wellformed, RequestRefused}
 use Rattle.pages.specs.Lines.{counts}
 use Rattle.pages.specs.Listing.{rowSize}
-use Rattle.sheets.specs.Sheets.{answerOf, sheetAfter, saidTo}
+use Rattle.sheets.specs.Sheets.{sheetAnswer, sheetAfter, saidTo}
 
 -- what a call for a page is lent and told: rule text and table, question, request, start row, sheet, and the byte of it from which on the page is written
 pub record SheetCall : Type 0 where
@@ -59,5 +59,5 @@ SheetRefusedExactly = (c : SheetCall) (number : ℕ)
 unfoldable pub ListedAlike : Type 0
 ListedAlike = (text text' table table' s : List ℕ) (q : Request) (start : ℕ) (sheet : List ℕ) (at : ℕ)
     → wordsIn text ≡ wordsIn text' → Begun text table → Begun text' table'
-    → (answerOf text table s q start sheet at ≡ answerOf text' table' s q start sheet at)
+    → (sheetAnswer text table s q start sheet at ≡ sheetAnswer text' table' s q start sheet at)
     × (sheetAfter text table s q start sheet at ≡ sheetAfter text' table' s q start sheet at)

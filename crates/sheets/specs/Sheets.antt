@@ -16,7 +16,7 @@ use Rattle.meaning.specs.declared.Decision.{Decision}
 use Rattle.deciding.specs.Answers.{wordsIn}
 pub use Rattle.turns.specs.Rows.{columnsIn, firstIn, countsIn, rowsIn, decisionAt}
 unfoldable pub use Rattle.turns.specs.Rows.{decisionBy}
-use Rattle.pages.specs.Listing.{pageRows, nextRow, rowSize, bytesOf, over, roomIn}
+use Rattle.pages.specs.Listing.{pageRows, nextRow, rowSize, rowsBytes, over, roomIn}
 use Rattle.sheets.specs.declared.Answer.{Answer}
 use Rattle.sheets.specs.declared.Answer.the-variants.{Listed, Refused}
 
@@ -57,7 +57,7 @@ listedOn d rows start part = Listed (length (pageRows d rows start (roomIn part)
 
 -- the part afterwards
 abbrev pub writtenOver : (ℕ → Decision) → ℕ → ℕ → List ℕ → List ℕ
-writtenOver d rows start part = over (bytesOf d (pageRows d rows start (roomIn part))) part
+writtenOver d rows start part = over (rowsBytes d (pageRows d rows start (roomIn part))) part
 
 -- a page for a question whose sections are p
 pub record PartListed (text table s : List ℕ) (p : Sections) (q : Request) (start : ℕ) (before : List ℕ) (answer : Answer) (after : List ℕ) : Type 0 where
@@ -75,8 +75,8 @@ abbrev pub rowsAsked : List ℕ → ℕ
 rowsAsked s = rowsIn s (sectionsIn s)
 
 -- what the call answers
-unfoldable pub answerOf : List ℕ → List ℕ → List ℕ → Request → ℕ → List ℕ → ℕ → Answer
-answerOf text table s q start sheet at =
+unfoldable pub sheetAnswer : List ℕ → List ℕ → List ℕ → Request → ℕ → List ℕ → ℕ → Answer
+sheetAnswer text table s q start sheet at =
     unless (refusalOf text table s q start sheet at) (listedOn (decisions text s q) (rowsAsked s) start (drop at sheet)) Refused
 
 -- the sheet afterwards: the page is written into the part from the named byte on; a refusal changes nothing
@@ -86,20 +86,20 @@ sheetAfter text table s q start sheet at =
 
 -- what the call promises
 pub record SheetListed (text table s : List ℕ) (q : Request) (start : ℕ) (before : List ℕ) (at : ℕ) (answer : Answer) (after : List ℕ) : Type 0 where
-  pub answered : answer ≡ answerOf text table s q start before at
+  pub answered : answer ≡ sheetAnswer text table s q start before at
   pub sheet : after ≡ sheetAfter text table s q start before at
 
 -- what document 01 calls an answer: the refusal's number, the rows written and the row to go on with, with 0 for what there is none of
-pub record Said : Type 0 where
+pub record SheetSaid : Type 0 where
   pub refusal : ℕ
   pub written : ℕ
   pub next : ℕ
 
 -- document 01's numbers for each answer
-unfoldable pub saidOf : Answer → Said
-saidOf (Listed written next) = record { refusal = 0; written = written; next = next }
-saidOf (Refused number) = record { refusal = number; written = 0; next = 0 }
+unfoldable pub sheetSaid : Answer → SheetSaid
+sheetSaid (Listed written next) = record { refusal = 0; written = written; next = next }
+sheetSaid (Refused number) = record { refusal = number; written = 0; next = 0 }
 
 -- what the call says
-abbrev pub saidTo : List ℕ → List ℕ → List ℕ → Request → ℕ → List ℕ → ℕ → Said
-saidTo text table s q start sheet at = saidOf (answerOf text table s q start sheet at)
+abbrev pub saidTo : List ℕ → List ℕ → List ℕ → Request → ℕ → List ℕ → ℕ → SheetSaid
+saidTo text table s q start sheet at = sheetSaid (sheetAnswer text table s q start sheet at)

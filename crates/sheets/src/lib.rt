@@ -5,6 +5,7 @@ ghost use mathlib.Core.Path.{_≡_};
 ghost use mathlib.Core.Bool.{false, cond};
 ghost use Prim.Native.Nat.{_≤_};
 ghost use Rattle.tokens.specs.Table.{classTable};
+ghost use Rattle.questions.specs.Sizes.{mostRows};
 ghost use Rattle.meaning.specs.Targets.{isSystem};
 ghost use Rattle.targets.specs.Matching.{request};
 ghost use Rattle.questions.specs.Questions.{isQuestion};
@@ -18,6 +19,7 @@ use bags::sections::Sections;
 use compiling::Held;
 use compiling::held_policies;
 use pages::Page;
+use pages::listing::ROW_SIZE;
 use questions::places::rows;
 use questions::question_sections;
 use targets::Types;
@@ -179,7 +181,7 @@ pub fn sheet<'a>(
         return Answer::Refused(25);
     }
     // no room for the six bytes of a row
-    if sheet.len() - at < 6 {
+    if sheet.len() - at < ROW_SIZE {
         return Answer::Refused(25);
     }
     let classes = class_table();
@@ -212,7 +214,7 @@ pub fn sheet<'a>(
 // How many rows a question has, and 0 where it is none.
 pub fn row_count(question: &[u8]) -> usize
     ensures is { λ r. ⌜ r ≡ cond (isQuestion (now (question .entry))) (rowsAsked (now (question .entry))) 0 ⌝ }
-    ensures few { λ r. ⌜ r ≤ 262144 ⌝ }
+    ensures few { λ r. ⌜ r ≤ mostRows ⌝ }
 {
     let classes = class_table();
     match question_sections(&classes, question) {

@@ -7,21 +7,23 @@ ghost use Rattle.meaning.specs.Targets.{Request};
 ghost use Rattle.sheets.specs.Sheets.{decisionAt};
 ghost use Rattle.sheets.specs.Asked.{Asked, RulesFor, RowsAsked, WalkFor, WalkForSome};
 use bags::sections::Sections;
+use kept::NOTES;
 use kept::Walk;
 use kept::depths::looks;
 use pages::Page;
+use pages::listing::ROW_SIZE;
 use pages::listing::is_allowed;
 use pages::listing::put_row;
 use pages::rows::choices_of;
 use pages::rows::lasts;
 use questions::places::heads;
 use questions::places::places;
+use questions::sizes::MOST_CANDIDATES;
+use questions::sizes::MOST_COLUMNS;
 use targets::Types;
+use tokens::sizes::MOST_POLICIES;
 use turns::take_turn;
 use views::chosen;
-
-// The bytes of a listed row.
-const ROW: usize = 6;
 
 // The rules for a subject: how many policies and entries the table holds, and none for the system.
 pub struct Rules {
@@ -33,13 +35,13 @@ pub struct Rules {
 // Writes the listed rows from a start row on over the start of the part, as many as fit; its other bytes stay.
 fn write_rows<'a>(
     walk: Walk,
-    looks: &[u8; 192],
+    looks: &[u8; 3 * MOST_POLICIES],
     text: &'a [u8],
     table: &[u8],
     s: &'a [u8],
-    starts: &[usize; 6],
-    grid: [[usize; 8]; 6],
-    ends: &[u8; 6],
+    starts: &[usize; MOST_COLUMNS],
+    grid: [[usize; MOST_CANDIDATES]; MOST_COLUMNS],
+    ends: &[u8; MOST_COLUMNS],
     action: &'a [u8],
     all: usize,
     start: usize,
@@ -53,8 +55,8 @@ fn write_rows<'a>(
 {
     let p = walk.p;
     let mut choices = choices_of(ends, start);
-    let mut values = chosen(grid, 6, &choices);
-    let mut notes = [0u8; 512];
+    let mut values = chosen(grid, MOST_COLUMNS, &choices);
+    let mut notes = [0u8; NOTES];
     let mut from = 0;
     let mut written = 0;
     let mut at = 0;
@@ -87,14 +89,14 @@ fn write_rows<'a>(
         from = t.from;
         row += 1;
         if is_allowed(d) {
-            if part.len() - at < ROW {
+            if part.len() - at < ROW_SIZE {
                 return Page {
                     written: written,
                     next: here,
                 };
             }
             put_row(&mut part[at..], here, d);
-            at += ROW;
+            at += ROW_SIZE;
             written += 1;
         }
     }

@@ -11,9 +11,9 @@ use borrow.Author.Tests.{eqb-true, ne-eqb, leb-true, not-true}
 use Rattle.slices.specs.Same.{same}
 use Rattle.tokens.specs.declared.classes.Sort.{Sort}
 use Rattle.tokens.specs.Bytes.{classOf, letter, digit, mark, blank}
-use Rattle.tokens.specs.Runs.{is, run}
+use Rattle.tokens.specs.Runs.{isOf, run}
 use Rattle.tokens.specs.Tokens.{doubled, beforeEquals}
-use Rattle.tokens.specs.Forms.{All, empty, next, SomeDigits, digits-from, Unsigned, whole, pointed, Number, plain, minus, marks, Among, Form, a-word}
+use Rattle.tokens.specs.Forms.{All, empty, next, SomeDigits, digits-from, Unsigned, whole, pointed, Number, signless, minus, marks, Among, Form, a-word}
 use Rattle.tokens.specs.Forms.{a-string, a-number, a-mark, Longest}
 use Rattle.tokens.specs.declared.classes.Sort.the-variants.{Blanks, Digits, Letters, WordBytes}
 use Rattle.tokens.proofs.TokenLaws.{never, and-left, and-right, every}
@@ -24,11 +24,11 @@ use Rattle.spelling.specs.Spelling.{apart, calm}
 
 -- ---- how far a form reaches
 
-unsigned-first : {l : List ℕ} → Unsigned l → (q : List ℕ) → is Digits (getD (l ++ q) 0 0) ≡ true
+unsigned-first : {l : List ℕ} → Unsigned l → (q : List ℕ) → isOf Digits (getD (l ++ q) 0 0) ≡ true
 unsigned-first (whole s) q = some-first s q
 unsigned-first (pointed {w} {f} s t) q = rw (append-assoc w (46 ∷ f) q) (some-first s (46 ∷ f ++ q))
 
-unsigned-reach : {l : List ℕ} → Unsigned l → (q : List ℕ) → is Digits (getD q 0 0) ≡ false → eqb (getD q 0 0) 46 ≡ false → digitsReach (l ++ q) ≡ length l
+unsigned-reach : {l : List ℕ} → Unsigned l → (q : List ℕ) → isOf Digits (getD q 0 0) ≡ false → eqb (getD q 0 0) 46 ≡ false → digitsReach (l ++ q) ≡ length l
 unfolding digitsReach classOf
 unsigned-reach (whole {w} s) q d n = rw (run-is (some-all s) q d, drop-append-seam w q, n) (omega arith)
 unsigned-reach (pointed {w} {f} s t) q d n =
@@ -36,21 +36,21 @@ unsigned-reach (pointed {w} {f} s t) q d n =
     rw (append-assoc w (46 ∷ f) q, r, drop-append-seam w (46 ∷ (f ++ q)), some-first t q, run-is (some-all t) q d) (omega (arith, length-append w (46 ∷ f)))
 
 -- a digit is no letter
-digit-no-letter : (b : ℕ) → is Digits b ≡ true → is Letters b ≡ false
+digit-no-letter : (b : ℕ) → isOf Digits b ≡ true → isOf Letters b ≡ false
 digit-no-letter b e = rw (eqb-true (classOf b) digit e)
 
 -- what is asked behind a number
-number-asks : (p : List ℕ) (b : ℕ) → is Letters (getD p 0 0) ≡ false → (is Digits (getD p 0 0) || eqb (getD p 0 0) 45) ≡ true → apart p b ≡ true
-    → (is Digits b ≡ false) × (eqb b 46 ≡ false)
+number-asks : (p : List ℕ) (b : ℕ) → isOf Letters (getD p 0 0) ≡ false → (isOf Digits (getD p 0 0) || eqb (getD p 0 0) 45) ≡ true → apart p b ≡ true
+    → (isOf Digits b ≡ false) × (eqb b 46 ≡ false)
 unfolding apart
 number-asks p b l d e =
-    let h : (not (is Digits b) && not (eqb b 46)) ≡ true = rw (l, d) at e in
-    (not-true _ (and-left _ _ h), not-true _ (and-right (not (is Digits b)) _ h))
+    let h : (not (isOf Digits b) && not (eqb b 46)) ≡ true = rw (l, d) at e in
+    (not-true _ (and-left _ _ h), not-true _ (and-right (not (isOf Digits b)) _ h))
 
 number-reach : {l : List ℕ} → Number l → (q : List ℕ) → apart l (getD q 0 0) ≡ true → reach (l ++ q) ≡ length l
 unfolding reach classOf
-number-reach (plain {l} u) q e =
-    let d : is Digits (getD l 0 0) ≡ true = rw (append-nil l) at (unsigned-first u []) in
+number-reach (signless {l} u) q e =
+    let d : isOf Digits (getD l 0 0) ≡ true = rw (append-nil l) at (unsigned-first u []) in
     let n = number-asks l (getD q 0 0) (digit-no-letter (getD l 0 0) d) (rw d) e in
     reach-digits (l ++ q) (unsigned-first u q) ∙ unsigned-reach u q (n .0) (n .1)
 number-reach (minus {l} u) q e = let n = number-asks (45 ∷ l) (getD q 0 0) refl refl e in rw (unsigned-first u q) (ap suc (unsigned-reach u q (n .0) (n .1)))
@@ -98,7 +98,7 @@ mark-reach (b ∷ c ∷ d ∷ l) e q a = absurd (never e)
 form-reach : {kind : ℕ} {p : List ℕ} → Form kind p → (q : List ℕ) → apart p (getD q 0 0) ≡ true → reach (p ++ q) ≡ length p
 unfolding reach classOf stringReach apart
 form-reach (a-word {b} {rest} e a) q h =
-    let n : is WordBytes (getD q 0 0) ≡ false = not-true _ (rw e at h) in rw e (run-is (next {b = b} (rw e) a) q n)
+    let n : isOf WordBytes (getD q 0 0) ≡ false = not-true _ (rw e at h) in rw e (run-is (next {b = b} (rw e) a) q n)
 form-reach (a-string {inside} a) q h =
     rw (append-assoc inside (34 ∷ []) q, run-is a (34 ∷ q) refl, at-seam inside (34 ∷ q)) (omega (arith, length-append inside (34 ∷ [])))
 form-reach (a-number n) q h = number-reach n q h
@@ -110,19 +110,19 @@ form-longest f q h = longest f q (form-reach f q h)
 
 -- ---- the longest form has no byte behind it that makes it longer, but for a point
 
-all-more : {sort : Sort} {l : List ℕ} (b : ℕ) → All sort l → is sort b ≡ true → All sort (l ++ b ∷ [])
+all-more : {sort : Sort} {l : List ℕ} (b : ℕ) → All sort l → isOf sort b ≡ true → All sort (l ++ b ∷ [])
 all-more b empty h = next h empty
 all-more b (next e a) h = next e (all-more b a h)
 
-some-more : {l : List ℕ} (b : ℕ) → SomeDigits l → is Digits b ≡ true → SomeDigits (l ++ b ∷ [])
+some-more : {l : List ℕ} (b : ℕ) → SomeDigits l → isOf Digits b ≡ true → SomeDigits (l ++ b ∷ [])
 some-more b (digits-from e a) h = digits-from e (all-more b a h)
 
-unsigned-more : {l : List ℕ} (b : ℕ) → Unsigned l → is Digits b ≡ true → Unsigned (l ++ b ∷ [])
+unsigned-more : {l : List ℕ} (b : ℕ) → Unsigned l → isOf Digits b ≡ true → Unsigned (l ++ b ∷ [])
 unsigned-more b (whole s) h = whole (some-more b s h)
 unsigned-more b (pointed {w} {f} s t) h = rw (append-assoc w (46 ∷ f) (b ∷ [])) (pointed s (some-more b t h))
 
-number-more : {l : List ℕ} (b : ℕ) → Number l → is Digits b ≡ true → Number (l ++ b ∷ [])
-number-more b (plain u) h = plain (unsigned-more b u h)
+number-more : {l : List ℕ} (b : ℕ) → Number l → isOf Digits b ≡ true → Number (l ++ b ∷ [])
+number-more b (signless u) h = signless (unsigned-more b u h)
 number-more b (minus u) h = minus (unsigned-more b u h)
 
 -- `=` behind a mark that may have one is a mark
@@ -148,7 +148,7 @@ record Stops (b : ℕ) (p : List ℕ) : Type 0 where
   no-longer : {kind : ℕ} → Form kind (p ++ b ∷ []) → ⊥
 
 module _ (b : ℕ) (no-point : eqb b 46 ≡ false) where
-  number-apart : (l : List ℕ) → is Letters (getD l 0 0) ≡ false → (is Digits (getD l 0 0) || eqb (getD l 0 0) 45) ≡ true → is Digits b ≡ false
+  number-apart : (l : List ℕ) → isOf Letters (getD l 0 0) ≡ false → (isOf Digits (getD l 0 0) || eqb (getD l 0 0) 45) ≡ true → isOf Digits b ≡ false
       → apart l b ≡ true
   unfolding apart
   number-apart l e d h = rw (e, d, h, no-point)
@@ -174,12 +174,12 @@ module _ (b : ℕ) (no-point : eqb b 46 ≡ false) where
 
   form-apart : {kind : ℕ} {p : List ℕ} → Form kind p → Stops b p → apart p b ≡ true
   unfolding apart classOf
-  form-apart (a-word {b = c} e a) n = rw (e, fails (is WordBytes b) (λ h. n .no-longer (a-word e (all-more b a h))))
+  form-apart (a-word {b = c} e a) n = rw (e, fails (isOf WordBytes b) (λ h. n .no-longer (a-word e (all-more b a h))))
   form-apart (a-string {inside} a) n = rw (never-both (eqb (length (34 ∷ (inside ++ 34 ∷ []))) 1))
-  form-apart (a-number (plain {l} u)) n =
-      let d : is Digits (getD l 0 0) ≡ true = rw (append-nil l) at (unsigned-first u []) in
-      number-apart l (digit-no-letter (getD l 0 0) d) (rw d) (fails (is Digits b) (λ h. n .no-longer (a-number (number-more b (plain u) h))))
-  form-apart (a-number (minus {l} u)) n = number-apart (45 ∷ l) refl refl (fails (is Digits b) (λ h. n .no-longer (a-number (number-more b (minus u) h))))
+  form-apart (a-number (signless {l} u)) n =
+      let d : isOf Digits (getD l 0 0) ≡ true = rw (append-nil l) at (unsigned-first u []) in
+      number-apart l (digit-no-letter (getD l 0 0) d) (rw d) (fails (isOf Digits b) (λ h. n .no-longer (a-number (number-more b (signless u) h))))
+  form-apart (a-number (minus {l} u)) n = number-apart (45 ∷ l) refl refl (fails (isOf Digits b) (λ h. n .no-longer (a-number (number-more b (minus u) h))))
   form-apart (a-mark {l = l} m) n = mark-apart l m (all-marked m) n
 
 -- so the test holds of the byte behind the longest form, if there is one and it is no point
@@ -201,21 +201,21 @@ calm-or l false b h = refl
 
 pub calm-apart : (p : List ℕ) (b : ℕ) → calm b ≡ true → apart p b ≡ true
 unfolding apart calm
-calm-apart p b h = go (is Letters (getD p 0 0)) (is Digits (getD p 0 0) || eqb (getD p 0 0) 45) (eqb (length p) 1) (beforeEquals (getD p 0 0))
+calm-apart p b h = go (isOf Letters (getD p 0 0)) (isOf Digits (getD p 0 0) || eqb (getD p 0 0) 45) (eqb (length p) 1) (beforeEquals (getD p 0 0))
   where
-    word : not (is WordBytes b) ≡ true
+    word : not (isOf WordBytes b) ≡ true
     word = and-left _ _ h
 
     point : not (eqb b 46) ≡ true
-    point = and-left _ _ (and-right (not (is WordBytes b)) _ h)
+    point = and-left _ _ (and-right (not (isOf WordBytes b)) _ h)
 
     equals : eqb b 61 ≡ false
-    equals = not-true _ (and-right (not (eqb b 46)) _ (and-right (not (is WordBytes b)) _ h))
+    equals = not-true _ (and-right (not (eqb b 46)) _ (and-right (not (isOf WordBytes b)) _ h))
 
-    digit-none : not (is Digits b) ≡ true
-    digit-none = calm-or (is Letters b) (is Digits b) b h
+    digit-none : not (isOf Digits b) ≡ true
+    digit-none = calm-or (isOf Letters b) (isOf Digits b) b h
 
-    go : (l d n e : Bool) → cond l (not (is WordBytes b)) (cond d (not (is Digits b) && not (eqb b 46)) (not (n && (e && eqb b 61)))) ≡ true
+    go : (l d n e : Bool) → cond l (not (isOf WordBytes b)) (cond d (not (isOf Digits b) && not (eqb b 46)) (not (n && (e && eqb b 61)))) ≡ true
     go true d n e = word
     go false true n e = rw (digit-none, point)
     go false false true true = rw equals
@@ -224,27 +224,27 @@ calm-apart p b h = go (is Letters (getD p 0 0)) (is Digits (getD p 0 0) || eqb (
 
 pub calm-no-point : (b : ℕ) → calm b ≡ true → eqb b 46 ≡ false
 unfolding calm
-calm-no-point b h = not-true _ (and-left _ _ (and-right (not (is WordBytes b)) _ h))
+calm-no-point b h = not-true _ (and-left _ _ (and-right (not (isOf WordBytes b)) _ h))
 
 -- blanks are such
-pub blank-calm : (b : ℕ) → is Blanks b ≡ true → calm b ≡ true
+pub blank-calm : (b : ℕ) → isOf Blanks b ≡ true → calm b ≡ true
 unfolding calm classOf
 blank-calm b e =
     let class : classOf b ≡ blank = eqb-true (classOf b) blank e in
-    let other : (c : ℕ) → is Blanks c ≡ false → eqb b c ≡ false = λ c n. ne-eqb b c (λ q. never (rw (q, n) at e)) in
+    let other : (c : ℕ) → isOf Blanks c ≡ false → eqb b c ≡ false = λ c n. ne-eqb b c (λ q. never (rw (q, n) at e)) in
     rw (class, other 95 refl, other 45 refl, other 46 refl, other 61 refl)
 
 -- ---- the first byte and the kind of a form
 
-pub form-first : {kind : ℕ} {p : List ℕ} → Form kind p → (q : List ℕ) → is Blanks (getD (p ++ q) 0 0) ≡ false
+pub form-first : {kind : ℕ} {p : List ℕ} → Form kind p → (q : List ℕ) → isOf Blanks (getD (p ++ q) 0 0) ≡ false
 unfolding classOf marked
 form-first (a-word {b} e a) q = rw (eqb-true (classOf b) letter e)
 form-first (a-string a) q = refl
-form-first (a-number (plain {l} u)) q = rw (eqb-true (classOf (getD (l ++ q) 0 0)) digit (unsigned-first u q))
+form-first (a-number (signless {l} u)) q = rw (eqb-true (classOf (getD (l ++ q) 0 0)) digit (unsigned-first u q))
 form-first (a-number (minus u)) q = refl
 form-first (a-mark {l} m) q = go l (all-marked m)
   where
-    go : (l : List ℕ) → marked l ≡ true → is Blanks (getD (l ++ q) 0 0) ≡ false
+    go : (l : List ℕ) → marked l ≡ true → isOf Blanks (getD (l ++ q) 0 0) ≡ false
     go [] e = absurd (never e)
     go (b ∷ []) e = rw (eqb-true (classOf b) mark (and-left _ _ e))
     go (b ∷ c ∷ []) e = rw (eqb-true (classOf b) mark (and-left _ _ e))
@@ -262,7 +262,7 @@ pub dot-is : {kind : ℕ} {p : List ℕ} → Form kind p → (q : List ℕ) → 
 unfolding every marks classOf marked
 dot-is (a-word {b} e a) q h = absurd (never (rw (eqb-true b 46 h) at e))
 dot-is (a-string a) q h = absurd (never h)
-dot-is (a-number (plain {l} u)) q h = absurd (never (rw (eqb-true (getD (l ++ q) 0 0) 46 h) at (unsigned-first u q)))
+dot-is (a-number (signless {l} u)) q h = absurd (never (rw (eqb-true (getD (l ++ q) 0 0) 46 h) at (unsigned-first u q)))
 dot-is (a-number (minus u)) q h = absurd (never h)
 dot-is (a-mark {kind} {l} m) q h = go l (all-marked m) passed h
   where

@@ -144,7 +144,7 @@ module _ (L : Limits) where
     where
       go : {i r : List Lexeme} {a : Operand} → AnOperand L i r a → Spends i r
       go (given h) = spending-attribute .at h
-      go (grammar.AnOperand.plain {x = x} t) = one (literal-inner x t) none
+      go (grammar.AnOperand.literally {x = x} t) = one (literal-inner x t) none
 
   spending-listing : (sort : Lexeme → Bool) → ((x : Lexeme) → Inner x (sort x)) → Spending (Listing L sort)
   unfolding inner

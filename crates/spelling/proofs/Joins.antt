@@ -15,10 +15,10 @@ use Rattle.slices.specs.Same.{same}
 use Rattle.slices.proofs.Equal.{same-decides}
 use Rattle.tokens.specs.Bytes.{classOf}
 use Rattle.tokens.specs.Kinds as kinds
-use Rattle.tokens.specs.Runs.{is}
+use Rattle.tokens.specs.Runs.{isOf}
 use Rattle.tokens.specs.Tokens.{token, tokenAt}
 use Rattle.tokens.specs.Words.{reserved}
-use Rattle.tokens.specs.Forms.{All, empty, next, marks, Form, a-word, a-string, a-number, a-mark, whole, pointed, plain, minus, digits-from, sizeOf, mostOf}
+use Rattle.tokens.specs.Forms.{All, empty, next, marks, Form, a-word, a-string, a-number, a-mark, whole, pointed, signless, minus, digits-from, sizeOf, mostOf}
 use Rattle.tokens.specs.Forms.{Longest, Stands, end-of-text, a-token, too-long, a-colon, bad-byte, unended, bad-inside, StandsAt}
 use Rattle.tokens.specs.declared.reader.Token.{Token}
 use Rattle.tokens.specs.declared.classes.Sort.the-variants.{Blanks}
@@ -33,7 +33,8 @@ use Rattle.tokens.proofs.FormLaws.{mark-passes}
 use Rattle.reading.specs.Lexemes.{Lexeme, lexeme, tokensOf, TokensOf, ended, goes-on}
 use Rattle.reading.proofs.Listed.{tokens-stand, tokens-are}
 use Rattle.spelling.specs.Spelling.{lexemeAt, apart, calm, closed, border}
-use Rattle.spelling.specs.Moves.{moved, further}
+use Rattle.grammar.specs.Moves.{further}
+use Rattle.spelling.specs.Moves.{movedLexeme}
 use Rattle.spelling.proofs.Apart.{form-longest, form-first, form-kind, longest-apart, calm-apart, calm-no-point, blank-calm, dot-is}
 use Rattle.spelling.proofs.Laid.{Laid, Laid.blank, Laid.before, Fine, tokens-laid, token-next, behind-token}
 
@@ -61,7 +62,7 @@ stands-longest f b (bad-inside l n a o) e = absurd (let k = form-kind f in let z
 -- no blanks are passed where a form begins
 no-blanks : {kind : ℕ} {p : List ℕ} → Form kind p → (q : List ℕ) {b : List ℕ} (rest : List ℕ) → p ++ q ≡ b ++ rest → All Blanks b → b ≡ []
 no-blanks f q rest e empty = refl
-no-blanks {p = p} f q rest e (next {b = c} h a) = absurd (never (sym (form-first f q) ∙ (ap (λ (l : List ℕ). is Blanks (getD l 0 0)) e ∙ h)))
+no-blanks {p = p} f q rest e (next {b = c} h a) = absurd (never (sym (form-first f q) ∙ (ap (λ (l : List ℕ). isOf Blanks (getD l 0 0)) e ∙ h)))
 
 longest-more : {kind : ℕ} {p : List ℕ} (q u : List ℕ) → Longest kind p (p ++ q) → sizeOf kind p ≤ mostOf kind → 2 ≤ length q → Longest kind p (p ++ (q ++ u))
 longest-more {kind} {p} q u l f h =
@@ -96,8 +97,8 @@ form-some : {kind : ℕ} {p : List ℕ} → Form kind p → 0 < length p
 unfolding every marks
 form-some (a-word e a) = omega arith
 form-some (a-string a) = omega arith
-form-some (a-number (plain (whole (digits-from e a)))) = omega arith
-form-some (a-number (plain (pointed (digits-from e a) t))) = omega arith
+form-some (a-number (signless (whole (digits-from e a)))) = omega arith
+form-some (a-number (signless (pointed (digits-from e a) t))) = omega arith
 form-some (a-number (minus u)) = omega arith
 form-some (a-mark {l = l} m) = ltb-true 0 (length l) (mark-passes (λ kind l. ltb 0 (length l)) m refl)
 
@@ -282,32 +283,32 @@ module _ (pre u : List ℕ) where
       let there = longest-token (pre ++ u) (length pre + at) (omega (arith, length-append pre u)) in
       subst (StandsAt (pre ++ u) (length pre + at)) (token-further pre u at ∙ ap (shift.further (length pre)) same) there
 
-  lexeme-further : (t : Token) → lexeme (pre ++ u) (shift.further (length pre) t) ≡ moved (further (length pre)) (lexeme u t)
+  lexeme-further : (t : Token) → lexeme (pre ++ u) (shift.further (length pre) t) ≡ movedLexeme (further (length pre)) (lexeme u t)
   unfolding shift.further
   lexeme-further t =
       let size : length pre + t .end - (length pre + t .start) ≡ t .end - t .start = omega arith in rw (size, drop-append-add pre u (t .start))
 
   list-further : {at : ℕ} {us : List Lexeme} → at ≤ length u → TokensOf u at us
-      → TokensOf (pre ++ u) (length pre + at) (map (moved (further (length pre))) us)
+      → TokensOf (pre ++ u) (length pre + at) (map (movedLexeme (further (length pre))) us)
   unfolding shift.further
   list-further h (ended {t = t} s e) = ended (stands-further h s) e
   list-further {at} h (goes-on {t = t} {ts = ts} s n k) =
       let r = reads u at h in
       let high : t .end ≤ length u = rw (one-token u at t (tokenAt u at) s (longest-token u at h)) (r .high) in
-      let all : TokensOf (pre ++ u) (length pre + at) (lexeme (pre ++ u) (shift.further (length pre) t) ∷ map (moved (further (length pre))) ts) =
+      let all : TokensOf (pre ++ u) (length pre + at) (lexeme (pre ++ u) (shift.further (length pre) t) ∷ map (movedLexeme (further (length pre))) ts) =
       goes-on (stands-further h s) n (list-further high k) in
       rw (lexeme-further t) at all
 
 -- where no token of t is a refusal and u may stand behind them: the tokens of t, and then those of u, so much further on; u may be any text
 pub tokens-join : (t u : List ℕ) → Fine (tokensOf t) → border (tokensOf t) (getD u 0 0) ≡ true
-    → tokensOf (t ++ u) ≡ tokensOf t ++ map (moved (further (length t))) (tokensOf u)
+    → tokensOf (t ++ u) ≡ tokensOf t ++ map (movedLexeme (further (length t))) (tokensOf u)
 tokens-join t u f c =
-    let behind : TokensOf (t ++ u) (0 + length t) (map (moved (further (length t))) (tokensOf u)) =
-    subst (λ (i : ℕ). TokensOf (t ++ u) i (map (moved (further (length t))) (tokensOf u))) (omega arith)
+    let behind : TokensOf (t ++ u) (0 + length t) (map (movedLexeme (further (length t))) (tokensOf u)) =
+    subst (λ (i : ℕ). TokensOf (t ++ u) i (map (movedLexeme (further (length t))) (tokensOf u))) (omega arith)
     (list-further t u {at = 0} (omega arith) (tokens-stand u)) in
     tokens-are (t ++ u) (then-list (t ++ u) [] u refl refl (tokens-laid t f) c behind)
 
 -- behind `;` always
 pub tokens-closed : (t u : List ℕ) → Fine (tokensOf t) → closed (tokensOf t) ≡ true
-    → tokensOf (t ++ u) ≡ tokensOf t ++ map (moved (further (length t))) (tokensOf u)
+    → tokensOf (t ++ u) ≡ tokensOf t ++ map (movedLexeme (further (length t))) (tokensOf u)
 tokens-closed t u f c = tokens-join t u f (closed-border (tokensOf t) (getD u 0 0) c)

@@ -6,7 +6,7 @@ use native.Mathlib.Omega.{arith}
 use lib.ListN.{length, take, drop, length-append, take-append-drop}
 use lib.Seq.{take-append-seam, drop-append-seam, length-take-le}
 use Rattle.tokens.specs.Bytes.{classOf}
-use Rattle.tokens.specs.Runs.{is}
+use Rattle.tokens.specs.Runs.{isOf}
 use Rattle.tokens.specs.Tokens.{token}
 use Rattle.tokens.specs.Forms.{All, next, sizeOf, mostOf, Longest, Stands, end-of-text, a-token, too-long, a-colon, bad-byte, unended, bad-inside, StandsAt}
 use Rattle.tokens.specs.declared.reader.Token.{Token}

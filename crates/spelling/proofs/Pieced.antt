@@ -10,9 +10,9 @@ use lib.ListN.{length, length-append}
 use borrow.Author.Tests.{eq-eqb, leb-true, ltb-true, lt-ltb, not-true}
 use Rattle.tokens.specs.Kinds as kinds
 use Rattle.tokens.proofs.TokenLaws.{and-left, and-right}
+use Rattle.tokens.specs.Sizes.{mostPolicies}
 use Rattle.reading.specs.Lexemes.{Lexeme, is}
 use Rattle.grammar.specs.Policies.{Policy}
-use Rattle.grammar.specs.Rules.{mostPolicies}
 use Rattle.grammar.specs.Grammar.{Policies, policy, PolicyRest, RuleText, sizes}
 use Rattle.grammar.specs.Grammar as grammar
 use Rattle.grammar.specs.Promise.{Unambiguous}

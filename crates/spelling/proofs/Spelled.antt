@@ -7,7 +7,7 @@ use Rattle.tokens.specs.Bytes.{classOf}
 use Rattle.tokens.specs.Forms.{All, empty, next}
 use Rattle.tokens.specs.declared.classes.Sort.the-variants.{Blanks}
 use Rattle.reading.specs.Lexemes.{Lexeme, tokensOf}
-use Rattle.spelling.specs.Spelling.{Spelling, spelled, lexemeAt, spaced, said, saidBy, calm}
+use Rattle.spelling.specs.Spelling.{Spelling, spelled, lexemeAt, spaced, lexemeSays, spellingSays, calm}
 use Rattle.spelling.proofs.Apart.{form-longest, calm-apart}
 use Rattle.spelling.proofs.Laid.{Laid, Laid.blank, Laid.before, Fine, laid-tokens, tokens-laid}
 
@@ -32,23 +32,23 @@ laid-spelled (x ∷ xs) = spelled-behind {at = 0} {b = []} empty x xs
 pub tokens-spelled : (xs : List Spelling) → tokensOf (spelled xs) ≡ spaced 0 xs
 tokens-spelled xs = laid-tokens (laid-spelled xs)
 
-said-spaced : (at : ℕ) (xs : List Spelling) → map said (spaced at xs) ≡ map saidBy xs
+said-spaced : (at : ℕ) (xs : List Spelling) → map lexemeSays (spaced at xs) ≡ map spellingSays xs
 unfolding spaced
 said-spaced at [] = refl
-said-spaced at (x ∷ xs) = ap (λ (l : List (ℕ × List ℕ)). saidBy x ∷ l) (said-spaced (at + length (x .bytes) + 1) xs)
+said-spaced at (x ∷ xs) = ap (λ (l : List (ℕ × List ℕ)). spellingSays x ∷ l) (said-spaced (at + length (x .bytes) + 1) xs)
 
 -- apart from their places: with these kinds and bytes
-pub said-spelled : (xs : List Spelling) → map said (tokensOf (spelled xs)) ≡ map saidBy xs
-said-spelled xs = ap (map said) (tokens-spelled xs) ∙ said-spaced 0 xs
+pub said-spelled : (xs : List Spelling) → map lexemeSays (tokensOf (spelled xs)) ≡ map spellingSays xs
+said-spelled xs = ap (map lexemeSays) (tokens-spelled xs) ∙ said-spaced 0 xs
 
 -- ---- the spellings of a text
 
-spell : {at : ℕ} {text : List ℕ} {ts : List Lexeme} → Laid at text ts → (xs : List Spelling) × (map said ts ≡ map saidBy xs)
+spell : {at : ℕ} {text : List ℕ} {ts : List Lexeme} → Laid at text ts → (xs : List Spelling) × (map lexemeSays ts ≡ map spellingSays xs)
 spell (Laid.blank a) = ([], refl)
 spell (Laid.before {kind = kind} {p = p} a l f k) =
     let r = spell k in
     (record { kind = kind; bytes = p; form = l .form; fits = f } ∷ r .0, ap (λ (l : List (ℕ × List ℕ)). (kind, p) ∷ l) (r .1))
 
 -- a text without refused tokens has spellings, and with single blanks between them it says the same tokens
-pub spellings : (text : List ℕ) → Fine (tokensOf text) → (xs : List Spelling) × (map said (tokensOf text) ≡ map saidBy xs)
+pub spellings : (text : List ℕ) → Fine (tokensOf text) → (xs : List Spelling) × (map lexemeSays (tokensOf text) ≡ map spellingSays xs)
 spellings text f = spell (tokens-laid text f)

@@ -9,7 +9,7 @@ use Rattle.placing.specs.Placed as placing
 use Rattle.grammar.specs.Policies.{Root, Root.Principal, Root.Resource, Root.Env, Root.Action, Comparator, Comparator.Equal, Comparator.NotEqual, Comparator.More, Comparator.AtLeast, Comparator.Less, Comparator.AtMost, Which, Which.All, Which.Any, Tree, Actions, Policy}
 use Rattle.table.specs.declared.Entry.{Entry}
 use Rattle.table.specs.Entries.{comparatorKind, whichKind, hasKind}
-use Rattle.stored.specs.Stored.{Stored, StoredPolicies, View, is-true, is-false, is-comparison, is-like, is-among, is-within, is-contains, is-has, is-not, is-brackets, is-both, is-either, is-choice, ActionView, is-every, is-one-of, ConditionView, no-condition, a-condition}
+use Rattle.stored.specs.Stored.{Stored, StoredPolicies, TreeByLast, is-true, is-false, is-comparison, is-like, is-among, is-within, is-contains, is-has, is-not, is-brackets, is-both, is-either, is-choice, ActionByLast, is-every, is-one-of, ConditionBetween, no-condition, a-condition}
 use Rattle.stored.specs.ReadBack.{treeBy, policiesBy}
 use Rattle.stored.specs.Ready.{ReadyBy, PartReadyBy, Room, PartsBy, NodeBy, PoliciesReadyBy, LastBy}
 use Rattle.placing.proofs.EachLaws.{each-first, each-left, each-right}
@@ -43,7 +43,7 @@ has-kind Action = (omega arith, omega arith)
 -- ---- conditions
 
 module _ {at : ℕ → Entry} {end : ℕ} where
-  kind-of : {t : Tree} {x : Entry} → View at end t x → (5 ≤ x .kind) × (x .kind ≤ 28)
+  kind-of : {t : Tree} {x : Entry} → TreeByLast at end t x → (5 ≤ x .kind) × (x .kind ≤ 28)
   kind-of is-true = (omega arith, omega arith)
   kind-of is-false = (omega arith, omega arith)
   kind-of (is-comparison {c = c} q n h k) = let (a, b) = comparator-kind c in (omega arith, omega arith)
@@ -73,7 +73,7 @@ two-operands n h l = record { compared = λ a b. n; like = λ a. omega arith; am
 a-list : {end : ℕ} {x : Entry} → x .first + 2 ≤ end → 20 ≤ x .kind → (x .kind ≡ 21 → ⊥) → Room end x
 a-list n h w = record { compared = λ a b. absurd (omega arith); like = λ a. omega arith; among = λ a. n; within = λ a. absurd (w a); contains = λ a b. n }
 
-room-of : {at : ℕ → Entry} {end : ℕ} {t : Tree} {x : Entry} → View at end t x → Room end x
+room-of : {at : ℕ → Entry} {end : ℕ} {t : Tree} {x : Entry} → TreeByLast at end t x → Room end x
 room-of is-true = no-operands (λ l h. omega arith)
 room-of is-false = no-operands (λ l h. omega arith)
 room-of (is-comparison {c = c} q n h k) = let (a, b) = comparator-kind c in two-operands n (omega arith) (λ e. omega arith)
@@ -102,7 +102,7 @@ module _ {text : List ℕ} {at : ℕ → Entry} {many end : ℕ} where
   two-parts : {x : Entry} → x .kind < 28 → PartReadyBy text at many end (x .first) → PartReadyBy text at many end (end - 1) → PartsBy text at many end x
   two-parts h l r = record { last = λ a. r; left = λ a. l; middle = λ a. absurd (omega arith) }
 
-  parts-of : {t : Tree} {x : Entry} → end ≤ many → 0 < end → View at end t x → TreePlaced text t → PartsBy text at many end x
+  parts-of : {t : Tree} {x : Entry} → end ≤ many → 0 < end → TreeByLast at end t x → TreePlaced text t → PartsBy text at many end x
   parts-of few n is-true p = no-parts (omega arith)
   parts-of few n is-false p = no-parts (omega arith)
   parts-of few n (is-comparison {c = c} q m h k) p = let (a, b) = comparator-kind c in no-parts (omega arith)
@@ -142,13 +142,13 @@ pub ready-policies : {text : List ℕ} {at : ℕ → Entry} {many end : ℕ} {ps
 ready-policies {text} {at} {end = end} l h p =
     record { stored = subst (StoredPolicies at end) (sym (policies-back h)) h; placed = subst (Each (PolicyPlaced text)) (sym (policies-back h)) p; here = l }
 
-condition-ready : {text : List ℕ} {at : ℕ → Entry} {many first end : ℕ} {c : Option Tree} → end ≤ many → ConditionView at first end c → ConditionPlaced text c → first < end
+condition-ready : {text : List ℕ} {at : ℕ → Entry} {many first end : ℕ} {c : Option Tree} → end ≤ many → ConditionBetween at first end c → ConditionPlaced text c → first < end
     → ReadyBy text at many end
 condition-ready n (no-condition e) p l = absurd (omega arith)
 condition-ready n (a-condition m h) (placing.a-condition p d) l = ready n h p
 
 -- the strings of an action part stand before its last entry
-listed-before : {at : ℕ → Entry} {end : ℕ} {a : Actions} {x : Entry} → 0 < end → ActionView at end a x → x .first + 1 ≤ end
+listed-before : {at : ℕ → Entry} {end : ℕ} {a : Actions} {x : Entry} → 0 < end → ActionByLast at end a x → x .first + 1 ≤ end
 listed-before n is-every = omega arith
 listed-before n (is-one-of l h) = l
 

@@ -4,7 +4,7 @@ use mathlib.Core.List.{List, [], _∷_}
 use Rattle.table.specs.declared.Entry.{Entry}
 use Rattle.table.specs.Entries.{entry, policiesEntries}
 use Rattle.table.specs.Layout.{bytesOf}
-use Rattle.stored.specs.ReadBack.{rootOf, literalOf, operandOf, comparatorOf, literalsBy, treeFrom, treeIn, partOf, actionsBy, conditionBy, policyBy, policiesIn, policiesAt}
+use Rattle.stored.specs.ReadBack.{rootOfKind, literalOfEntry, operandOfEntry, comparatorOfKind, literalsBy, treeFrom, treeIn, partOfEntry, actionsBy, conditionBy, policyBy, policiesUpTo, policiesAt}
 use Rattle.placing.proofs.Examples.{policy}
 use Rattle.table.proofs.Opened.{table-opened}
 
@@ -17,5 +17,5 @@ unfolding table-opened
 table-written = refl
 
 pub table-read : policiesAt (bytesOf entries) 12 ≡ policy ∷ []
-unfolding table-opened rootOf literalOf operandOf comparatorOf literalsBy treeFrom treeIn partOf actionsBy conditionBy policyBy policiesIn
+unfolding table-opened rootOfKind literalOfEntry operandOfEntry comparatorOfKind literalsBy treeFrom treeIn partOfEntry actionsBy conditionBy policyBy policiesUpTo
 table-read = refl

@@ -5,36 +5,36 @@ use native.Mathlib.Omega.{arith}
 use borrow.Author.Tests.{le-leb, lt-leb}
 use Rattle.grammar.specs.Policies.{Which.All, Which.Any, Tree, compare, like, among, within, contains, has, not, brackets, both, either, choice}
 use Rattle.table.specs.declared.Entry.{Entry}
-use Rattle.stored.specs.ReadBack.{spanOf, rootOf, operandOf, comparatorOf, listBy, ownerBy, treeFrom}
+use Rattle.stored.specs.ReadBack.{spanOfEntry, rootOfKind, operandOfEntry, comparatorOfKind, listBy, ownerBy, treeFrom}
 
 module _ (part : ℕ → Tree) (at : ℕ → Entry) (end : ℕ) (x : Entry) where
-  pub as-has : x .kind ≤ 8 → treeFrom part at end x ≡ has (rootOf (x .kind - 4)) (spanOf x)
+  pub as-has : x .kind ≤ 8 → treeFrom part at end x ≡ has (rootOfKind (x .kind - 4)) (spanOfEntry x)
   unfolding treeFrom
   as-has h = rw (le-leb (x .kind) 8 h)
 
   pub as-compare : 13 ≤ x .kind → x .kind ≤ 18
-      → treeFrom part at end x ≡ compare (comparatorOf (x .kind)) (operandOf (at (end - 3))) (operandOf (at (end - 2)))
+      → treeFrom part at end x ≡ compare (comparatorOfKind (x .kind)) (operandOfEntry (at (end - 3))) (operandOfEntry (at (end - 2)))
   unfolding treeFrom
   as-compare l h = rw (lt-leb (x .kind) 8 (omega arith), lt-leb (x .kind) 12 (omega arith), le-leb (x .kind) 18 h)
 
-  pub as-like : x .kind ≡ 19 → treeFrom part at end x ≡ like (operandOf (at (end - 2))) (spanOf x)
+  pub as-like : x .kind ≡ 19 → treeFrom part at end x ≡ like (operandOfEntry (at (end - 2))) (spanOfEntry x)
   unfolding treeFrom
   as-like e = rw e
 
-  pub as-among : x .kind ≡ 20 → treeFrom part at end x ≡ among (operandOf (ownerBy at end x)) (listBy at end x)
+  pub as-among : x .kind ≡ 20 → treeFrom part at end x ≡ among (operandOfEntry (ownerBy at end x)) (listBy at end x)
   unfolding treeFrom
   as-among e = rw e
 
   pub as-within : x .kind ≡ 21
-      → treeFrom part at end x ≡ within (operandOf (at (end - 3))) (rootOf (at (end - 2) .kind)) (spanOf (at (end - 2)))
+      → treeFrom part at end x ≡ within (operandOfEntry (at (end - 3))) (rootOfKind (at (end - 2) .kind)) (spanOfEntry (at (end - 2)))
   unfolding treeFrom
   as-within e = rw e
 
-  pub as-contains-all : x .kind ≡ 22 → treeFrom part at end x ≡ contains All (rootOf (ownerBy at end x .kind)) (spanOf (ownerBy at end x)) (listBy at end x)
+  pub as-contains-all : x .kind ≡ 22 → treeFrom part at end x ≡ contains All (rootOfKind (ownerBy at end x .kind)) (spanOfEntry (ownerBy at end x)) (listBy at end x)
   unfolding treeFrom
   as-contains-all e = rw e
 
-  pub as-contains-any : x .kind ≡ 23 → treeFrom part at end x ≡ contains Any (rootOf (ownerBy at end x .kind)) (spanOf (ownerBy at end x)) (listBy at end x)
+  pub as-contains-any : x .kind ≡ 23 → treeFrom part at end x ≡ contains Any (rootOfKind (ownerBy at end x .kind)) (spanOfEntry (ownerBy at end x)) (listBy at end x)
   unfolding treeFrom
   as-contains-any e = rw e
 

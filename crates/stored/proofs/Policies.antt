@@ -9,22 +9,22 @@ use Rattle.grammar.specs.Policies.{Tree, Actions, every, oneOf, Policy}
 use Rattle.table.proofs.Counting.{policies-append}
 use Rattle.table.specs.declared.Entry.{Entry}
 use Rattle.table.specs.Entries.{entry, literalEntry, literalEntries, partEntry, actionEntries, conditionEntries, effectKind, targetEntries, policyEntries, policiesEntries}
-use Rattle.stored.specs.Stored.{EntriesStand, StoredPolicy, StoredPolicies, ActionView, is-every, is-one-of, ConditionView, no-condition, a-condition, PolicyView, LastPolicy}
+use Rattle.stored.specs.Stored.{EntriesStand, StoredPolicy, StoredPolicies, ActionByLast, is-every, is-one-of, ConditionBetween, no-condition, a-condition, PolicyByLast, LastPolicy}
 use Rattle.stored.proofs.Standing.{stands-left, stands-right, stands-head, stands-tail, stands-before, stands-last, stands-from}
 use Rattle.stored.proofs.Views.{some-entries}
 
 -- ---- one policy
 
-action-view : {at : ℕ → Entry} {first end : ℕ} (a : Actions) → EntriesStand at first end (actionEntries a) → ActionView at end a (at (end - 1))
+action-view : {at : ℕ → Entry} {first end : ℕ} (a : Actions) → EntriesStand at first end (actionEntries a) → ActionByLast at end a (at (end - 1))
 unfolding actionEntries
-action-view {at} {first} {end} every s = subst (ActionView at end every) (sym (stands-last [] (entry 32 0 0) s)) is-every
+action-view {at} {first} {end} every s = subst (ActionByLast at end every) (sym (stands-last [] (entry 32 0 0) s)) is-every
 action-view {at} {first} {end} (oneOf ls) s =
     let n = length-map ls literalEntry in let m = length-append (literalEntries ls) (entry 33 (length ls) 0 ∷ []) in let e = s .ends in
     let place : first ≡ end - length ls - 1 = omega arith in
-    subst (ActionView at end (oneOf ls)) (sym (stands-last (literalEntries ls) (entry 33 (length ls) 0) s))
+    subst (ActionByLast at end (oneOf ls)) (sym (stands-last (literalEntries ls) (entry 33 (length ls) 0) s))
     (is-one-of (omega arith) (stands-from place (stands-before (literalEntries ls) (entry 33 (length ls) 0) s) .from))
 
-condition-view : {at : ℕ → Entry} {first end : ℕ} (c : Option Tree) → EntriesStand at first end (conditionEntries first c) → ConditionView at first end c
+condition-view : {at : ℕ → Entry} {first end : ℕ} (c : Option Tree) → EntriesStand at first end (conditionEntries first c) → ConditionBetween at first end c
 unfolding conditionEntries
 condition-view none s = let e = s .ends in no-condition (omega arith)
 condition-view {first = first} (some t) s = let e = s .ends in let n = some-entries first t in a-condition (omega arith) (record { first = first; stands = s })
@@ -35,7 +35,7 @@ actions-some every = omega arith
 actions-some (oneOf ls) = let m = length-append (literalEntries ls) (entry 33 (length ls) 0 ∷ []) in omega arith
 
 -- a policy by its last entry, which also says where it begins
-pub policy-view : {at : ℕ → Entry} {end : ℕ} (p : Policy) (h : StoredPolicy at end p) → PolicyView at end p (at (end - 1)) × (at (end - 1) .first ≡ h .first)
+pub policy-view : {at : ℕ → Entry} {end : ℕ} (p : Policy) (h : StoredPolicy at end p) → PolicyByLast at end p (at (end - 1)) × (at (end - 1) .first ≡ h .first)
 unfolding policyEntries targetEntries
 policy-view {at} {end} p h =
     let first = h .first in let s = h .stands in
@@ -54,17 +54,17 @@ policy-view {at} {end} p h =
     let lw = length-append (target ++ conditionEntries m (p .condition)) (x ∷ []) in
     let e : end ≡ first + length ((target ++ conditionEntries m (p .condition)) ++ x ∷ []) = s .ends in
     let back : m - 1 - 1 ≡ m - 2 = omega arith in
-    let view : PolicyView at end p x = record {
+    let view : PolicyByLast at end p x = record {
       kind = refl;
       begins = omega arith;
       ends = omega arith;
       principal = stands-head (partEntry (p .principal)) (actionEntries (p .action)) fs;
-      action = subst (λ (i : ℕ). ActionView at (m - 1) (p .action) (at i)) back (action-view (p .action) (stands-tail (partEntry (p .principal)) (actionEntries (p .action)) fs));
+      action = subst (λ (i : ℕ). ActionByLast at (m - 1) (p .action) (at i)) back (action-view (p .action) (stands-tail (partEntry (p .principal)) (actionEntries (p .action)) fs));
       resource = stands-last front last ts;
       condition = condition-view (p .condition) cs;
     } in
     let is = stands-last (target ++ conditionEntries m (p .condition)) x s in
-    (subst (PolicyView at end p) (sym is) view, ap (λ (y : Entry). y .first) is)
+    (subst (PolicyByLast at end p) (sym is) view, ap (λ (y : Entry). y .first) is)
 
 -- ---- all policies
 

@@ -8,39 +8,39 @@ use native.Mathlib.Omega.{arith}
 use lib.Dec.{eqb}
 use lib.ListN.{length}
 use borrow.Author.Tests.{eq-eqb, ne-eqb}
-use Rattle.grammar.specs.Policies.{Span, Root, Root.Principal, Root.Resource, Root.Env, Root.Action, Comparator, Comparator.Equal, Comparator.NotEqual, Comparator.More, Comparator.AtLeast, Comparator.Less, Comparator.AtMost, Literal, text, number, truth, Operand, attribute, literal, Which, Which.All, Which.Any, Tree, compare, contains, has, not, brackets, Part, any, typed, pinned, Actions, Policy}
+use Rattle.grammar.specs.Policies.{Span, Root, rootByte, Root.Principal, Root.Resource, Root.Env, Root.Action, Comparator, Comparator.Equal, Comparator.NotEqual, Comparator.More, Comparator.AtLeast, Comparator.Less, Comparator.AtMost, Literal, text, number, truth, Operand, attribute, literal, Which, Which.All, Which.Any, Tree, compare, contains, has, not, brackets, Part, any, typed, pinned, Actions, Policy}
 use Rattle.table.specs.declared.Entry.{Entry}
-use Rattle.table.specs.Entries.{entry, placed, literalEntry, literalEntries, operandEntry, comparatorKind, whichKind, rootKind, hasKind, partEntry, effectKind}
-use Rattle.stored.specs.Stored.{Stored, StandFrom, none-left, one-more, View, is-true, is-false, is-comparison, is-like, is-among, is-within, is-contains, is-has, is-not, is-brackets, is-both, is-either, is-choice, StoredPolicies, ActionView, is-every, is-one-of, ConditionView, no-condition, a-condition, PolicyView}
-use Rattle.stored.specs.ReadBack.{spanOf, rootOf, literalOf, operandOf, comparatorOf, literalsBy, treeFrom, treeIn, treeBy, partOf, actionsBy, conditionBy, policyBy, policiesIn, policiesBy}
+use Rattle.table.specs.Entries.{entry, placed, literalEntry, literalEntries, operandEntry, comparatorKind, whichKind, hasKind, partEntry, effectKind}
+use Rattle.stored.specs.Stored.{Stored, StandFrom, none-left, one-more, TreeByLast, is-true, is-false, is-comparison, is-like, is-among, is-within, is-contains, is-has, is-not, is-brackets, is-both, is-either, is-choice, StoredPolicies, ActionByLast, is-every, is-one-of, ConditionBetween, no-condition, a-condition, PolicyByLast}
+use Rattle.stored.specs.ReadBack.{spanOfEntry, rootOfKind, literalOfEntry, operandOfEntry, comparatorOfKind, literalsBy, treeFrom, treeIn, treeBy, partOfEntry, actionsBy, conditionBy, policyBy, policiesUpTo, policiesBy}
 use Rattle.stored.proofs.Views.{view-of, stored-some}
 use Rattle.stored.proofs.Policies.{last-policy, none-stored}
 
 -- ---- operands and literals
 
-root-back : (root : Root) → rootOf (rootKind root) ≡ root
-unfolding rootOf
+root-back : (root : Root) → rootOfKind (rootByte root) ≡ root
+unfolding rootOfKind
 root-back Principal = refl
 root-back Resource = refl
 root-back Env = refl
 root-back Action = refl
 
-literal-back : (l : Literal) → literalOf (literalEntry l) ≡ l
-unfolding literalOf literalEntry
+literal-back : (l : Literal) → literalOfEntry (literalEntry l) ≡ l
+unfolding literalOfEntry literalEntry
 literal-back (text s) = refl
 literal-back (number s) = refl
 literal-back (truth true) = refl
 literal-back (truth false) = refl
 
-plain-back : (l : Literal) → operandOf (literalEntry l) ≡ literal (literalOf (literalEntry l))
-unfolding operandOf literalEntry
+plain-back : (l : Literal) → operandOfEntry (literalEntry l) ≡ literal (literalOfEntry (literalEntry l))
+unfolding operandOfEntry literalEntry
 plain-back (text s) = refl
 plain-back (number s) = refl
 plain-back (truth true) = refl
 plain-back (truth false) = refl
 
-operand-back : (a : Operand) → operandOf (operandEntry a) ≡ a
-unfolding operandOf operandEntry rootOf
+operand-back : (a : Operand) → operandOfEntry (operandEntry a) ≡ a
+unfolding operandOfEntry operandEntry rootOfKind
 operand-back (attribute Principal s) = refl
 operand-back (attribute Resource s) = refl
 operand-back (attribute Env s) = refl
@@ -52,8 +52,8 @@ unfolding literalsBy
 literals-back [] none-left = refl
 literals-back (l ∷ ls) (one-more h k) = rw (h, literal-back l, literals-back ls k)
 
-operand-at : {x : Entry} (a : Operand) → x ≡ operandEntry a → operandOf x ≡ a
-operand-at a h = ap operandOf h ∙ operand-back a
+operand-at : {x : Entry} (a : Operand) → x ≡ operandEntry a → operandOfEntry x ≡ a
+operand-at a h = ap operandOfEntry h ∙ operand-back a
 
 module _ (at : ℕ → Entry) where
   -- ---- conditions
@@ -62,8 +62,8 @@ module _ (at : ℕ → Entry) where
     abbrev here : Entry → Tree
     here x = treeFrom part at end x
 
-    comparison-back : (c : Comparator) → here (entry (comparatorKind c) 0 0) ≡ compare c (operandOf (at (end - 3))) (operandOf (at (end - 2)))
-    unfolding treeFrom comparatorOf
+    comparison-back : (c : Comparator) → here (entry (comparatorKind c) 0 0) ≡ compare c (operandOfEntry (at (end - 3))) (operandOfEntry (at (end - 2)))
+    unfolding treeFrom comparatorOfKind
     comparison-back Equal = refl
     comparison-back NotEqual = refl
     comparison-back More = refl
@@ -72,20 +72,20 @@ module _ (at : ℕ → Entry) where
     comparison-back AtMost = refl
 
     has-back : (root : Root) (s : Span) → here (placed (hasKind root) s) ≡ has root s
-    unfolding treeFrom rootOf
+    unfolding treeFrom rootOfKind
     has-back Principal s = refl
     has-back Resource s = refl
     has-back Env s = refl
     has-back Action s = refl
 
     contains-back : (w : Which) (n : ℕ) → here (entry (whichKind w) n 0)
-        ≡ contains w (rootOf (at (end - n - 2) .kind)) (spanOf (at (end - n - 2))) (literalsBy n at (end - n - 1))
+        ≡ contains w (rootOfKind (at (end - n - 2) .kind)) (spanOfEntry (at (end - n - 2))) (literalsBy n at (end - n - 1))
     unfolding treeFrom
     contains-back All n = refl
     contains-back Any n = refl
 
     module _ (below : (m : ℕ) (u : Tree) → Stored at m u → m < end → part m ≡ u) (more : 0 < end) where
-      pub seen-back : {t : Tree} {x : Entry} → View at end t x → here x ≡ t
+      pub seen-back : {t : Tree} {x : Entry} → TreeByLast at end t x → here x ≡ t
       unfolding treeFrom
       seen-back is-true = refl
       seen-back is-false = refl
@@ -112,8 +112,8 @@ tree-back {at} {end} {t} h = tree-in at end end t h (omega arith)
 
 -- ---- policies
 
-part-back : (p : Part) → partOf (partEntry p) ≡ p
-unfolding partOf partEntry
+part-back : (p : Part) → partOfEntry (partEntry p) ≡ p
+unfolding partOfEntry partEntry
 part-back any = refl
 part-back (typed n) = refl
 part-back (pinned s) = refl
@@ -123,23 +123,23 @@ unfolding effectKind
 effect-back true = refl
 effect-back false = refl
 
-actions-back : {at : ℕ → Entry} {end : ℕ} {a : Actions} {x : Entry} → ActionView at end a x → actionsBy at end x ≡ a
+actions-back : {at : ℕ → Entry} {end : ℕ} {a : Actions} {x : Entry} → ActionByLast at end a x → actionsBy at end x ≡ a
 unfolding actionsBy
 actions-back is-every = refl
 actions-back (is-one-of {ls = ls} n h) = rw (literals-back ls h)
 
-condition-back : {at : ℕ → Entry} {first end : ℕ} {c : Option Tree} → ConditionView at first end c → conditionBy at first end ≡ c
+condition-back : {at : ℕ → Entry} {first end : ℕ} {c : Option Tree} → ConditionBetween at first end c → conditionBy at first end ≡ c
 unfolding conditionBy
 condition-back {first = first} {end} (no-condition e) = rw (eq-eqb first end e)
 condition-back {first = first} {end} (a-condition l h) = rw (ne-eqb first end (λ (e : first ≡ end). omega arith), tree-back h)
 
-pub policy-back : {at : ℕ → Entry} {end : ℕ} {p : Policy} {x : Entry} → PolicyView at end p x → policyBy at end x ≡ p
+pub policy-back : {at : ℕ → Entry} {end : ℕ} {p : Policy} {x : Entry} → PolicyByLast at end p x → policyBy at end x ≡ p
 unfolding policyBy
 policy-back {p = p} v =
     rw (v .kind, effect-back (p .permits), v .principal, part-back (p .principal), actions-back (v .action), v .resource, part-back (p .resource), condition-back (v .condition))
 
-policies-in : {at : ℕ → Entry} (n end : ℕ) (ps : List Policy) → StoredPolicies at end ps → end ≤ n → policiesIn n at end ≡ ps
-unfolding policiesIn
+policies-in : {at : ℕ → Entry} (n end : ℕ) (ps : List Policy) → StoredPolicies at end ps → end ≤ n → policiesUpTo n at end ≡ ps
+unfolding policiesUpTo
 policies-in {at} zero end ps h l =
     let e : end ≡ 0 = omega arith in sym (none-stored ps (subst (λ (i : ℕ). StoredPolicies at i ps) e h))
 policies-in {at} (suc n) zero ps h l = sym (none-stored ps h)

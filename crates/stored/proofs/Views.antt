@@ -5,10 +5,10 @@ use mathlib.Core.List.{List, [], _∷_, _++_}
 use Prim.Native.Nat.{ℕ, _+_, _-_, _≤_, _<_}
 use native.Mathlib.Omega.{arith}
 use lib.ListN.{length, length-append, length-map}
-use Rattle.grammar.specs.Policies.{Literal, Tree, constant, compare, like, among, within, contains, has, not, brackets, both, either, choice}
+use Rattle.grammar.specs.Policies.{rootByte, Literal, Tree, constant, compare, like, among, within, contains, has, not, brackets, both, either, choice}
 use Rattle.table.specs.declared.Entry.{Entry}
-use Rattle.table.specs.Entries.{entry, placed, literalEntry, literalEntries, operandEntry, comparatorKind, whichKind, rootKind, hasKind, treeEntries}
-use Rattle.stored.specs.Stored.{EntriesStand, Stored, StandFrom, View, is-true, is-false, is-comparison, is-like, is-among, is-within, is-contains, is-has, is-not, is-brackets, is-both, is-either, is-choice}
+use Rattle.table.specs.Entries.{entry, placed, literalEntry, literalEntries, operandEntry, comparatorKind, whichKind, hasKind, treeEntries}
+use Rattle.stored.specs.Stored.{EntriesStand, Stored, StandFrom, TreeByLast, is-true, is-false, is-comparison, is-like, is-among, is-within, is-contains, is-has, is-not, is-brackets, is-both, is-either, is-choice}
 use Rattle.stored.proofs.Standing.{stands-left, stands-right, stands-head, stands-tail, stands-before, stands-last, stands-from}
 
 longer : (a : List Entry) (x : Entry) → 0 < length (a ++ x ∷ [])
@@ -49,11 +49,11 @@ module _ {at : ℕ → Entry} {first end : ℕ} where
       (omega arith, record { first = first; stands = left }, record { first = m; stands = right })
 
 module _ {at : ℕ → Entry} {end : ℕ} where
-  seen-as : (t : Tree) {x : Entry} → at (end - 1) ≡ x → View at end t x → View at end t (at (end - 1))
-  seen-as t e v = subst (View at end t) (sym e) v
+  seen-as : (t : Tree) {x : Entry} → at (end - 1) ≡ x → TreeByLast at end t x → TreeByLast at end t (at (end - 1))
+  seen-as t e v = subst (TreeByLast at end t) (sym e) v
 
   -- the entry before number `end` says which condition ends there, and where its parts do
-  pub view-of : (t : Tree) → Stored at end t → View at end t (at (end - 1))
+  pub view-of : (t : Tree) → Stored at end t → TreeByLast at end t (at (end - 1))
   unfolding treeEntries
   view-of (constant true) h = seen-as (constant true) (stands-last [] (entry 11 0 0) (h .stands)) is-true
   view-of (constant false) h = seen-as (constant false) (stands-last [] (entry 12 0 0) (h .stands)) is-false
@@ -68,10 +68,10 @@ module _ {at : ℕ → Entry} {end : ℕ} where
       let (n, x, l, y) = list-stands (operandEntry a) ls (entry 20 (length ls) 0) (h .stands) in
       seen-as (among a ls) y (is-among n x l)
   view-of (within a root s) h =
-      let (n, x, y, z) = three-stand (operandEntry a) (placed (rootKind root) s) (entry 21 0 0) (h .stands) in
+      let (n, x, y, z) = three-stand (operandEntry a) (placed (rootByte root) s) (entry 21 0 0) (h .stands) in
       seen-as (within a root s) z (is-within n x y)
   view-of (contains w root s ls) h =
-      let (n, x, l, y) = list-stands (placed (rootKind root) s) ls (entry (whichKind w) (length ls) 0) (h .stands) in
+      let (n, x, l, y) = list-stands (placed (rootByte root) s) ls (entry (whichKind w) (length ls) 0) (h .stands) in
       seen-as (contains w root s ls) y (is-contains refl n x l)
   view-of (has root s) h = seen-as (has root s) (stands-last [] (placed (hasKind root) s) (h .stands)) (is-has refl)
   view-of (not t) h =

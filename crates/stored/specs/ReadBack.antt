@@ -12,24 +12,26 @@ use Rattle.table.specs.Layout.{entryAt}
 -- ---- operands and literals
 
 -- the place that an entry holds
-abbrev pub spanOf : Entry → Span
-spanOf x = span (x .first) (x .second)
+abbrev pub spanOfEntry : Entry → Span
+spanOfEntry x = span (x .first) (x .second)
 
 -- the root of an attribute, by its kind
-unfoldable pub rootOf : ℕ → Root
-rootOf k = cond (eqb k principalKind) Principal (cond (eqb k resourceKind) Resource (cond (eqb k envKind) Env Action))
+unfoldable pub rootOfKind : ℕ → Root
+rootOfKind k = cond (eqb k principalKind) Principal (cond (eqb k resourceKind) Resource (cond (eqb k envKind) Env Action))
 
 -- the literal of an entry
-unfoldable pub literalOf : Entry → Literal
-literalOf x = cond (eqb (x .kind) stringKind) (text (spanOf x)) (cond (eqb (x .kind) numberKind) (number (spanOf x)) (truth (eqb (x .kind) trueKind)))
+unfoldable pub literalOfEntry : Entry → Literal
+literalOfEntry x =
+    cond (eqb (x .kind) stringKind) (text (spanOfEntry x))
+    (cond (eqb (x .kind) numberKind) (number (spanOfEntry x)) (truth (eqb (x .kind) trueKind)))
 
 -- the operand of an entry
-unfoldable pub operandOf : Entry → Operand
-operandOf x = cond (leb (x .kind) actionKind) (attribute (rootOf (x .kind)) (spanOf x)) (literal (literalOf x))
+unfoldable pub operandOfEntry : Entry → Operand
+operandOfEntry x = cond (leb (x .kind) actionKind) (attribute (rootOfKind (x .kind)) (spanOfEntry x)) (literal (literalOfEntry x))
 
 -- the comparator, by its kind
-unfoldable pub comparatorOf : ℕ → Comparator
-comparatorOf k =
+unfoldable pub comparatorOfKind : ℕ → Comparator
+comparatorOfKind k =
     cond (eqb k equalKind) Equal
     (cond (eqb k notEqualKind) NotEqual
     (cond (eqb k moreKind) More
@@ -39,7 +41,7 @@ comparatorOf k =
 -- so many literals, whose entries begin at number e
 unfoldable pub literalsBy : ℕ → (ℕ → Entry) → ℕ → List Literal
 literalsBy zero at e = []
-literalsBy (suc n) at e = literalOf (at e) ∷ literalsBy n at (e + 1)
+literalsBy (suc n) at e = literalOfEntry (at e) ∷ literalsBy n at (e + 1)
 
 -- the literals before the entry x, number end - 1, which says how many they are
 abbrev pub listBy : (ℕ → Entry) → ℕ → Entry → List Literal
@@ -54,14 +56,14 @@ ownerBy at end x = at (end - x .first - 2)
 -- the condition of which x is the last entry, number end - 1, where `part` gives those that end before
 unfoldable pub treeFrom : (ℕ → Tree) → (ℕ → Entry) → ℕ → Entry → Tree
 treeFrom part at end x =
-    cond (leb (x .kind) hasActionKind) (has (rootOf (x .kind - roots)) (spanOf x))
+    cond (leb (x .kind) hasActionKind) (has (rootOfKind (x .kind - roots)) (spanOfEntry x))
     (cond (leb (x .kind) falseKind) (constant (eqb (x .kind) trueKind))
-    (cond (leb (x .kind) atMostKind) (compare (comparatorOf (x .kind)) (operandOf (at (end - 3))) (operandOf (at (end - 2))))
-    (cond (eqb (x .kind) likeKind) (like (operandOf (at (end - 2))) (spanOf x))
-    (cond (eqb (x .kind) inListKind) (among (operandOf (ownerBy at end x)) (listBy at end x))
-    (cond (eqb (x .kind) inAttributeKind) (within (operandOf (at (end - 3))) (rootOf (at (end - 2) .kind)) (spanOf (at (end - 2))))
-    (cond (eqb (x .kind) containsAllKind) (contains All (rootOf (ownerBy at end x .kind)) (spanOf (ownerBy at end x)) (listBy at end x))
-    (cond (eqb (x .kind) containsAnyKind) (contains Any (rootOf (ownerBy at end x .kind)) (spanOf (ownerBy at end x)) (listBy at end x))
+    (cond (leb (x .kind) atMostKind) (compare (comparatorOfKind (x .kind)) (operandOfEntry (at (end - 3))) (operandOfEntry (at (end - 2))))
+    (cond (eqb (x .kind) likeKind) (like (operandOfEntry (at (end - 2))) (spanOfEntry x))
+    (cond (eqb (x .kind) inListKind) (among (operandOfEntry (ownerBy at end x)) (listBy at end x))
+    (cond (eqb (x .kind) inAttributeKind) (within (operandOfEntry (at (end - 3))) (rootOfKind (at (end - 2) .kind)) (spanOfEntry (at (end - 2))))
+    (cond (eqb (x .kind) containsAllKind) (contains All (rootOfKind (ownerBy at end x .kind)) (spanOfEntry (ownerBy at end x)) (listBy at end x))
+    (cond (eqb (x .kind) containsAnyKind) (contains Any (rootOfKind (ownerBy at end x .kind)) (spanOfEntry (ownerBy at end x)) (listBy at end x))
     (cond (eqb (x .kind) notKind) (not (part (end - 1)))
     (cond (eqb (x .kind) bracketsKind) (brackets (part (end - 1)))
     (cond (eqb (x .kind) andKind) (both (part (x .first)) (part (end - 1)))
@@ -80,8 +82,8 @@ treeBy at end = treeIn end at end
 -- ---- policies
 
 -- the principal or resource part of an entry
-unfoldable pub partOf : Entry → Part
-partOf x = cond (eqb (x .kind) barePartKind) any (cond (eqb (x .kind) typedPartKind) (typed (x .first)) (pinned (spanOf x)))
+unfoldable pub partOfEntry : Entry → Part
+partOfEntry x = cond (eqb (x .kind) barePartKind) any (cond (eqb (x .kind) typedPartKind) (typed (x .first)) (pinned (spanOfEntry x)))
 
 -- the action part of which x is the last entry, number end - 1
 unfoldable pub actionsBy : (ℕ → Entry) → ℕ → Entry → Actions
@@ -95,20 +97,20 @@ conditionBy at first end = cond (eqb first end) none (some (treeBy at end))
 unfoldable pub policyBy : (ℕ → Entry) → ℕ → Entry → Policy
 policyBy at end x = record {
   permits = eqb (x .kind) permitKind;
-  principal = partOf (at (x .first));
+  principal = partOfEntry (at (x .first));
   action = actionsBy at (x .second - 1) (at (x .second - 2));
-  resource = partOf (at (x .second - 1));
+  resource = partOfEntry (at (x .second - 1));
   condition = conditionBy at (x .second) (end - 1);
 }
 
 -- the policies whose entries end before number `end`, but at most n
-unfoldable pub policiesIn : ℕ → (ℕ → Entry) → ℕ → List Policy
-policiesIn zero at end = []
-policiesIn (suc n) at end = cond (eqb end 0) [] (policiesIn n at (at (end - 1) .first) ++ policyBy at end (at (end - 1)) ∷ [])
+unfoldable pub policiesUpTo : ℕ → (ℕ → Entry) → ℕ → List Policy
+policiesUpTo zero at end = []
+policiesUpTo (suc n) at end = cond (eqb end 0) [] (policiesUpTo n at (at (end - 1) .first) ++ policyBy at end (at (end - 1)) ∷ [])
 
 -- the same: there are no more policies than entries
 abbrev pub policiesBy : (ℕ → Entry) → ℕ → List Policy
-policiesBy at end = policiesIn end at end
+policiesBy at end = policiesUpTo end at end
 
 -- ---- the same of a table, whose accessor is `entryAt table`
 
@@ -129,8 +131,8 @@ abbrev pub actionsOf : List ℕ → ℕ → Entry → Actions
 actionsOf table end x = actionsBy (entryAt table) end x
 
 -- the policy of which x is the last entry, number end - 1
-abbrev pub policyOf : List ℕ → ℕ → Entry → Policy
-policyOf table end x = policyBy (entryAt table) end x
+abbrev pub policyAt : List ℕ → ℕ → Entry → Policy
+policyAt table end x = policyBy (entryAt table) end x
 
 -- the policies whose entries end before number `end`
 abbrev pub policiesAt : List ℕ → ℕ → List Policy

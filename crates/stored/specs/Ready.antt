@@ -6,7 +6,7 @@ use Prim.Native.Nat.{ℕ, _+_, _-_, _≤_, _<_}
 use Rattle.placing.specs.Placed.{Each, TreePlaced, PolicyPlaced}
 use Rattle.table.specs.declared.Entry.{Entry}
 use Rattle.table.specs.Kinds.{hasPrincipalKind, equalKind, atMostKind, likeKind, inListKind, inAttributeKind, containsAllKind, containsAnyKind, notKind, andKind, ifKind}
-use Rattle.table.specs.Layout.{entryAt, entriesIn}
+use Rattle.table.specs.Layout.{entryAt, entriesIn, fieldNumbers}
 use Rattle.stored.specs.Stored.{Stored, StoredPolicies}
 use Rattle.stored.specs.ReadBack.{treeFrom, treeBy, policyBy, policiesBy}
 
@@ -40,7 +40,7 @@ pub record NodeBy (text : List ℕ) (at : ℕ → Entry) (many end : ℕ) (x : E
   pub is : treeBy at end ≡ treeFrom (treeBy at) at end x
   pub placed : TreePlaced text (treeFrom (treeBy at) at end x)
   pub some : 0 < end
-  pub few : end < 65536
+  pub few : end < fieldNumbers
   pub here : end ≤ many
   pub low : hasPrincipalKind ≤ x .kind
   pub high : x .kind ≤ ifKind
@@ -61,7 +61,7 @@ pub record LastBy (text : List ℕ) (at : ℕ → Entry) (many end : ℕ) (x : E
   pub begins : x .first + 3 ≤ x .second
   pub ends : x .second < end
   pub listed : at (x .second - 2) .first + 2 ≤ x .second
-  pub few : end < 65536
+  pub few : end < fieldNumbers
   pub here : end ≤ many
   pub before : PoliciesReadyBy text at many (x .first)
   pub condition : x .second < end - 1 → ReadyBy text at many (end - 1)

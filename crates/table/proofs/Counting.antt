@@ -12,20 +12,20 @@ use borrow.Author.Tests.{eqb-false}
 use Rattle.tokens.specs.Kinds as kinds
 use Rattle.tokens.specs.Tokens.{tokenAt}
 use Rattle.tokens.proofs.ReadLaws.{reads}
-use Rattle.reading.specs.Lexemes.{Lexeme, lexeme, is, choose, following, tokensUpTo, tokensFrom, tokensOf}
+use Rattle.reading.specs.Lexemes.{Lexeme, lexeme, is, choose, tokensAfter, tokensUpTo, tokensFrom, tokensOf}
 use Rattle.reading.specs.Reads.{Reading, Chain, Chain.alone, Chain.more, Onto.onto, Before.ended, After.begun}
-use Rattle.grammar.specs.Policies.{Literal, Operand, Tree, constant, both, either, Part, Actions, Policy}
+use Rattle.grammar.specs.Policies.{rootByte, Literal, Operand, Tree, constant, both, either, Part, Actions, Policy}
 use Rattle.grammar.specs.Rules.{literalOf, whichOf}
 use Rattle.grammar.specs.Grammar.{Limits, Attribute, rooted, AnOperand, given, Element, element, Listing, Simple, comparison, likeness, listed, held, call, having, Joined, Conjunction, Disjunction, ConditionOver, simple, negation, bracketed, conditional, Condition, Typed, ResourceRest, ActionRest, When, PolicyRest, Policies, RuleText}
 use Rattle.grammar.specs.Grammar as grammar
 use Rattle.grammar.specs.Grammar.{sizes}
 use Rattle.grammar.specs.Parser.{read-text}
-use Rattle.grammar.specs.Promise.{AcceptedExactly}
-use Rattle.grammar.proofs.Exactly.{accepted-exactly}
+use Rattle.grammar.specs.Promise.{TokensAcceptedExactly}
+use Rattle.grammar.proofs.Exactly.{tokens-accepted-exactly}
 use Rattle.grammar.proofs.Framing.{shrinks-names}
 use Rattle.reading.specs.Reader.{took}
 use Rattle.table.specs.declared.Entry.{Entry}
-use Rattle.table.specs.Entries.{entry, placed, rootKind, whichKind, operandEntry, literalEntry, literalEntries, joint, treeEntries, partEntry, actionEntries, conditionEntries, effectKind, targetEntries, policyEntries, policiesEntries}
+use Rattle.table.specs.Entries.{entry, placed, whichKind, operandEntry, literalEntry, literalEntries, joint, treeEntries, partEntry, actionEntries, conditionEntries, effectKind, targetEntries, policyEntries, policiesEntries}
 
 -- the entries of policies and of one more
 pub policies-append : (e : ℕ) (ps : List Policy) (p : Policy) → policiesEntries e (ps ++ p ∷ []) ≡ policiesEntries e ps ++ policyEntries (e + length (policiesEntries e ps)) p
@@ -51,7 +51,7 @@ module _ (L : Limits) where
 
   operand-tokens : {i r : List Lexeme} {a : Operand} → AnOperand L i r a → 1 + length r ≤ length i
   operand-tokens (given h) = let x = attribute-tokens h in omega arith
-  operand-tokens (grammar.AnOperand.plain t) = omega arith
+  operand-tokens (grammar.AnOperand.literally t) = omega arith
 
   element-tokens : {sort : Lexeme → Bool} {ls ms : List Literal} {i r : List Lexeme} → Element L sort ls i r ms → length ms + length r ≤ length ls + length i
   element-tokens {ls = ls} (element {x = x} t k) = let y = length-append ls (literalOf x ∷ []) in omega arith
@@ -77,7 +77,7 @@ module _ (L : Limits) where
   simple-pays (held h k l) e = let x = operand-tokens h in let y = attribute-tokens l in omega arith
   simple-pays (call {w = w} {root = root} {p = p} {ls = ls} h d t o (ended l k)) e =
       let x = attribute-tokens h in let y = listing-tokens l in let z = entries-length ls in
-      let n = length-append (placed (rootKind root) p ∷ literalEntries ls) (entry (whichKind (whichOf w)) (length ls) 0 ∷ []) in omega arith
+      let n = length-append (placed (rootByte root) p ∷ literalEntries ls) (entry (whichKind (whichOf w)) (length ls) 0 ∷ []) in omega arith
   simple-pays (having t k j) e = let y = shrinks-names L _ .at j in omega arith
 
   joined-pays : (sep kind : ℕ) (join : Tree → Tree → Tree) {R : Reading Tree} → ((e : ℕ) (a b : Tree) → treeEntries e (join a b) ≡ joint kind e (treeEntries e a) (λ f. treeEntries f b))
@@ -167,7 +167,7 @@ module _ (L : Limits) where
 
 module _ (text : List ℕ) where
   tokens-bytes : (n at : ℕ) → at ≤ length text → length (tokensUpTo n text at) + at ≤ length text
-  unfolding tokensUpTo following choose
+  unfolding tokensUpTo tokensAfter choose
   tokens-bytes zero at h = omega arith
   tokens-bytes (suc n) at h = go (eqb (tokenAt text at .kind) 0) refl (tokens-bytes n (tokenAt text at .end) (reads text at h .high))
     where
@@ -183,5 +183,5 @@ module _ (text : List ℕ) where
 
 -- no more entries than bytes
 pub entries-few : (text : List ℕ) (ps : List Policy) → read-text (tokensOf text) ≡ took ps [] → length (policiesEntries 0 ps) ≤ length text
-unfolding AcceptedExactly
-entries-few text ps e = let x = no-more-than-tokens sizes (accepted-exactly (tokensOf text) ps .0 e) in let y = no-more-than-bytes text in omega arith
+unfolding TokensAcceptedExactly
+entries-few text ps e = let x = no-more-than-tokens sizes (tokens-accepted-exactly (tokensOf text) ps .0 e) in let y = no-more-than-bytes text in omega arith

@@ -14,7 +14,7 @@ use borrow.Author.Tests.{eqb-true, eqb-false, eq-eqb, le-leb, leb-true, leb-fals
 use Rattle.tokens.proofs.TokenLaws.{and-left, and-right}
 use Rattle.table.specs.declared.Entry.{Entry}
 use Rattle.slices.specs.Parts.{Begins}
-use Rattle.table.specs.Layout.{entrySize, entryBytes, bytesOf, entriesIn, fits, putAt, puts, numberOf, entryAt, entryIs, held, startsWith}
+use Rattle.table.specs.Layout.{entrySize, entryBytes, bytesOf, entriesIn, fits, putAt, puts, ofTwoBytes, entryAt, entryIs, held, startsWith}
 use Rattle.slices.specs.Decides.{Decides}
 use Rattle.slices.proofs.Decided.{yes-to, no-to, refuted}
 
@@ -134,7 +134,7 @@ module _ (T : List ℕ) where
 -- ---- what a table gives back
 
 -- a field below 65,536 comes back from its bytes
-field-back : (a b n : ℕ) → n < 65536 → a ≡ n % 256 → b ≡ n / 256 % 256 → numberOf a b ≡ n
+field-back : (a b n : ℕ) → n < 65536 → a ≡ n % 256 → b ≡ n / 256 % 256 → ofTwoBytes a b ≡ n
 field-back a b n h e f = omega arith
 
 parted : (a b : Bool) → a && b ≡ true → (a ≡ true) × (b ≡ true)

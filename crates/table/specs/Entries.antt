@@ -5,8 +5,8 @@ use mathlib.Core.Option.{Option, none, some}
 use Prim.Native.Nat.{ℕ, _+_}
 use lib.ListN.{length}
 use Rattle.table.specs.declared.Entry.{Entry}
-use Rattle.table.specs.Kinds.{principalKind, resourceKind, envKind, actionKind, hasPrincipalKind, hasResourceKind, hasEnvKind, hasActionKind, stringKind, numberKind, trueKind, falseKind, equalKind, notEqualKind, moreKind, atLeastKind, lessKind, atMostKind, likeKind, inListKind, inAttributeKind, containsAllKind, containsAnyKind, notKind, bracketsKind, andKind, orKind, ifKind, barePartKind, typedPartKind, pinnedPartKind, bareActionKind, listedActionKind, permitKind, forbidKind}
-use Rattle.grammar.specs.Policies.{Span, Root, Root.Principal, Root.Resource, Root.Env, Root.Action, Comparator, Comparator.Equal, Comparator.NotEqual, Comparator.More, Comparator.AtLeast, Comparator.Less, Comparator.AtMost, Literal, text, number, truth, Operand, attribute, literal, Which, Which.All, Which.Any, Tree, constant, compare, like, among, within, contains, has, not, brackets, both, either, choice, Part, any, typed, pinned, Actions, every, oneOf, Policy}
+use Rattle.table.specs.Kinds.{hasPrincipalKind, hasResourceKind, hasEnvKind, hasActionKind, stringKind, numberKind, trueKind, falseKind, equalKind, notEqualKind, moreKind, atLeastKind, lessKind, atMostKind, likeKind, inListKind, inAttributeKind, containsAllKind, containsAnyKind, notKind, bracketsKind, andKind, orKind, ifKind, barePartKind, typedPartKind, pinnedPartKind, bareActionKind, listedActionKind, permitKind, forbidKind}
+use Rattle.grammar.specs.Policies.{Span, Root, rootByte, Root.Principal, Root.Resource, Root.Env, Root.Action, Comparator, Comparator.Equal, Comparator.NotEqual, Comparator.More, Comparator.AtLeast, Comparator.Less, Comparator.AtMost, Literal, text, number, truth, Operand, attribute, literal, Which, Which.All, Which.Any, Tree, constant, compare, like, among, within, contains, has, not, brackets, both, either, choice, Part, any, typed, pinned, Actions, every, oneOf, Policy}
 
 -- an entry of this kind, with these two fields
 abbrev pub entry : ℕ → ℕ → ℕ → Entry
@@ -17,13 +17,6 @@ abbrev pub placed : ℕ → Span → Entry
 placed kind s = entry kind (s .start) (s .end)
 
 -- ---- operands and literals
-
--- attributes, by their roots: those of a bag have their root bytes
-abbrev pub rootKind : Root → ℕ
-rootKind Principal = principalKind
-rootKind Resource = resourceKind
-rootKind Env = envKind
-rootKind Action = actionKind
 
 -- `has`, by its root
 abbrev pub hasKind : Root → ℕ
@@ -41,7 +34,7 @@ literalEntry (truth false) = entry falseKind 0 0
 
 -- an operand: an attribute by its root and its path's place, or a literal
 unfoldable pub operandEntry : Operand → Entry
-operandEntry (attribute root s) = placed (rootKind root) s
+operandEntry (attribute root s) = placed (rootByte root) s
 operandEntry (literal l) = literalEntry l
 
 -- the literals of a list
@@ -79,8 +72,8 @@ treeEntries e (constant false) = entry falseKind 0 0 ∷ []
 treeEntries e (compare c a b) = operandEntry a ∷ operandEntry b ∷ entry (comparatorKind c) 0 0 ∷ []
 treeEntries e (like a s) = operandEntry a ∷ placed likeKind s ∷ []
 treeEntries e (among a ls) = (operandEntry a ∷ literalEntries ls) ++ entry inListKind (length ls) 0 ∷ []
-treeEntries e (within a root s) = operandEntry a ∷ placed (rootKind root) s ∷ entry inAttributeKind 0 0 ∷ []
-treeEntries e (contains w root s ls) = (placed (rootKind root) s ∷ literalEntries ls) ++ entry (whichKind w) (length ls) 0 ∷ []
+treeEntries e (within a root s) = operandEntry a ∷ placed (rootByte root) s ∷ entry inAttributeKind 0 0 ∷ []
+treeEntries e (contains w root s ls) = (placed (rootByte root) s ∷ literalEntries ls) ++ entry (whichKind w) (length ls) 0 ∷ []
 treeEntries e (has root s) = placed (hasKind root) s ∷ []
 treeEntries e (not t) = treeEntries e t ++ entry notKind 0 0 ∷ []
 treeEntries e (brackets t) = treeEntries e t ++ entry bracketsKind 0 0 ∷ []

@@ -1,5 +1,6 @@
 -- The kinds of entries by their names, as src/entries.rt has them; docs/TABLE.md says what stands before each. Definitions only.
 use Prim.Native.Nat.{ℕ}
+use Rattle.grammar.specs.Policies.{Root.Principal, Root.Resource, Root.Env, Root.Action, rootByte}
 
 -- how many roots there are
 abbrev pub roots : ℕ
@@ -7,16 +8,16 @@ roots = 4
 
 -- attributes, by their roots; those of a bag have their root bytes
 abbrev pub principalKind : ℕ
-principalKind = 1
+principalKind = rootByte Principal
 
 abbrev pub resourceKind : ℕ
-resourceKind = 2
+resourceKind = rootByte Resource
 
 abbrev pub envKind : ℕ
-envKind = 3
+envKind = rootByte Env
 
 abbrev pub actionKind : ℕ
-actionKind = 4
+actionKind = rootByte Action
 
 -- `has` after each of these roots: its kind and as many more as there are roots
 abbrev pub hasPrincipalKind : ℕ

@@ -13,6 +13,10 @@ use Rattle.table.specs.Entries.{entry}
 abbrev pub entrySize : ℕ
 entrySize = 5
 
+-- how many numbers a field can hold: it has 16 bits
+abbrev pub fieldNumbers : ℕ
+fieldNumbers = 65536
+
 -- the bytes of an entry: its kind, the two of its first field, the two of its second
 unfoldable pub entryBytes : Entry → List ℕ
 entryBytes x = x .kind ∷ x .first % 256 ∷ x .first / 256 % 256 ∷ x .second % 256 ∷ x .second / 256 % 256 ∷ []
@@ -40,16 +44,16 @@ puts table e [] = table
 puts table e (x ∷ xs) = puts (putAt table e x) (e + 1) xs
 
 -- the number of two bytes
-abbrev pub numberOf : ℕ → ℕ → ℕ
-numberOf low high = low + 256 * high
+abbrev pub ofTwoBytes : ℕ → ℕ → ℕ
+ofTwoBytes low high = low + 256 * high
 
 -- entry number e of a table, with zeros where the table has none
 unfoldable pub entryAt : List ℕ → ℕ → Entry
 entryAt table e =
     cond (fits table e)
     (entry (getD table (entrySize * e) 0)
-    (numberOf (getD table (entrySize * e + 1) 0) (getD table (entrySize * e + 2) 0))
-    (numberOf (getD table (entrySize * e + 3) 0) (getD table (entrySize * e + 4) 0)))
+    (ofTwoBytes (getD table (entrySize * e + 1) 0) (getD table (entrySize * e + 2) 0))
+    (ofTwoBytes (getD table (entrySize * e + 3) 0) (getD table (entrySize * e + 4) 0)))
     (entry 0 0 0)
 
 -- whether the table has this entry at number e

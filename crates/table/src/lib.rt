@@ -4,7 +4,7 @@ pub mod entries;
 ghost use mathlib.Core.Path.{_≡_};
 ghost use mathlib.Core.Bool.{_&&_};
 ghost use Prim.Native.Nat.{_<_, _^_};
-ghost use Rattle.table.specs.Layout.{putAt, numberOf, entriesIn, entryAt, entryIs};
+ghost use Rattle.table.specs.Layout.{putAt, ofTwoBytes, entriesIn, entryAt, entryIs};
 
 // How many bytes an entry takes in a table: the kind, and two for each field.
 pub const ENTRY_SIZE: usize = 5;
@@ -18,7 +18,7 @@ pub struct Entry {
 
 // Two bytes as a number, the low byte first.
 fn number_of(low: u8, high: u8) -> usize
-    ensures { λ r. ⌜ r ≡ numberOf low high ⌝ }
+    ensures { λ r. ⌜ r ≡ ofTwoBytes low high ⌝ }
 {
     low as usize + 256 * (high as usize)
 }

@@ -17,7 +17,7 @@ use Rattle.placing.specs.Said.{literalWords, actionWords, partWords, policyWord
 use Rattle.placing.proofs.EachLaws.{each-first, each-rest}
 use Rattle.table.specs.declared.Entry.{Entry}
 use Rattle.table.specs.Layout.{entryAt}
-use Rattle.stored.specs.ReadBack.{spanOf, literalOf, literalsBy, literalsAt, listBy, partOf, actionsBy, actionsOf, policyBy, policyOf}
+use Rattle.stored.specs.ReadBack.{spanOfEntry, literalOfEntry, literalsBy, literalsAt, listBy, partOfEntry, actionsBy, actionsOf, policyBy, policyAt}
 use Rattle.meaning.specs.Conditions.{some}
 use Rattle.meaning.specs.Targets.{typeIn, partMatches, isString, actionMatches}
 use Rattle.meaning.specs.Decisions.{targetMatches}
@@ -41,20 +41,20 @@ module _ (t s : List ℕ) (start end : ℕ) (two : start + 2 ≤ end) (high : en
 
 -- ---- parts
 
-pinned-is : (x : Entry) → (x .kind ≡ 29 → ⊥) → (x .kind ≡ 30 → ⊥) → partOf x ≡ pinned (spanOf x)
-unfolding partOf
+pinned-is : (x : Entry) → (x .kind ≡ 29 → ⊥) → (x .kind ≡ 30 → ⊥) → partOfEntry x ≡ pinned (spanOfEntry x)
+unfolding partOfEntry
 pinned-is x n m = rw (ne-eqb _ _ n, ne-eqb _ _ m)
 
 module _ (t s : List ℕ) (x : Entry) (types : List (List ℕ)) where
-  pub any-part : x .kind ≡ 29 → true ≡ partMatches types s (partWords t (partOf x))
-  unfolding partMatches partWords partOf
+  pub any-part : x .kind ≡ 29 → true ≡ partMatches types s (partWords t (partOfEntry x))
+  unfolding partMatches partWords partOfEntry
   any-part e = rw (eq-eqb _ _ e)
 
-  pub typed-part : {n : ℕ} → n ≡ typeIn types s → x .kind ≡ 30 → eqb n (x .first) ≡ partMatches types s (partWords t (partOf x))
-  unfolding partMatches partWords partOf
+  pub typed-part : {n : ℕ} → n ≡ typeIn types s → x .kind ≡ 30 → eqb n (x .first) ≡ partMatches types s (partWords t (partOfEntry x))
+  unfolding partMatches partWords partOfEntry
   typed-part d e = rw (e, d)
 
-  pub pinned-part : (x .kind ≡ 29 → ⊥) → (x .kind ≡ 30 → ⊥) → same s (quotedAt t (spanOf x)) ≡ partMatches types s (partWords t (partOf x))
+  pub pinned-part : (x .kind ≡ 29 → ⊥) → (x .kind ≡ 30 → ⊥) → same s (quotedAt t (spanOfEntry x)) ≡ partMatches types s (partWords t (partOfEntry x))
   unfolding partMatches partWords
   pinned-part n m = rw (pinned-is x n m)
 
@@ -63,7 +63,7 @@ pinned-placed e any-resource = absurd (let z : _≡_ {A = ℕ} 0 1 = cc in omega
 pinned-placed e (resource-type l h) = absurd (let z : _≡_ {A = ℕ} 0 1 = cc in omega arith)
 pinned-placed {t} {p} {s} e (one-resource {s = z} h) = let k : z ≡ s = cc in subst (StringPlaced t) k h
 
-pub pinned-quoted : (t : List ℕ) (x : Entry) → (x .kind ≡ 29 → ⊥) → (x .kind ≡ 30 → ⊥) → ResourcePlaced t (partOf x) → (x .first + 2 ≤ x .second) × (x .second ≤ length t)
+pub pinned-quoted : (t : List ℕ) (x : Entry) → (x .kind ≡ 29 → ⊥) → (x .kind ≡ 30 → ⊥) → ResourcePlaced t (partOfEntry x) → (x .first + 2 ≤ x .second) × (x .second ≤ length t)
 pinned-quoted t x n m p = quoted (pinned-placed (pinned-is x n m) p)
 
 -- a principal part lies as a resource part does
@@ -80,26 +80,26 @@ literal-cases s z false false c e = absurd (let z : _≡_ {A = ℕ} 0 1 = cc in 
 
 -- an entry of the list is a string
 record StringAt (t : List ℕ) (x : Entry) : Type 0 where
-  is : literalOf x ≡ text (spanOf x)
-  lies : StringPlaced t (spanOf x)
+  is : literalOfEntry x ≡ text (spanOfEntry x)
+  lies : StringPlaced t (spanOfEntry x)
 
-string-at : {t : List ℕ} {l : Literal} {x : Entry} → literalOf x ≡ l → ActionPlaced t l → StringAt t x
-unfolding literalOf
+string-at : {t : List ℕ} {l : Literal} {x : Entry} → literalOfEntry x ≡ l → ActionPlaced t l → StringAt t x
+unfolding literalOfEntry
 string-at {t} {l} {x} e (an-action {s = z} p) =
-    let k : z ≡ spanOf x = literal-cases (spanOf x) z (eqb (x .kind) 9) (eqb (x .kind) 10) (eqb (x .kind) 11) e in record { is = e ∙ ap text k; lies = subst (StringPlaced t) k p }
+    let k : z ≡ spanOfEntry x = literal-cases (spanOfEntry x) z (eqb (x .kind) 9) (eqb (x .kind) 10) (eqb (x .kind) 11) e in record { is = e ∙ ap text k; lies = subst (StringPlaced t) k p }
 
 module _ (t action table : List ℕ) where
   -- the strings left, from entry number e on
   abbrev pub amongAt : ℕ → ℕ → Bool
   amongAt left e = some (λ l. isString action (literalWords t l)) (literalsAt left table e)
 
-  literals-on : (left e : ℕ) → 0 < left → literalsAt left table e ≡ literalOf (entryAt table e) ∷ literalsAt (left - 1) table (e + 1)
+  literals-on : (left e : ℕ) → 0 < left → literalsAt left table e ≡ literalOfEntry (entryAt table e) ∷ literalsAt (left - 1) table (e + 1)
   unfolding literalsBy
   literals-on zero e l = absurd (omega arith)
   literals-on (suc n) e l = let m : suc n - 1 ≡ n = omega arith in rw m
 
   module _ (left e : ℕ) (l : 0 < left) (each : Each (ActionPlaced t) (literalsAt left table e)) where
-    parted : ActionPlaced t (literalOf (entryAt table e)) × Each (ActionPlaced t) (literalsAt (left - 1) table (e + 1))
+    parted : ActionPlaced t (literalOfEntry (entryAt table e)) × Each (ActionPlaced t) (literalsAt (left - 1) table (e + 1))
     parted = let h = subst (Each (ActionPlaced t)) (literals-on left e l) each in (each-first h, each-rest h)
 
     here : StringAt t (entryAt table e)
@@ -108,7 +108,7 @@ module _ (t action table : List ℕ) where
     pub each-on : Each (ActionPlaced t) (literalsAt (left - 1) table (e + 1))
     each-on = parted .1
 
-    unroll : amongAt left e ≡ same action (quotedAt t (spanOf (entryAt table e))) || amongAt (left - 1) (e + 1)
+    unroll : amongAt left e ≡ same action (quotedAt t (spanOfEntry (entryAt table e))) || amongAt (left - 1) (e + 1)
     unfolding some isString literalWords
     unroll = rw (literals-on left e l, here .is)
 
@@ -151,19 +151,19 @@ module _ (t action table : List ℕ) where
 
 module _ (t table : List ℕ) (end : ℕ) (x : Entry) (subject action resource : List ℕ) where
   abbrev whole : Bool
-  whole = targetMatches (request subject action resource) (policyWords t (policyOf table end x))
+  whole = targetMatches (request subject action resource) (policyWords t (policyAt table end x))
 
   module _ (y : Entry) (is : y ≡ entryAt table (x .first)) where
-    pub other-subject : {r : Bool} → r ≡ partMatches principalTypes subject (partWords t (partOf y)) → r ≡ false → false ≡ whole
+    pub other-subject : {r : Bool} → r ≡ partMatches principalTypes subject (partWords t (partOfEntry y)) → r ≡ false → false ≡ whole
     unfolding targetMatches policyBy
     other-subject d e = rw (← is, sym d ∙ e)
 
     module _ (z : Entry) (is′ : z ≡ entryAt table (x .second - 1)) where
-      pub other-resource : {r : Bool} → r ≡ partMatches resourceTypes resource (partWords t (partOf z)) → r ≡ false → false ≡ whole
+      pub other-resource : {r : Bool} → r ≡ partMatches resourceTypes resource (partWords t (partOfEntry z)) → r ≡ false → false ≡ whole
       unfolding targetMatches policyBy
       other-resource d e = rw (← is′, sym d ∙ e, and-false)
 
-      pub by-action : {r r′ b : Bool} → r ≡ partMatches principalTypes subject (partWords t (partOf y)) → r ≡ true → r′ ≡ partMatches resourceTypes resource (partWords t (partOf z)) → r′ ≡ true
+      pub by-action : {r r′ b : Bool} → r ≡ partMatches principalTypes subject (partWords t (partOfEntry y)) → r ≡ true → r′ ≡ partMatches resourceTypes resource (partWords t (partOfEntry z)) → r′ ≡ true
           → (w : Entry) → w ≡ entryAt table (x .second - 2) → b ≡ actionMatches action (actionWords t (actionsOf table (x .second - 1) w)) → b ≡ whole
       unfolding targetMatches policyBy
       by-action d e f h w k a = a ∙ rw (k, ← is, sym d ∙ e, ← is′, sym f ∙ h) (sym (and-true _))

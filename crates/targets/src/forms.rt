@@ -8,6 +8,9 @@ ghost use Rattle.meaning.specs.Targets.{beforeColon, typeIn, isTyped, isSystem,
 use heads::type_number;
 use slices::same;
 
+// How many bytes subject, action and resource may have.
+pub const MOST_REQUEST_BYTES: usize = 100;
+
 // Whether the subject is the system.
 pub fn is_system(s: &[u8]) -> bool
     ensures { λ r. ⌜ r ≡ isSystem (now (s .entry)) ⌝ }
@@ -15,11 +18,11 @@ pub fn is_system(s: &[u8]) -> bool
     same(s, b"system")
 }
 
-// Whether this is an action: 1 to 100 bytes.
+// Whether this is an action: at least one byte, and no more than it may have.
 pub fn is_action(s: &[u8]) -> bool
     ensures { λ r. ⌜ r ≡ isAction (now (s .entry)) ⌝ }
 {
-    (s.len() <= 100) & (0 < s.len())
+    (s.len() <= MOST_REQUEST_BYTES) & (0 < s.len())
 }
 
 // Where the type ends: how many bytes stand before the first colon; all, where there is none.
@@ -40,7 +43,7 @@ fn type_end(s: &[u8]) -> usize
 fn typed(resource: bool, s: &[u8]) -> usize
     ensures { λ r. ⌜ r ≡ cond (isTyped (typesOf resource) (now (s .entry))) (typeIn (typesOf resource) (now (s .entry))) 0 ⌝ }
 {
-    if 100 < s.len() {
+    if MOST_REQUEST_BYTES < s.len() {
         return 0;
     }
     let colon = type_end(s);

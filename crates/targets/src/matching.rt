@@ -7,7 +7,7 @@ ghost use Rattle.slices.specs.Same.{same};
 ghost use Rattle.grammar.specs.Policies.{span};
 ghost use Rattle.placing.specs.Placed.{quotedAt, ResourcePlaced};
 ghost use Rattle.placing.specs.Said.{actionWords, partWords, policyWords};
-ghost use Rattle.stored.specs.ReadBack.{partOf, actionsOf, policyOf};
+ghost use Rattle.stored.specs.ReadBack.{partOfEntry, actionsOf, policyAt};
 ghost use Rattle.stored.specs.Ready.{Last};
 ghost use Rattle.meaning.specs.Targets.{typeIn, partMatches, actionMatches};
 ghost use Rattle.meaning.specs.Decisions.{targetMatches};
@@ -33,9 +33,9 @@ fn is_quoted(text: &[u8], start: usize, end: usize, s: &[u8]) -> bool
 
 // Whether the principal part or the resource part that x says matches s, whose type has this number among the part's types.
 fn part_matches(text: &[u8], x: Entry, s: &[u8], type_number: usize) -> bool
-    requires { ⌜ ResourcePlaced (now text) (partOf x) ⌝ }
+    requires { ⌜ ResourcePlaced (now text) (partOfEntry x) ⌝ }
     ensures { λ r. ⌜ ((types : List (List ℕ)) → «type_number» ≡ typeIn types (now (s .entry))
-        → r ≡ partMatches types (now (s .entry)) (partWords (now (text .entry)) (partOf x))) ⌝ }
+        → r ≡ partMatches types (now (s .entry)) (partWords (now (text .entry)) (partOfEntry x))) ⌝ }
 {
     if x.kind == entries::BARE_PART {
         return true;
@@ -81,7 +81,7 @@ pub fn target_matches(
     requires { ⌜ Last (now text) (now table) end x ⌝ }
     requires { ⌜ TypesOf types (now subject) (now resource) ⌝ }
     ensures { λ r. ⌜ r ≡ targetMatches (request (now (subject .entry)) (now (action .entry)) (now (resource .entry)))
-        (policyWords (now (text .entry)) (policyOf (now (table .entry)) end x)) ⌝ }
+        (policyWords (now (text .entry)) (policyAt (now (table .entry)) end x)) ⌝ }
 {
     let principal = entry_in(table, x.first);
     if !part_matches(text, principal, subject, types.subject) {

@@ -17,7 +17,7 @@ pub tokens :
     × (tokenAt (bytes "\"\" x") 0 ≡ token kinds.string 0 2)
     × (tokenAt (bytes "- 1") 0 ≡ token kinds.badByte 0 1)
     × (tokenAt (bytes "a & b") 1 ≡ token kinds.badByte 2 3)
-    × (tokenAt (bytes "a:b") 1 ≡ token kinds.colon 1 2)
+    × (tokenAt (bytes "a:b") 1 ≡ token kinds.colonOutside 1 2)
     × (tokenAt (bytes "x \"ab") 1 ≡ token kinds.unended 2 5)
     × (tokenAt (bytes "x \"a\tb") 1 ≡ token kinds.badByte 4 5)
     × (tokenAt (bytes "1234567890.123456") 0 ≡ token kinds.tooLong 0 17)

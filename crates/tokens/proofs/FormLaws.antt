@@ -15,10 +15,10 @@ use Rattle.slices.specs.Same.{same}
 use Rattle.slices.proofs.Equal.{same-decides}
 use Rattle.tokens.specs.Bytes.{classOf, letter, digit, mark}
 use Rattle.slices.specs.Parts.{Begins}
-use Rattle.tokens.specs.Runs.{is, run}
+use Rattle.tokens.specs.Runs.{isOf, run}
 use Rattle.tokens.specs.Words.{wordKind}
 use Rattle.tokens.specs.Tokens.{doubled, beforeEquals}
-use Rattle.tokens.specs.Forms.{All, empty, next, SomeDigits, digits-from, Unsigned, whole, pointed, Number, plain, minus, marks, Among, first, later, Form, a-word, a-string, a-number, a-mark, NoForm, Longest, sizeOf, mostOf}
+use Rattle.tokens.specs.Forms.{All, empty, next, SomeDigits, digits-from, Unsigned, whole, pointed, Number, signless, minus, marks, Among, first, later, Form, a-word, a-string, a-number, a-mark, NoForm, Longest, sizeOf, mostOf}
 use Rattle.tokens.specs.declared.classes.Sort.{Sort}
 use Rattle.tokens.specs.declared.classes.Sort.the-variants.{Blanks, Marks, Digits, Letters, WordBytes, StringBytes, LoneMarks}
 use Rattle.tokens.proofs.TokenLaws.{never, and-left, and-right, or-cases, every}
@@ -32,7 +32,7 @@ run-covers empty q = zero-le
 run-covers (next e a) q = rw e (suc-le-suc (run-covers a q))
 
 -- and just as many where no byte of the sort comes next
-pub run-is : {sort : Sort} {p : List ℕ} → All sort p → (q : List ℕ) → is sort (getD q 0 0) ≡ false → run sort (p ++ q) ≡ length p
+pub run-is : {sort : Sort} {p : List ℕ} → All sort p → (q : List ℕ) → isOf sort (getD q 0 0) ≡ false → run sort (p ++ q) ≡ length p
 unfolding run
 run-is empty [] n = refl
 run-is empty (b ∷ q) n = rw n
@@ -40,9 +40,9 @@ run-is (next e a) q n = rw e (ap suc (run-is a q n))
 
 -- a list by its run, and what comes next
 pub data Split (sort : Sort) : List ℕ → Type 0 where
-  split : {p : List ℕ} → All sort p → (q : List ℕ) → is sort (getD q 0 0) ≡ false → Split sort (p ++ q)
+  split : {p : List ℕ} → All sort p → (q : List ℕ) → isOf sort (getD q 0 0) ≡ false → Split sort (p ++ q)
 
-past-the-end : (sort : Sort) → is sort 0 ≡ false
+past-the-end : (sort : Sort) → isOf sort 0 ≡ false
 unfolding classOf
 past-the-end Blanks = refl
 past-the-end Marks = refl
@@ -52,13 +52,13 @@ past-the-end WordBytes = refl
 past-the-end StringBytes = refl
 past-the-end LoneMarks = refl
 
-split-next : {sort : Sort} {l : List ℕ} (b : ℕ) (t : Bool) → is sort b ≡ t → Split sort l → Split sort (b ∷ l)
+split-next : {sort : Sort} {l : List ℕ} (b : ℕ) (t : Bool) → isOf sort b ≡ t → Split sort l → Split sort (b ∷ l)
 split-next b true e (split a q n) = split (next e a) q n
 split-next {l} b false e s = split empty (b ∷ l) e
 
 pub split-run : (sort : Sort) (l : List ℕ) → Split sort l
 split-run sort [] = split empty [] (past-the-end sort)
-split-run sort (b ∷ l) = split-next b (is sort b) refl (split-run sort l)
+split-run sort (b ∷ l) = split-next b (isOf sort b) refl (split-run sort l)
 
 -- the byte behind a list's beginning
 pub at-seam : (p q : List ℕ) → getD (p ++ q) (length p) 0 ≡ getD q 0 0
@@ -69,7 +69,7 @@ at-seam (b ∷ p) q = at-seam p q
 
 -- a point and a digit come first
 abbrev pub hasFraction : List ℕ → Bool
-hasFraction l = eqb (getD l 0 0) 46 && is Digits (getD l 1 0)
+hasFraction l = eqb (getD l 0 0) 46 && isOf Digits (getD l 1 0)
 
 -- of a fraction, and of a number without its minus
 abbrev pub fractionReach : List ℕ → ℕ
@@ -96,17 +96,17 @@ reach (b ∷ l) =
     cond (eqb (classOf b) letter) (run WordBytes (b ∷ l))
     (cond (eqb (classOf b) digit) (digitsReach (b ∷ l))
     (cond (eqb (classOf b) mark)
-    (cond (eqb b 34) (stringReach l) (cond (eqb b 45) (cond (is Digits (getD l 0 0)) (suc (digitsReach l)) 0) (markReach b (getD l 0 0)))) 0))
+    (cond (eqb b 34) (stringReach l) (cond (eqb b 45) (cond (isOf Digits (getD l 0 0)) (suc (digitsReach l)) 0) (markReach b (getD l 0 0)))) 0))
 
 -- ---- numbers
 
 pub some-all : {l : List ℕ} → SomeDigits l → All Digits l
 some-all (digits-from e a) = next e a
 
-pub some-first : {l : List ℕ} → SomeDigits l → (q : List ℕ) → is Digits (getD (l ++ q) 0 0) ≡ true
+pub some-first : {l : List ℕ} → SomeDigits l → (q : List ℕ) → isOf Digits (getD (l ++ q) 0 0) ≡ true
 some-first (digits-from e a) q = e
 
-unsigned-first : {l : List ℕ} → Unsigned l → (q : List ℕ) → is Digits (getD (l ++ q) 0 0) ≡ true
+unsigned-first : {l : List ℕ} → Unsigned l → (q : List ℕ) → isOf Digits (getD (l ++ q) 0 0) ≡ true
 unsigned-first (whole s) q = some-first s q
 unsigned-first (pointed {w} {f} s t) q = rw (append-assoc w (46 ∷ f) q) (some-first s (46 ∷ f ++ q))
 
@@ -118,7 +118,7 @@ unsigned-covers (pointed {w} {f} s t) q =
     let h = run-covers (some-all t) q in
     rw (append-assoc w (46 ∷ f) q, r, drop-append-seam w (46 ∷ (f ++ q)), some-first t q) (omega (arith, length-append w (46 ∷ f)))
 
-pub reach-digits : (l : List ℕ) → is Digits (getD l 0 0) ≡ true → reach l ≡ digitsReach l
+pub reach-digits : (l : List ℕ) → isOf Digits (getD l 0 0) ≡ true → reach l ≡ digitsReach l
 unfolding reach classOf
 reach-digits [] e = absurd (never e)
 reach-digits (b ∷ l) e = rw (eqb-true (classOf b) digit e)
@@ -209,7 +209,7 @@ mark-covers (b ∷ c ∷ d ∷ l) e q = absurd (never e)
 
 number-covers : {l : List ℕ} → Number l → (q : List ℕ) → length l ≤ reach (l ++ q)
 unfolding reach classOf
-number-covers (plain {l} u) q = rw (reach-digits (l ++ q) (unsigned-first u q)) (unsigned-covers u q)
+number-covers (signless {l} u) q = rw (reach-digits (l ++ q) (unsigned-first u q)) (unsigned-covers u q)
 number-covers (minus {l} u) q = rw (unsigned-first u q) (suc-le-suc (unsigned-covers u q))
 
 -- a form that begins a list is no longer than the list's reach
@@ -230,7 +230,7 @@ kind-is : {kind : ℕ} {l : List ℕ} → Form kind l → kind ≡ kindOf l
 unfolding kindOf classOf
 kind-is (a-word e a) = rw e
 kind-is (a-string a) = refl
-kind-is (a-number (plain u)) = unsigned-kind u
+kind-is (a-number (signless u)) = unsigned-kind u
 kind-is (a-number (minus u)) = refl
 kind-is (a-mark m) = mark-kind m
 
@@ -242,8 +242,8 @@ some-bytes : {kind : ℕ} {l : List ℕ} → Form kind l → 0 < length l
 unfolding marked
 some-bytes (a-word e a) = omega arith
 some-bytes (a-string a) = omega arith
-some-bytes (a-number (plain (whole (digits-from e a)))) = omega arith
-some-bytes (a-number (plain (pointed (digits-from e a) t))) = omega arith
+some-bytes (a-number (signless (whole (digits-from e a)))) = omega arith
+some-bytes (a-number (signless (pointed (digits-from e a) t))) = omega arith
 some-bytes (a-number (minus u)) = omega arith
 some-bytes (a-mark {l} m) = go l (all-marked m)
   where

@@ -9,9 +9,9 @@ use lib.ListN.{length, getD, take, drop, length-append, length-drop, List·getD-
 use lib.Seq.{drop-append-le, take-append-le}
 use borrow.Author.Tests.{lt-leb, leb-false}
 use Rattle.tokens.specs.Bytes.{classOf, letter, digit, mark}
-use Rattle.tokens.specs.Runs.{is, run, runEnd}
+use Rattle.tokens.specs.Runs.{isOf, run, runEnd}
 use Rattle.tokens.specs.Words.{wordKind}
-use Rattle.tokens.specs.Tokens.{sized, wordTo, wordAt, stringTo, stringAt, fraction, numberTo, numberAt, markFrom, markAt, tokenBy, tokenFrom, tokenAt}
+use Rattle.tokens.specs.Tokens.{sized, wordTo, wordToken, stringTo, stringToken, fraction, numberTo, numberToken, markFrom, markAt, tokenBy, tokenFrom, tokenAt}
 use Rattle.tokens.proofs.ReadLaws.{either, mark-spans}
 use Rattle.tokens.specs.declared.classes.Sort.{Sort}
 use Rattle.tokens.specs.declared.classes.Sort.the-variants.{Blanks, WordBytes, Digits, StringBytes}
@@ -21,7 +21,7 @@ use Rattle.tokens.specs.declared.reader.Token.{Token}
 run-kept : (sort : Sort) (l more : List ℕ) → run sort l < length l → run sort (l ++ more) ≡ run sort l
 unfolding run
 run-kept sort [] more h = absurd (omega arith)
-run-kept sort (b ∷ rest) more h = go (is sort b) (run-kept sort rest more) h
+run-kept sort (b ∷ rest) more h = go (isOf sort b) (run-kept sort rest more) h
   where
     go : (t : Bool) → (run sort rest < length rest → run sort (rest ++ more) ≡ run sort rest) → cond t (suc (run sort rest)) 0 < suc (length rest)
         → cond t (suc (run sort (rest ++ more))) 0 ≡ cond t (suc (run sort rest)) 0
@@ -49,8 +49,8 @@ module _ (text more : List ℕ) where
   run-end-kept sort at l h =
       rw (drop-append-le at text more l) (ap (λ (n : ℕ). at + n) (run-kept sort (drop at text) more (omega (arith, length-drop at text))))
 
-  word-kept : (start : ℕ) → start < length text → Inside (wordAt text start) → wordAt (text ++ more) start ≡ wordAt text start
-  unfolding wordAt Inside
+  word-kept : (start : ℕ) → start < length text → Inside (wordToken text start) → wordToken (text ++ more) start ≡ wordToken text start
+  unfolding wordToken Inside
   word-kept start l h =
       let end = runEnd WordBytes text start in
       let inside : end < length text = omega (arith, sized-end (wordKind (take (end - start) (drop start text))) 64 (end - start) start end) in
@@ -60,8 +60,8 @@ module _ (text more : List ℕ) where
       ap (wordTo (text ++ more) start) (run-end-kept WordBytes start le inside)
       ∙ ap (λ (p : List ℕ). sized (wordKind p) 64 (end - start) start end) part
 
-  string-kept : (start : ℕ) → start < length text → Inside (stringAt text start) → stringAt (text ++ more) start ≡ stringAt text start
-  unfolding stringAt Inside
+  string-kept : (start : ℕ) → start < length text → Inside (stringToken text start) → stringToken (text ++ more) start ≡ stringToken text start
+  unfolding stringToken Inside
   string-kept start l h =
       let end = runEnd StringBytes text (start + 1) in
       let P : Token → Type 0 = λ (t : Token). t .end + 1 < length text → end < length text in
@@ -75,8 +75,8 @@ module _ (text more : List ℕ) where
       (same-choice Inside (eqb (getD text end 0) 34) (eqb (getD (text ++ more) end 0) 34) _ _ _ _ (ap (λ (b : ℕ). eqb b 34) (byte-kept end inside)) (λ _. refl) (λ _. refl))
       h
 
-  number-kept : (start first : ℕ) → first < length text → Inside (numberAt text start first) → numberAt (text ++ more) start first ≡ numberAt text start first
-  unfolding numberAt Inside
+  number-kept : (start first : ℕ) → first < length text → Inside (numberToken text start first) → numberToken (text ++ more) start first ≡ numberToken text start first
+  unfolding numberToken Inside
   number-kept start first l h =
       let whole = runEnd Digits text first in
       let end = runEnd Digits text (whole + 1) in
@@ -99,7 +99,7 @@ module _ (text more : List ℕ) where
       ∙ (ap (markFrom (text ++ more) start first) (byte-kept (start + 1) l)
       ∙ same-choice Inside (eqb first 34) (eqb first 34) _ _ _ _ refl (string-kept start (omega arith))
       (same-choice Inside (eqb first 45) (eqb first 45) _ _ _ _ refl
-      (same-choice Inside (is Digits next) (is Digits next) _ _ _ _ refl (number-kept start (start + 1) l) (λ _. refl))
+      (same-choice Inside (isOf Digits next) (isOf Digits next) _ _ _ _ refl (number-kept start (start + 1) l) (λ _. refl))
       (λ _. refl))
       h)
 

@@ -12,10 +12,10 @@ use lib.Seq.{take-append-seam, drop-append-seam, drop-append-add, getD-append-ad
 use borrow.Author.Tests.{eqb-true, eqb-false, leb-true, leb-false, le-leb, lt-leb, ne-eqb}
 use Rattle.slices.specs.Same.{same}
 use Rattle.tokens.specs.Bytes.{classOf, letter, digit, mark}
-use Rattle.tokens.specs.Runs.{is, run, runEnd}
+use Rattle.tokens.specs.Runs.{isOf, run, runEnd}
 use Rattle.tokens.specs.Words.{wordKind}
-use Rattle.tokens.specs.Tokens.{token, badByte, sized, wordAt, stringAt, numberAt, doubled, beforeEquals, markOf, markAt, tokenFrom, tokenAt}
-use Rattle.tokens.specs.Forms.{All, empty, next, SomeDigits, digits-from, Unsigned, whole, pointed, plain, minus, marks, Among, Form, a-word, a-string, a-number, a-mark, digits, sizeOf, mostOf, NoForm, Longest, Stands, end-of-text, a-token, too-long, a-colon, bad-byte, unended, bad-inside, StandsAt}
+use Rattle.tokens.specs.Tokens.{token, badByteToken, sized, wordToken, stringToken, numberToken, doubled, beforeEquals, markOf, markAt, tokenFrom, tokenAt}
+use Rattle.tokens.specs.Forms.{All, empty, next, SomeDigits, digits-from, Unsigned, whole, pointed, signless, minus, marks, Among, Form, a-word, a-string, a-number, a-mark, digits, sizeOf, mostOf, NoForm, Longest, Stands, end-of-text, a-token, too-long, a-colon, bad-byte, unended, bad-inside, StandsAt}
 use Rattle.tokens.specs.declared.classes.Sort.the-variants.{Blanks, Digits, Letters, WordBytes, StringBytes}
 use Rattle.tokens.specs.declared.reader.Token.{Token}
 use Rattle.tokens.proofs.TokenLaws.{never, and-left, and-right, every, one-passes, markBytes, told-by-class}
@@ -36,8 +36,8 @@ sized-stands {kind} {p} f q r most size end m s e =
 
 -- ---- words
 
-word-stands : (b : ℕ) {l : List ℕ} → is Letters b ≡ true → Split WordBytes l → Stands 0 (b ∷ l) (wordAt (b ∷ l) 0)
-unfolding wordAt reach
+word-stands : (b : ℕ) {l : List ℕ} → isOf Letters b ≡ true → Split WordBytes l → Stands 0 (b ∷ l) (wordToken (b ∷ l) 0)
+unfolding wordToken reach
 word-stands b e (split {p} a q n) =
     let r : run WordBytes (b ∷ (p ++ q)) ≡ suc (length p) = run-is (next {b = b} (rw e) a) q n in
     let z : 0 + suc (length p) - 0 ≡ suc (length p) = omega arith in
@@ -49,13 +49,13 @@ word-stands b e (split {p} a q n) =
 
 -- ---- strings
 
-string-reach : {p : List ℕ} → All StringBytes p → (q : List ℕ) → is StringBytes (getD q 0 0) ≡ false
+string-reach : {p : List ℕ} → All StringBytes p → (q : List ℕ) → isOf StringBytes (getD q 0 0) ≡ false
     → reach (34 ∷ (p ++ q)) ≡ cond (eqb (getD q 0 0) 34) (suc (suc (length p))) 0
 unfolding reach stringReach classOf
 string-reach {p} a q n = rw (run-is a q n, at-seam p q)
 
 -- a byte that may not stand in a string, and is no quote
-barred : (b : ℕ) → is StringBytes b ≡ false → eqb b 34 ≡ false → (b < 0x20) ⊎ (b ≡ 0x7f)
+barred : (b : ℕ) → isOf StringBytes b ≡ false → eqb b 34 ≡ false → (b < 0x20) ⊎ (b ≡ 0x7f)
 barred b e q = go (leb 0x20 b) refl (eqb b 0x7f) refl (rw q at e)
   where
     go : (t : Bool) → leb 0x20 b ≡ t → (u : Bool) → eqb b 0x7f ≡ u → (t && not u && true) ≡ false → (b < 0x20) ⊎ (b ≡ 0x7f)
@@ -63,8 +63,8 @@ barred b e q = go (leb 0x20 b) refl (eqb b 0x7f) refl (rw q at e)
     go true f false g h = absurd (never (sym h))
     go false f u g h = inl (leb-false 0x20 b f)
 
-string-stands : {l : List ℕ} → Split StringBytes l → Stands 0 (34 ∷ l) (stringAt (34 ∷ l) 0)
-unfolding stringAt
+string-stands : {l : List ℕ} → Split StringBytes l → Stands 0 (34 ∷ l) (stringToken (34 ∷ l) 0)
+unfolding stringToken
 string-stands (split {p} a [] n) =
     let r = string-reach a [] n in
     rw (run-is a [] n, append-nil p, le-leb (suc (length p)) (1 + length p) (omega arith)) (unended (no-form (34 ∷ p) (rw (append-nil p) at r)) a)
@@ -91,7 +91,7 @@ string-stands (split {p} a (c ∷ q) n) =
 pub digits-append : (p q : List ℕ) → digits (p ++ q) ≡ digits p + digits q
 unfolding digits
 digits-append [] q = sym (zero-add (digits q))
-digits-append (b ∷ p) q = go (is Digits b) (digits-append p q)
+digits-append (b ∷ p) q = go (isOf Digits b) (digits-append p q)
   where
     go : (t : Bool) → digits (p ++ q) ≡ digits p + digits q
         → cond t (suc (digits (p ++ q))) (digits (p ++ q)) ≡ cond t (suc (digits p)) (digits p) + digits q
@@ -105,9 +105,9 @@ digits-all (next e a) = rw e (ap suc (digits-all a))
 
 -- a point and digits, and what comes next
 data Fraction : List ℕ → Type 0 where
-  fraction : {f : List ℕ} → SomeDigits f → (r : List ℕ) → is Digits (getD r 0 0) ≡ false → Fraction (46 ∷ (f ++ r))
+  fraction : {f : List ℕ} → SomeDigits f → (r : List ℕ) → isOf Digits (getD r 0 0) ≡ false → Fraction (46 ∷ (f ++ r))
 
-split-fraction : {l : List ℕ} → Split Digits l → is Digits (getD l 0 0) ≡ true → Fraction (46 ∷ l)
+split-fraction : {l : List ℕ} → Split Digits l → isOf Digits (getD l 0 0) ≡ true → Fraction (46 ∷ l)
 split-fraction (split empty q n) e = absurd (never (sym n ∙ e))
 split-fraction (split (next d a) q n) e = fraction (digits-from d a) q n
 
@@ -121,7 +121,7 @@ data Sign : List ℕ → Type 0 where
   minus-sign : Sign (45 ∷ [])
 
 sign-form : {sign l : List ℕ} → Sign sign → Unsigned l → Form 48 (sign ++ l)
-sign-form no-sign u = a-number (plain u)
+sign-form no-sign u = a-number (signless u)
 sign-form minus-sign u = a-number (minus u)
 
 sign-digits : {sign : List ℕ} → Sign sign → digits sign ≡ 0
@@ -129,17 +129,17 @@ unfolding digits classOf
 sign-digits no-sign = refl
 sign-digits minus-sign = refl
 
-sign-reach : {sign : List ℕ} → Sign sign → (l : List ℕ) → is Digits (getD l 0 0) ≡ true → reach (sign ++ l) ≡ length sign + digitsReach l
+sign-reach : {sign : List ℕ} → Sign sign → (l : List ℕ) → isOf Digits (getD l 0 0) ≡ true → reach (sign ++ l) ≡ length sign + digitsReach l
 unfolding reach classOf
 sign-reach no-sign l e = reach-digits l e ∙ sym (zero-add (digitsReach l))
 sign-reach minus-sign l e = rw e (omega arith)
 
 module _ {sign w : List ℕ} (g : Sign sign) (s : SomeDigits w) where
-  number-reach : (q : List ℕ) → is Digits (getD q 0 0) ≡ false → reach (sign ++ (w ++ q)) ≡ length sign + (length w + fractionReach q)
+  number-reach : (q : List ℕ) → isOf Digits (getD q 0 0) ≡ false → reach (sign ++ (w ++ q)) ≡ length sign + (length w + fractionReach q)
   unfolding digitsReach
   number-reach q n = sign-reach g (w ++ q) (some-first s q) ∙ rw (run-is (some-all s) q n, drop-append-seam w q)
 
-  whole-stands : (q : List ℕ) → is Digits (getD q 0 0) ≡ false → hasFraction q ≡ false
+  whole-stands : (q : List ℕ) → isOf Digits (getD q 0 0) ≡ false → hasFraction q ≡ false
       → Stands 0 (sign ++ w ++ q) (sized 48 15 (length (sign ++ w) - length sign) 0 (length (sign ++ w)))
   whole-stands q n e =
       let long = length-append sign w in
@@ -163,8 +163,8 @@ module _ {sign w : List ℕ} (g : Sign sign) (s : SomeDigits w) where
       (sized-stands (sign-form g (pointed s t)) r far 15 (length (sign ++ w) + 1 + length f - length sign - 1) (length (sign ++ w) + 1 + length f) refl
       (omega (arith, digits-append sign (w ++ 46 ∷ f), sign-digits g, digits-append w (46 ∷ f), digits-all (some-all s), digits-all (some-all t))) (omega arith))
 
-  number-stands : (q : List ℕ) → is Digits (getD q 0 0) ≡ false → Stands 0 (sign ++ (w ++ q)) (numberAt (sign ++ (w ++ q)) 0 (length sign))
-  unfolding numberAt
+  number-stands : (q : List ℕ) → isOf Digits (getD q 0 0) ≡ false → Stands 0 (sign ++ (w ++ q)) (numberToken (sign ++ (w ++ q)) 0 (length sign))
+  unfolding numberToken
   number-stands q n =
       let r : run Digits (w ++ q) ≡ length w = run-is (some-all s) q n in
       let size : length sign + length w ≡ length (sign ++ w) = sym (length-append sign w) in
@@ -173,7 +173,7 @@ module _ {sign w : List ℕ} (g : Sign sign) (s : SomeDigits w) where
       (either (Stands 0 (sign ++ w ++ q)) (hasFraction q) _ _ (λ e. fraction-stands (has-fraction q e)) (whole-stands q n)))
 
 -- a number at its first digit
-digits-stand : {sign l : List ℕ} → Sign sign → Split Digits l → is Digits (getD l 0 0) ≡ true → Stands 0 (sign ++ l) (numberAt (sign ++ l) 0 (length sign))
+digits-stand : {sign l : List ℕ} → Sign sign → Split Digits l → isOf Digits (getD l 0 0) ≡ true → Stands 0 (sign ++ l) (numberToken (sign ++ l) 0 (length sign))
 digits-stand g (split empty q n) e = absurd (never (sym n ∙ e))
 digits-stand g (split (next d a) q n) e = number-stands g (digits-from d a) q n
 
@@ -221,7 +221,7 @@ module _ (b : ℕ) (class : eqb (classOf b) mark ≡ true) where
     mark-stands l =
         let P = Stands 0 (b ∷ l) in
         let c = getD l 0 0 in
-        let none : reach (b ∷ l) ≡ 0 → P (badByte 0) = λ e. bad-byte (no-form (b ∷ l) e) no-colon (eqb-false b 34 no-quote) in
+        let none : reach (b ∷ l) ≡ 0 → P (badByteToken 0) = λ e. bad-byte (no-form (b ∷ l) e) no-colon (eqb-false b 34 no-quote) in
         either P (doubled b) _ _
         (λ d.
         either P (eqb c b) _ _
@@ -237,10 +237,10 @@ module _ (b : ℕ) (class : eqb (classOf b) mark ≡ true) where
 
 -- ---- the token at the beginning of a list
 
-minus-stands : (l : List ℕ) → Stands 0 (45 ∷ l) (cond (is Digits (getD l 0 0)) (numberAt (45 ∷ l) 0 1) (badByte 0))
+minus-stands : (l : List ℕ) → Stands 0 (45 ∷ l) (cond (isOf Digits (getD l 0 0)) (numberToken (45 ∷ l) 0 1) (badByteToken 0))
 unfolding reach classOf
 minus-stands l =
-    either (Stands 0 (45 ∷ l)) (is Digits (getD l 0 0)) _ _ (digits-stand minus-sign (split-run Digits l))
+    either (Stands 0 (45 ∷ l)) (isOf Digits (getD l 0 0)) _ _ (digits-stand minus-sign (split-run Digits l))
     (λ e. bad-byte (no-form (45 ∷ l) (rw e)) (omega arith) (omega arith))
 
 token-stands : (l : List ℕ) → Stands 0 l (tokenFrom l 0)
@@ -320,10 +320,10 @@ refusal : ℕ → List ℕ → Token
 refusal start [] = token 0 start start
 refusal start (b ∷ l) =
     cond (eqb b 34)
-    (cond (leb (length l) (run StringBytes l)) (token 5 start (start + 1 + run StringBytes l)) (badByte (start + 1 + run StringBytes l)))
-    (cond (eqb b 58) (token 4 start (start + 1)) (badByte start))
+    (cond (leb (length l) (run StringBytes l)) (token 5 start (start + 1 + run StringBytes l)) (badByteToken (start + 1 + run StringBytes l)))
+    (cond (eqb b 58) (token 4 start (start + 1)) (badByteToken start))
 
-not-inside : (b : ℕ) → (b < 0x20) ⊎ (b ≡ 0x7f) → is StringBytes b ≡ false
+not-inside : (b : ℕ) → (b < 0x20) ⊎ (b ≡ 0x7f) → isOf StringBytes b ≡ false
 not-inside b (inl h) = rw (lt-leb 0x20 b h)
 not-inside b (inr e) = rw e
 

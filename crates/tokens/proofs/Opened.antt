@@ -3,10 +3,10 @@ use Rattle.slices.specs.Same.{same}
 use Rattle.tokens.specs.Bytes.{classOf}
 use Rattle.tokens.specs.Runs.{run}
 use Rattle.tokens.specs.Words.{reserved, kindAmong}
-use Rattle.tokens.specs.Tokens.{sized, wordAt, stringAt, numberAt, markOf, markAt, tokenAt}
+use Rattle.tokens.specs.Tokens.{sized, wordToken, stringToken, numberToken, markOf, markAt, tokenAt}
 use Rattle.tokens.specs.Places.{past, pastAll}
 use Rattle.tokens.specs.Blanks.{unblanked}
 
 unfoldable pub tokens-opened : Unit {0}
-unfolding same classOf run reserved kindAmong sized wordAt stringAt numberAt markOf markAt tokenAt past pastAll unblanked
+unfolding same classOf run reserved kindAmong sized wordToken stringToken numberToken markOf markAt tokenAt past pastAll unblanked
 tokens-opened = tt

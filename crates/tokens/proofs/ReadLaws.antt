@@ -8,8 +8,8 @@ use lib.Dec.{leb, eqb}
 use lib.ListN.{length, getD}
 use borrow.Author.Tests.{leb-false, eqb-true}
 use Rattle.tokens.specs.Bytes.{classOf, letter, digit, mark}
-use Rattle.tokens.specs.Runs.{is, runEnd}
-use Rattle.tokens.specs.Tokens.{token, sized, wordAt, stringAt, fraction, numberAt, doubled, beforeEquals, markOf, markAt, tokenBy, tokenFrom, tokenAt, Reads}
+use Rattle.tokens.specs.Runs.{isOf, runEnd}
+use Rattle.tokens.specs.Tokens.{token, sized, wordToken, stringToken, fraction, numberToken, doubled, beforeEquals, markOf, markAt, tokenBy, tokenFrom, tokenAt, Reads}
 use Rattle.tokens.specs.declared.classes.Sort.the-variants.{Blanks, WordBytes, Digits, StringBytes}
 use Rattle.tokens.specs.declared.reader.Token.{Token}
 use Rattle.tokens.proofs.RunLaws.{high, some}
@@ -35,13 +35,13 @@ module _ (text : List ℕ) (from : ℕ) where
   sized-spans kind most size start end l s h =
       either (Spans text from) (leb size most) _ _ (λ _. here kind start end l s h) (λ _. here 6 start end l s h)
 
-  word-spans : (start : ℕ) → from ≤ start → start < length text → is WordBytes (getD text start 0) ≡ true → Spans text from (wordAt text start)
-  unfolding wordAt
+  word-spans : (start : ℕ) → from ≤ start → start < length text → isOf WordBytes (getD text start 0) ≡ true → Spans text from (wordToken text start)
+  unfolding wordToken
   word-spans start l h e =
       sized-spans _ _ _ start (runEnd WordBytes text start) l (some WordBytes text start h e) (high WordBytes text start (omega arith))
 
-  string-spans : (start : ℕ) → from ≤ start → start < length text → Spans text from (stringAt text start)
-  unfolding stringAt
+  string-spans : (start : ℕ) → from ≤ start → start < length text → Spans text from (stringToken text start)
+  unfolding stringToken
   string-spans start l h =
       let end = runEnd StringBytes text (start + 1) in
       let top : end ≤ length text = high StringBytes text (start + 1) (omega arith) in
@@ -52,9 +52,9 @@ module _ (text : List ℕ) (from : ℕ) where
       (λ _. sized-spans 34 127 (end - (start + 1)) start (end + 1) l (omega arith) (omega arith))
       (λ _. here 3 end (end + 1) (omega arith) (omega arith) (omega arith)))
 
-  number-spans : (start first : ℕ) → from ≤ start → start ≤ first → first < length text → is Digits (getD text first 0) ≡ true
-      → Spans text from (numberAt text start first)
-  unfolding numberAt
+  number-spans : (start first : ℕ) → from ≤ start → start ≤ first → first < length text → isOf Digits (getD text first 0) ≡ true
+      → Spans text from (numberToken text start first)
+  unfolding numberToken
   number-spans start first l s h e =
       let whole = runEnd Digits text first in
       let more : first < whole = some Digits text first h e in
@@ -97,7 +97,7 @@ module _ (text : List ℕ) (from : ℕ) where
       (λ _.
       either (Spans text from) (eqb first 45) _ _
       (λ _.
-      either (Spans text from) (is Digits next) _ _
+      either (Spans text from) (isOf Digits next) _ _
       (λ d. number-spans start (start + 1) l (omega arith) (digit-inside text (start + 1) d) d)
       (λ _. here 3 start (start + 1) l (omega arith) (omega arith)))
       (λ _. mark-of-spans start first next l h refl))

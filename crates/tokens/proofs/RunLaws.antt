@@ -7,14 +7,14 @@ use native.Mathlib.Numerals.{add-one}
 use native.Mathlib.Omega.{arith}
 use lib.ListN.{length, getD, drop, length-drop, drop-of-length-le}
 use lib.Seq.{drop-cons}
-use Rattle.tokens.specs.Runs.{is, run, runEnd}
+use Rattle.tokens.specs.Runs.{isOf, run, runEnd}
 use Rattle.tokens.specs.declared.classes.Sort.{Sort}
 
 -- a run is no longer than the list
 pub short : (sort : Sort) (l : List ℕ) → run sort l ≤ length l
 unfolding run
 short sort [] = zero-le
-short sort (b ∷ rest) = go (is sort b) (short sort rest)
+short sort (b ∷ rest) = go (isOf sort b) (short sort rest)
   where
     go : (t : Bool) → run sort rest ≤ length rest → cond t (suc (run sort rest)) 0 ≤ suc (length rest)
     go true h = suc-le-suc h
@@ -22,12 +22,12 @@ short sort (b ∷ rest) = go (is sort b) (short sort rest)
 
 module _ (sort : Sort) (text : List ℕ) (i : ℕ) where
   -- a byte of the sort is passed
-  pub goes-on : i < length text → is sort (getD text i 0) ≡ true → runEnd sort text (i + 1) ≡ runEnd sort text i
+  pub goes-on : i < length text → isOf sort (getD text i 0) ≡ true → runEnd sort text (i + 1) ≡ runEnd sort text i
   unfolding run
   goes-on h e = simp (drop-cons text i 0 h, e, add-one) (omega arith)
 
   -- a byte of another sort ends the run
-  pub stops : i < length text → is sort (getD text i 0) ≡ false → runEnd sort text i ≡ i
+  pub stops : i < length text → isOf sort (getD text i 0) ≡ false → runEnd sort text i ≡ i
   unfolding run
   stops h e = simp (drop-cons text i 0 h, e) (omega arith)
 
@@ -40,5 +40,5 @@ module _ (sort : Sort) (text : List ℕ) (i : ℕ) where
   high h = omega (arith, short sort (drop i text), length-drop i text)
 
   -- a run that starts with a byte of its sort has a byte
-  pub some : i < length text → is sort (getD text i 0) ≡ true → i < runEnd sort text i
+  pub some : i < length text → isOf sort (getD text i 0) ≡ true → i < runEnd sort text i
   some h e = omega (arith, goes-on h e)

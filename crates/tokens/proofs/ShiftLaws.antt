@@ -10,7 +10,7 @@ use lib.ListN.{length, length-append}
 use lib.Seq.{drop-append-add, getD-append-add}
 use borrow.Author.Tests.{le-leb, lt-leb, leb-true, leb-false}
 use Rattle.tokens.specs.Runs.{runEnd}
-use Rattle.tokens.specs.Tokens.{token, sized, wordAt, stringAt, numberAt, markOf, markAt, tokenFrom, tokenAt}
+use Rattle.tokens.specs.Tokens.{token, sized, wordToken, stringToken, numberToken, markOf, markAt, tokenFrom, tokenAt}
 use Rattle.tokens.specs.declared.classes.Sort.the-variants.{Blanks}
 use Rattle.tokens.specs.declared.reader.Token.{Token}
 
@@ -45,17 +45,17 @@ unfolding markOf
 mark-of-further n at first next = simp (further-cond, further-token, add-assoc)
 
 module _ (pre rest : List ℕ) where
-  word-further : (at : ℕ) → wordAt (pre ++ rest) (length pre + at) ≡ further (length pre) (wordAt rest at)
-  unfolding wordAt
+  word-further : (at : ℕ) → wordToken (pre ++ rest) (length pre + at) ≡ further (length pre) (wordToken rest at)
+  unfolding wordToken
   word-further at = simp (drop-append-add, add-assoc, less, sized-further)
 
-  string-further : (at : ℕ) → stringAt (pre ++ rest) (length pre + at) ≡ further (length pre) (stringAt rest at)
-  unfolding stringAt
+  string-further : (at : ℕ) → stringToken (pre ++ rest) (length pre + at) ≡ further (length pre) (stringToken rest at)
+  unfolding stringToken
   string-further at =
       simp (drop-append-add, getD-append-add, length-append, add-assoc, below, less, sized-further, further-cond, further-token)
 
-  number-further : (at first : ℕ) → numberAt (pre ++ rest) (length pre + at) (length pre + first) ≡ further (length pre) (numberAt rest at first)
-  unfolding numberAt
+  number-further : (at first : ℕ) → numberToken (pre ++ rest) (length pre + at) (length pre + first) ≡ further (length pre) (numberToken rest at first)
+  unfolding numberToken
   number-further at first = simp (drop-append-add, getD-append-add, add-assoc, less, sized-further, further-cond)
 
   mark-further : (at : ℕ) → markAt (pre ++ rest) (length pre + at) ≡ further (length pre) (markAt rest at)

@@ -10,7 +10,7 @@ use lib.ListN.{length, getD}
 use borrow.Author.Tests.{eqb-true, leb-true}
 use Rattle.slices.specs.Ascii.{bytes}
 use Rattle.tokens.specs.Bytes.{within, oneOf, classOf, textOnly, blank, mark, digit, letter}
-use Rattle.tokens.specs.Runs.{is}
+use Rattle.tokens.specs.Runs.{isOf}
 use Rattle.tokens.specs.Tokens.{fraction, beforeEquals}
 use Rattle.tokens.specs.declared.classes.Sort.the-variants.{Digits}
 
@@ -51,9 +51,9 @@ inside test (b ∷ rest) (suc i) n e = suc-le-suc (inside test rest i n e)
 pub point-inside : (text : List ℕ) (i : ℕ) → fraction text i ≡ true → i < length text
 point-inside text i e = inside (λ (b : ℕ). eqb b 46) text i never (and-left _ _ e)
 
-pub digit-inside : (text : List ℕ) (i : ℕ) → is Digits (getD text i 0) ≡ true → i < length text
+pub digit-inside : (text : List ℕ) (i : ℕ) → isOf Digits (getD text i 0) ≡ true → i < length text
 unfolding classOf
-digit-inside text i e = inside (is Digits) text i never e
+digit-inside text i e = inside (isOf Digits) text i never e
 
 -- of the tests of `classOf` in turn, a digit passed the second and a byte of the class of the marks the fourth
 class-tells : (l d w m n : Bool) (class : ℕ) → cond l letter (cond d digit (cond w blank (cond m mark (cond n 0 textOnly)))) ≡ class
@@ -76,7 +76,7 @@ told-by-class b =
     let t = class-tells (within 65 90 b || within 97 122 b) (within 48 57 b) (oneOf (bytes " \t\n\r") b) (oneOf markBytes b) (ltb b 0x20 || eqb b 0x7f) (classOf b) refl in
     (λ e. t .0 (eqb-true (classOf b) digit e), λ e. t .1 (eqb-true (classOf b) mark e))
 
-pub digit-byte : (b : ℕ) → is Digits b ≡ true → (48 ≤ b) × (b ≤ 57)
+pub digit-byte : (b : ℕ) → isOf Digits b ≡ true → (48 ≤ b) × (b ≤ 57)
 digit-byte b e =
     let h = told-by-class b .0 e in
     (leb-true 48 b (and-left (leb 48 b) (leb b 57) h), leb-true b 57 (and-right (leb 48 b) (leb b 57) h))

@@ -12,12 +12,13 @@ use lib.ListN.{length, getD, drop}
 use Rattle.slices.specs.Ascii.{bytes}
 use Rattle.slices.specs.Parts.{Begins}
 use Rattle.tokens.specs.Kinds as kinds
-use Rattle.tokens.specs.Runs.{is}
-use Rattle.tokens.specs.Tokens.{token, badByte}
+use Rattle.tokens.specs.Runs.{isOf}
+use Rattle.tokens.specs.Tokens.{token, badByteToken}
 use Rattle.tokens.specs.Words.{wordKind}
 use Rattle.tokens.specs.declared.classes.Sort.{Sort}
 use Rattle.tokens.specs.declared.classes.Sort.the-variants.{Blanks, Digits, Letters, WordBytes, StringBytes}
 use Rattle.tokens.specs.declared.reader.Token.{Token}
+use Rattle.tokens.specs.Sizes.{mostWordBytes, mostStringBytes, mostDigits}
 
 -- ---- the forms
 
@@ -28,11 +29,11 @@ quote = code "\""
 -- bytes that are all of a sort
 pub data All (sort : Sort) : List ℕ → Type 0 where
   empty : All sort []
-  next : {b : ℕ} {rest : List ℕ} → is sort b ≡ true → All sort rest → All sort (b ∷ rest)
+  next : {b : ℕ} {rest : List ℕ} → isOf sort b ≡ true → All sort rest → All sort (b ∷ rest)
 
 -- digits, at least one
 pub data SomeDigits : List ℕ → Type 0 where
-  digits-from : {b : ℕ} {rest : List ℕ} → is Digits b ≡ true → All Digits rest → SomeDigits (b ∷ rest)
+  digits-from : {b : ℕ} {rest : List ℕ} → isOf Digits b ≡ true → All Digits rest → SomeDigits (b ∷ rest)
 
 -- digits, optionally `.` and digits
 pub data Unsigned : List ℕ → Type 0 where
@@ -41,7 +42,7 @@ pub data Unsigned : List ℕ → Type 0 where
 
 -- optional `-` directly before them
 pub data Number : List ℕ → Type 0 where
-  plain : {l : List ℕ} → Unsigned l → Number l
+  signless : {l : List ℕ} → Unsigned l → Number l
   minus : {l : List ℕ} → Unsigned l → Number (code "-" ∷ l)
 
 -- the marks, and their kinds
@@ -75,7 +76,7 @@ pub data Among : List (String × ℕ) → ℕ → List ℕ → Type 0 where
 -- a token's kind, and bytes that have its form:
 -- word: a letter, then letters, digits, `_`, `-`; string: between two `"`, bytes 0x20 to 0x7E and 0x80 up, without `"`, may be empty; number; mark
 pub data Form : ℕ → List ℕ → Type 0 where
-  a-word : {b : ℕ} {rest : List ℕ} → is Letters b ≡ true → All WordBytes rest → Form (wordKind (b ∷ rest)) (b ∷ rest)
+  a-word : {b : ℕ} {rest : List ℕ} → isOf Letters b ≡ true → All WordBytes rest → Form (wordKind (b ∷ rest)) (b ∷ rest)
   a-string : {inside : List ℕ} → All StringBytes inside → Form kinds.string (quote ∷ (inside ++ quote ∷ []))
   a-number : {l : List ℕ} → Number l → Form kinds.number l
   a-mark : {kind : ℕ} {l : List ℕ} → Among marks kind l → Form kind l
@@ -85,7 +86,7 @@ pub data Form : ℕ → List ℕ → Type 0 where
 -- how many of some bytes are digits
 unfoldable pub digits : List ℕ → ℕ
 digits [] = 0
-digits (b ∷ rest) = cond (is Digits b) (suc (digits rest)) (digits rest)
+digits (b ∷ rest) = cond (isOf Digits b) (suc (digits rest)) (digits rest)
 
 -- the size of a token, by its kind
 abbrev pub sizeOf : ℕ → List ℕ → ℕ
@@ -93,7 +94,7 @@ sizeOf kind l = cond (eqb kind kinds.string) (length l - 2) (cond (eqb kind kind
 
 -- the largest size that is admitted
 abbrev pub mostOf : ℕ → ℕ
-mostOf kind = cond (eqb kind kinds.string) 127 (cond (eqb kind kinds.number) 15 64)
+mostOf kind = cond (eqb kind kinds.string) mostStringBytes (cond (eqb kind kinds.number) mostDigits mostWordBytes)
 
 -- ---- the token at a place
 
@@ -114,12 +115,12 @@ pub data Stands (start : ℕ) : List ℕ → Token → Type 0 where
   end-of-text : Stands start [] (token kinds.endOfText start start)
   a-token : {kind : ℕ} {p l : List ℕ} → Longest kind p l → sizeOf kind p ≤ mostOf kind → Stands start l (token kind start (start + length p))
   too-long : {kind : ℕ} {p l : List ℕ} → Longest kind p l → mostOf kind < sizeOf kind p → Stands start l (token kinds.tooLong start (start + length p))
-  a-colon : {l : List ℕ} → NoForm (code ":" ∷ l) → Stands start (code ":" ∷ l) (token kinds.colon start (start + 1))
-  bad-byte : {b : ℕ} {l : List ℕ} → NoForm (b ∷ l) → b ≢ code ":" → b ≢ quote → Stands start (b ∷ l) (badByte start)
+  a-colon : {l : List ℕ} → NoForm (code ":" ∷ l) → Stands start (code ":" ∷ l) (token kinds.colonOutside start (start + 1))
+  bad-byte : {b : ℕ} {l : List ℕ} → NoForm (b ∷ l) → b ≢ code ":" → b ≢ quote → Stands start (b ∷ l) (badByteToken start)
   unended : {inside : List ℕ} → NoForm (quote ∷ inside) → All StringBytes inside
       → Stands start (quote ∷ inside) (token kinds.unended start (start + 1 + length inside))
   bad-inside : {inside : List ℕ} {b : ℕ} (l : List ℕ) → NoForm (quote ∷ (inside ++ b ∷ l)) → All StringBytes inside → (b < 0x20) ⊎ (b ≡ 0x7f)
-      → Stands start (quote ∷ (inside ++ b ∷ l)) (badByte (start + 1 + length inside))
+      → Stands start (quote ∷ (inside ++ b ∷ l)) (badByteToken (start + 1 + length inside))
 
 -- the token at or after a place: the blanks there are passed, and the rest, which may be empty, begins with none
 pub record StandsAt (text : List ℕ) (at : ℕ) (t : Token) : Type 0 where
@@ -127,5 +128,5 @@ pub record StandsAt (text : List ℕ) (at : ℕ) (t : Token) : Type 0 where
   pub rest : List ℕ
   pub parts : drop at text ≡ blanks ++ rest
   pub passed : All Blanks blanks
-  pub no-blank : is Blanks (getD rest 0 0) ≡ false
+  pub no-blank : isOf Blanks (getD rest 0 0) ≡ false
   pub stands : Stands (at + length blanks) rest t

@@ -11,8 +11,8 @@ endOfText = 0
 abbrev pub badByte : ℕ
 badByte = 3
 
-abbrev pub colon : ℕ
-colon = 4
+abbrev pub colonOutside : ℕ
+colonOutside = 4
 
 abbrev pub unended : ℕ
 unended = 5

@@ -1,5 +1,6 @@
 pub mod Kinds
 pub mod Bytes
+pub mod Sizes
 pub mod Runs
 pub mod Table
 pub mod Words

@@ -24,19 +24,19 @@ abbrev pub loneMark : ℕ → Bool
 loneMark b = oneOf (bytes "(){}[],;.") b
 
 -- whether a byte is of a sort
-abbrev pub is : Sort → ℕ → Bool
-is Blanks b = eqb (classOf b) blank
-is Marks b = eqb (classOf b) mark
-is Digits b = eqb (classOf b) digit
-is Letters b = eqb (classOf b) letter
-is WordBytes b = wordByte b
-is StringBytes b = stringByte b
-is LoneMarks b = loneMark b
+abbrev pub isOf : Sort → ℕ → Bool
+isOf Blanks b = eqb (classOf b) blank
+isOf Marks b = eqb (classOf b) mark
+isOf Digits b = eqb (classOf b) digit
+isOf Letters b = eqb (classOf b) letter
+isOf WordBytes b = wordByte b
+isOf StringBytes b = stringByte b
+isOf LoneMarks b = loneMark b
 
 -- how many bytes there are up to the first that is not of the sort
 unfoldable pub run : Sort → List ℕ → ℕ
 run sort [] = 0
-run sort (b ∷ rest) = cond (is sort b) (suc (run sort rest)) 0
+run sort (b ∷ rest) = cond (isOf sort b) (suc (run sort rest)) 0
 
 -- the place of the first byte from `at` on that is not of the sort, or the text's end
 abbrev pub runEnd : Sort → List ℕ → ℕ → ℕ

@@ -1,6 +1,6 @@
 -- Reserved words. Definitions only.
 use Prim.Native.Nat.{ℕ, suc}
-use mathlib.Core.Bool.{cond}
+use mathlib.Core.Bool.{Bool, false, cond, _||_}
 use mathlib.Core.List.{List, [], _∷_, map}
 use Rattle.slices.specs.Ascii.{bytes}
 use Rattle.slices.specs.Same.{same}
@@ -38,3 +38,12 @@ kindAmong (w ∷ more) first word = cond (same word w) first (kindAmong more (su
 -- a word's kind
 abbrev pub wordKind : List ℕ → ℕ
 wordKind word = kindAmong reserved permitWord word
+
+-- a word is one of these
+unfoldable pub isAmong : List (List ℕ) → List ℕ → Bool
+isAmong [] word = false
+isAmong (w ∷ more) word = same word w || isAmong more word
+
+-- a word is reserved
+abbrev pub isReserved : List ℕ → Bool
+isReserved word = isAmong reserved word

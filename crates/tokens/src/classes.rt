@@ -1,6 +1,6 @@
 // The class of every byte, and what else the token reader asks of a byte: one table.
 ghost use mathlib.Core.Path.{_≡_};
-ghost use Rattle.tokens.specs.Runs.{is};
+ghost use Rattle.tokens.specs.Runs.{isOf};
 ghost use Rattle.tokens.specs.Table.{classTable};
 
 // The sorts of bytes: four of the classes, what a word may go on with, what may stand in a string, and the marks that no second byte makes longer.
@@ -59,7 +59,7 @@ pub fn class_table() -> [u8; 256]
 // Whether the byte is of the sort.
 pub fn is_of(classes: &[u8; 256], sort: Sort, b: u8) -> bool
     requires { ⌜ now classes ≡ classTable ⌝ }
-    ensures { λ r. ⌜ r ≡ is sort b ⌝ }
+    ensures { λ r. ⌜ r ≡ isOf sort b ⌝ }
 {
     let entry = classes[b as usize];
     match sort {

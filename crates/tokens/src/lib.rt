@@ -4,4 +4,5 @@ pub mod kinds;
 pub mod places;
 pub mod reader;
 pub mod runs;
+pub mod sizes;
 pub mod words;

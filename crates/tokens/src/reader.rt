@@ -4,11 +4,14 @@ ghost use Prim.Native.Nat.{_<_, _≤_, _+_, _^_};
 ghost use lib.ListN.{getD, length};
 ghost use Rattle.tokens.specs.Bytes.{classOf};
 ghost use Rattle.tokens.specs.Table.{classTable};
-ghost use Rattle.tokens.specs.Tokens.{token, sized, fraction, wordAt, stringAt, numberAt, markOf, markAt, tokenBy, tokenAt, Reads};
+ghost use Rattle.tokens.specs.Tokens.{token, sized, fraction, wordToken, stringToken, numberToken, markOf, markAt, tokenBy, tokenAt, Reads};
 use crate::classes::Sort;
 use crate::classes::is_of;
 use crate::kinds;
 use crate::runs::run_end;
+use crate::sizes::MOST_DIGITS;
+use crate::sizes::MOST_STRING_BYTES;
+use crate::sizes::MOST_WORD_BYTES;
 use crate::words::word_kind;
 
 // A token, or the refusal of one, from `start` up to `end`; the module `kinds` has the kinds.
@@ -55,16 +58,16 @@ fn byte(text: &[u8], at: usize) -> u8
 // The word that starts with the letter at `start`: at most 64 bytes.
 fn word(classes: &[u8; 256], text: &[u8], start: usize) -> Token
     requires { ⌜ (now classes ≡ classTable) × (start < length (now text)) ⌝ }
-    ensures { λ r. ⌜ r ≡ wordAt (now (text .entry)) start ⌝ }
+    ensures { λ r. ⌜ r ≡ wordToken (now (text .entry)) start ⌝ }
 {
     let end = run_end(classes, text, start, Sort::WordBytes);
-    within(word_kind(&text[start..end]), 64, end - start, start, end)
+    within(word_kind(&text[start..end]), MOST_WORD_BYTES, end - start, start, end)
 }
 
 // The string that starts with the quote at `start`: at most 127 bytes between the quotes.
 fn string(classes: &[u8; 256], text: &[u8], start: usize) -> Token
     requires { ⌜ (now classes ≡ classTable) × (start < length (now text)) ⌝ }
-    ensures { λ r. ⌜ r ≡ stringAt (now (text .entry)) start ⌝ }
+    ensures { λ r. ⌜ r ≡ stringToken (now (text .entry)) start ⌝ }
 {
     let end = run_end(classes, text, start + 1, Sort::StringBytes);
     if text.len() <= end {
@@ -75,7 +78,7 @@ fn string(classes: &[u8; 256], text: &[u8], start: usize) -> Token
         };
     }
     if text[end] == b'"' {
-        within(kinds::STRING, 127, end - (start + 1), start, end + 1)
+        within(kinds::STRING, MOST_STRING_BYTES, end - (start + 1), start, end + 1)
     } else {
         one_byte(kinds::BAD_BYTE, end)
     }
@@ -93,14 +96,14 @@ fn has_fraction(classes: &[u8; 256], text: &[u8], whole: usize) -> bool
 // The number whose first digit is at `first`: at most 15 digits, without the point.
 fn number(classes: &[u8; 256], text: &[u8], start: usize, first: usize) -> Token
     requires { ⌜ (now classes ≡ classTable) × (first < length (now text)) ⌝ }
-    ensures { λ r. ⌜ r ≡ numberAt (now (text .entry)) start first ⌝ }
+    ensures { λ r. ⌜ r ≡ numberToken (now (text .entry)) start first ⌝ }
 {
     let whole = run_end(classes, text, first, Sort::Digits);
     if has_fraction(classes, text, whole) {
         let end = run_end(classes, text, whole + 1, Sort::Digits);
-        within(kinds::NUMBER, 15, end - first - 1, start, end)
+        within(kinds::NUMBER, MOST_DIGITS, end - first - 1, start, end)
     } else {
-        within(kinds::NUMBER, 15, whole - first, start, whole)
+        within(kinds::NUMBER, MOST_DIGITS, whole - first, start, whole)
     }
 }
 

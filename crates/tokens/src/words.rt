@@ -1,9 +1,9 @@
 // Reserved words.
 ghost use mathlib.Core.Path.{_≡_};
-ghost use mathlib.Core.Bool.{cond};
+ghost use mathlib.Core.Bool.{cond, _||_};
 ghost use lib.ListN.{length};
 ghost use Rattle.slices.specs.Same.{same};
-ghost use Rattle.tokens.specs.Words.{wordKind};
+ghost use Rattle.tokens.specs.Words.{wordKind, isReserved};
 use crate::kinds;
 use slices::same;
 
@@ -74,5 +74,55 @@ pub fn word_kind(word: &[u8]) -> u8
         9 => kind_if(word, b"principal", kinds::PRINCIPAL, kinds::NAME),
         11 => kind_of_11(word),
         _ => kinds::NAME,
+    }
+}
+
+// Whether the word is this reserved one, or what is known of others holds.
+fn is_or(word: &[u8], reserved: &[u8], other: bool) -> bool
+    ensures { λ r. ⌜ r ≡ (same (now (word .entry)) (now (reserved .entry)) || other) ⌝ }
+{
+    same(word, reserved) | other
+}
+
+// Whether a word of four bytes is reserved.
+fn is_reserved_4(word: &[u8]) -> bool
+    requires { ⌜ length (now word) ≡ 4 ⌝ }
+    ensures { λ r. ⌜ r ≡ isReserved (now (word .entry)) ⌝ }
+{
+    let r = is_or(word, b"else", false);
+    let r = is_or(word, b"then", r);
+    let r = is_or(word, b"true", r);
+    let r = is_or(word, b"like", r);
+    is_or(word, b"when", r)
+}
+
+// Whether a word is reserved: as its kind says. Bags ask this, so that `word_kind` is called from the token reader alone, and the compiler puts it there.
+pub fn is_reserved(word: &[u8]) -> bool
+    ensures { λ r. ⌜ r ≡ isReserved (now (word .entry)) ⌝ }
+{
+    match word.len() {
+        2 => {
+            let r = is_or(word, b"if", false);
+            let r = is_or(word, b"in", r);
+            is_or(word, b"is", r)
+        }
+        3 => {
+            let r = is_or(word, b"has", false);
+            is_or(word, b"env", r)
+        }
+        4 => is_reserved_4(word),
+        5 => is_or(word, b"false", false),
+        6 => {
+            let r = is_or(word, b"action", false);
+            let r = is_or(word, b"forbid", r);
+            is_or(word, b"permit", r)
+        }
+        8 => is_or(word, b"resource", false),
+        9 => is_or(word, b"principal", false),
+        11 => {
+            let r = is_or(word, b"containsAny", false);
+            is_or(word, b"containsAll", r)
+        }
+        _ => false,
     }
 }

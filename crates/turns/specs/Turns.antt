@@ -5,11 +5,13 @@ use mathlib.Core.List.{List, []}
 use Prim.Native.Nat.{ℕ, _+_, _-_, _%_, _≤_, _<_}
 use lib.Dec.{ltb}
 use lib.ListN.{length, getD}
+use Rattle.tokens.specs.Sizes.{mostPolicies}
 use Rattle.bags.specs.declared.sections.Sections.{Sections}
 use Rattle.questions.specs.Questions.{Question, headOf, countOf, cell, product}
 use Rattle.stored.specs.ReadBack.{policiesAt}
 use Rattle.stored.specs.Ready.{ReadyPolicies}
 use Rattle.placing.specs.Said.{wordsOf}
+use Rattle.questions.specs.Sizes.{mostColumns, mostCandidates}
 use Rattle.meaning.specs.Targets.{Request, isSystem}
 use Rattle.pages.specs.Rows.{choicesAt, countsBy, Picked}
 use Rattle.kept.specs.Notes.{Depths, Kept}
@@ -20,10 +22,10 @@ use Rattle.turns.specs.declared.Turn.{Turn}
 -- the places of the question's columns and candidates, and the last choice of each column
 pub record Laid (s : List ℕ) (p : Sections) (n : ℕ) (starts : List ℕ) (grid : List (List ℕ)) (ends : List ℕ) : Type 0 where
   pub many : n ≡ columnsIn s p
-  pub starts-are : (i : ℕ) → i < 6 → getD starts i 0 ≡ cond (ltb i n) (headOf s (firstIn p) i) 0
-  pub grid-is : (i j : ℕ) → i < 6 → j < 8 → getD (getD grid i []) j 0 ≡ cell s (firstIn p) n i j
-  pub six : length ends ≡ 6
-  pub ends-are : (i : ℕ) → i < 6 → getD ends i 0 ≡ cond (ltb i n) (countOf s (getD starts i 0) - 1) 0
+  pub starts-are : (i : ℕ) → i < mostColumns → getD starts i 0 ≡ cond (ltb i n) (headOf s (firstIn p) i) 0
+  pub grid-is : (i j : ℕ) → i < mostColumns → j < mostCandidates → getD (getD grid i []) j 0 ≡ cell s (firstIn p) n i j
+  pub six : length ends ≡ mostColumns
+  pub ends-are : (i : ℕ) → i < mostColumns → getD ends i 0 ≡ cond (ltb i n) (countOf s (getD starts i 0) - 1) 0
 
 -- What a walk rests on: a question and its places, a table of at most 64 policies that can be evaluated, and which columns can matter to each of them.
 pub record Walked (text table s : List ℕ) (w : Walk) (starts : List ℕ) (grid : List (List ℕ)) (ends looks : List ℕ) : Type 0 where
@@ -31,7 +33,7 @@ pub record Walked (text table s : List ℕ) (w : Walk) (starts : List ℕ) (grid
   pub laid : Laid s (w .p) (w .n) starts grid ends
   pub ready : ReadyPolicies text table (w .entries)
   pub many : w .policies ≡ length (policiesAt table (w .entries))
-  pub few : w .policies ≤ 64
+  pub few : w .policies ≤ mostPolicies
   pub depths : Depths text s (w .n) starts (policiesAt table (w .entries)) looks
 
 -- the choices of a row, and their places; past the last row it begins anew

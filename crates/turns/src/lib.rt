@@ -5,12 +5,17 @@ ghost use Prim.Native.Nat.{ℕ, _<_};
 ghost use lib.ListN.{length};
 ghost use Rattle.meaning.specs.Targets.{Request};
 ghost use Rattle.meaning.specs.declared.Decision.the-variants.{System};
+ghost use Rattle.kept.specs.Notes.{notesSize};
 ghost use Rattle.turns.specs.Rows.{rowsIn};
 ghost use Rattle.turns.specs.Turns.{Walked, Somewhere, AtRow, Turned};
+use kept::NOTES;
 use kept::Walk;
 use kept::decision_from;
 use meaning::Decision;
 use pages::rows::step;
+use questions::sizes::MOST_CANDIDATES;
+use questions::sizes::MOST_COLUMNS;
+use tokens::sizes::MOST_POLICIES;
 
 // What a turn gives: the row's decision, and the first column in which the next row may choose otherwise.
 pub struct Turn {
@@ -31,21 +36,21 @@ fn unless_system(system: bool, d: Decision) -> Decision
 // A row's turn. `looks` has what each policy looks at, `notes` what is kept of the rows before; `choices` and `values` are the row's, and then the next row's.
 pub fn take_turn<'a>(
     walk: Walk,
-    looks: &[u8; 192],
-    notes: &mut [u8; 512],
-    choices: &mut [u8; 6],
-    values: &mut [usize; 6],
-    grid: &[[usize; 8]; 6],
-    ends: &[u8; 6],
+    looks: &[u8; 3 * MOST_POLICIES],
+    notes: &mut [u8; NOTES],
+    choices: &mut [u8; MOST_COLUMNS],
+    values: &mut [usize; MOST_COLUMNS],
+    grid: &[[usize; MOST_CANDIDATES]; MOST_COLUMNS],
+    ends: &[u8; MOST_COLUMNS],
     text: &'a [u8],
     table: &[u8],
     s: &'a [u8],
-    starts: &[usize; 6],
+    starts: &[usize; MOST_COLUMNS],
     action: &'a [u8],
 ) -> Turn
     requires { ⌜ Walked (now text) (now table) (now s) walk (now starts) (now grid) (now ends) (now looks) ⌝ }
     requires { ⌜ Somewhere (now s) (walk .p) (now grid) (now ends) (now choices) (now values) ⌝ }
-    requires { ⌜ length (now notes) ≡ 512 ⌝ }
+    requires { ⌜ length (now notes) ≡ notesSize ⌝ }
     ensures { λ r. ⌜ ((q : Request) (row : ℕ) → row < rowsIn (now (s .entry)) (walk .p)
         → AtRow (now (text .entry)) (now (table .entry)) (now (s .entry)) walk (now (starts .entry)) (now (grid .entry)) (now (ends .entry))
         (now (looks .entry)) (now (action .entry)) q row (now (choices .entry)) (now (values .entry)) (walk .from) (now (notes .entry))

@@ -16,12 +16,12 @@ use Rattle.bags.specs.declared.sections.Sections.{Sections}
 use Rattle.bags.proofs.ReadLaws.{first, each-done, each-more}
 use Rattle.bags.proofs.ValueLaws.{Ended, string, number, flag, list, value-at}
 use Rattle.bags.proofs.SectionLaws.{entry-at, section-at}
-use Rattle.lookups.specs.Values.{nought, unit, absent as absentValue, numberOf, valueAt, Valued}
-use Rattle.lookups.specs.Lookups.{Entry, lookIn, entryAt, sectionAt}
+use Rattle.lookups.specs.Values.{nought, unit, absent as absentValue, valueNumber, valueAt, Valued}
+use Rattle.lookups.specs.Lookups.{Entry, lookIn, bagEntryAt, sectionAt}
 use Rattle.lookups.specs.declared.values.Value.{Value}
 use Rattle.lookups.proofs.FindLaws.{base-cases}
 use Rattle.views.specs.Meaning.{Datum, flag as switch, absent, present, Chosen, columnsFirst}
-use Rattle.views.specs.Values.{datumAt, datumOf, datumIn, meant, baseBag, chosenMeant}
+use Rattle.views.specs.Values.{datumAt, datumOf, datumIn, entryMeant, baseBag, chosenMeant}
 use Rattle.views.proofs.RowBag.{filled}
 
 -- ---- a value
@@ -32,7 +32,7 @@ one-flag true = refl
 one-flag false = refl
 
 reads-kind : (s : List ℕ) (k e : ℕ) → Ended (byte s k) s (k + 1) e → datumIn s (valueAt s k) ≡ datumAt s k
-unfolding valueAt datumOf datumAt numberOf
+unfolding valueAt datumOf datumAt valueNumber
 reads-kind s k e (string j x) = rw j
 reads-kind s k e (number j x) = rw j
 reads-kind s k e (flag j x) = rw j (ap switch (one-flag (eqb (byte s (k + 1)) 1)))
@@ -56,13 +56,13 @@ present-kind s k e (list j x) = rw j
 
 -- ---- what is found, and what is chosen
 
-pub look-means : (s : List ℕ) (es : List (Entry Value)) (path : List ℕ) → datumIn s (lookIn absentValue es path) ≡ lookIn absent (map (meant s) es) path
+pub look-means : (s : List ℕ) (es : List (Entry Value)) (path : List ℕ) → datumIn s (lookIn absentValue es path) ≡ lookIn absent (map (entryMeant s) es) path
 unfolding lookIn datumOf
 look-means s [] path = refl
 look-means s (e ∷ es) path = go (same (e .path) path) (look-means s es path)
   where
-    go : (b : Bool) → datumIn s (lookIn absentValue es path) ≡ lookIn absent (map (meant s) es) path
-        → datumIn s (cond b (e .value) (lookIn absentValue es path)) ≡ cond b (datumIn s (e .value)) (lookIn absent (map (meant s) es) path)
+    go : (b : Bool) → datumIn s (lookIn absentValue es path) ≡ lookIn absent (map (entryMeant s) es) path
+        → datumIn s (cond b (e .value) (lookIn absentValue es path)) ≡ cond b (datumIn s (e .value)) (lookIn absent (map (entryMeant s) es) path)
     go true ih = refl
     go false ih = ih
 
@@ -79,23 +79,23 @@ columns-mean s (c ∷ cs) view seen root path h = go (eqb (c .root) root && same
 
 -- ---- each entry of the base has a value that is there
 
-entries-filled : (n : ℕ) (s : List ℕ) (at e : ℕ) → many n (entryEnd s) at ≡ At e → filled (map (meant s) (each n (entryEnd s) (entryAt s) at)) ≡ true
+entries-filled : (n : ℕ) (s : List ℕ) (at e : ℕ) → many n (entryEnd s) at ≡ At e → filled (map (entryMeant s) (each n (entryEnd s) (bagEntryAt s) at)) ≡ true
 unfolding every
-entries-filled zero s at e h = rw (each-done (entryEnd s) (entryAt s) 0 at (omega arith))
+entries-filled zero s at e h = rw (each-done (entryEnd s) (bagEntryAt s) 0 at (omega arith))
 entries-filled (suc n) s at e h =
     let f = first (entryEnd s) (suc n) at e (omega arith) h in
     let m : suc n - 1 ≡ n = omega arith in
     let later = rw m at (f .later) in
     let w = entry-at s at (f .stop) (f .ends) in
-    rw (each-more (entryEnd s) (entryAt s) (suc n) at (f .stop) (omega arith) (f .ends), m)
+    rw (each-more (entryEnd s) (bagEntryAt s) (suc n) at (f .stop) (omega arith) (f .ends), m)
     (simp (present-kind s (kindAt s at) (f .stop) (value-at (byte s (kindAt s at)) s (kindAt s at + 1) (f .stop) (w .valued)), entries-filled n s (f .stop) e later))
 
-section-filled : (s : List ℕ) (b e : ℕ) → sectionEnd s b ≡ At e → filled (map (meant s) (sectionAt s b)) ≡ true
+section-filled : (s : List ℕ) (b e : ℕ) → sectionEnd s b ≡ At e → filled (map (entryMeant s) (sectionAt s b)) ≡ true
 unfolding sectionAt
 section-filled s b e h = entries-filled (byte s b) s (b + 1) e (section-at s b e h .entries)
 
 pub base-filled : (s : List ℕ) (p : Sections) (root : ℕ) → Sectioned s p → filled (baseBag s p root) ≡ true
 unfolding baseBag every
 base-filled s p root w =
-    base-cases s p root (λ es. filled (map (meant s) es) ≡ true)
+    base-cases s p root (λ es. filled (map (entryMeant s) es) ≡ true)
     (section-filled s 0 (p .resource) (w .principal)) (section-filled s (p .resource) (p .env) (w .resource)) (section-filled s (p .env) (p .end) (w .env)) refl

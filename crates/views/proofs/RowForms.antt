@@ -21,7 +21,7 @@ use Rattle.bags.proofs.Exactly.{contentsAt}
 use Rattle.lookups.specs.Values.{valueAt}
 use Rattle.lookups.specs.declared.values.Value.{Value}
 use Rattle.questions.specs.Columns.{candidateEnd, columnPath, countAt, columnEnd}
-use Rattle.questions.specs.Questions.{headOf, countOf, choiceOf, isQuestion}
+use Rattle.questions.specs.Questions.{headOf, countOf, choiceAt, isQuestion}
 use Rattle.questions.specs.Forms.{Choice, Column, QuestionBytes}
 use Rattle.questions.proofs.ColumnLaws.{candidate-valued, column-at, questionOnly, question-is}
 use Rattle.questions.proofs.Exactly.{choiceHere, choicesHere, columnHere, columnsHere, columnsAt, question-stands, question-exactly}
@@ -35,8 +35,8 @@ use Rattle.views.proofs.BagForms.{base-shows}
 module _ (s : List ℕ) where
   -- candidate j of a column that stands at c
   value-picked : (c e j : ℕ) → columnEnd s c ≡ At e → j < countOf s c
-      → datumIn s (valueAt s (choiceOf s c j)) ≡ getD (map (λ (x : Choice). x .is) (choicesHere s (countOf s c) (countAt s c + 1))) j absent
-  unfolding choiceOf choicesHere
+      → datumIn s (valueAt s (choiceAt s c j)) ≡ getD (map (λ (x : Choice). x .is) (choicesHere s (countOf s c) (countAt s c + 1))) j absent
+  unfolding choiceAt choicesHere
   value-picked c e j h l =
       let w = column-at s c e h in
       let r = nth (candidateEnd s) (countOf s c) j (countAt s c + 1) e l (w .candidates) in
@@ -45,7 +45,7 @@ module _ (s : List ℕ) where
       let k = reads-it s (r .start) (candidate-valued s (r .start) (r .stop) (r .stops)) in
       rw (lt-ltb j (countOf s c) l, r .starts) (k ∙ sym (ap (λ (l : List Datum). getD l j absent) m ∙ v))
 
-  column-picked : (c e j : ℕ) → columnEnd s c ≡ At e → j < countOf s c → chosenMeant s (chosenAt s c (choiceOf s c j)) ≡ picked (columnHere s c) j
+  column-picked : (c e j : ℕ) → columnEnd s c ≡ At e → j < countOf s c → chosenMeant s (chosenAt s c (choiceAt s c j)) ≡ picked (columnHere s c) j
   column-picked c e j h l = ap (λ (d : Datum). record { root = byte s c; path = columnPath s c; value = d }) (value-picked c e j h l)
 
 -- values from the second place on are those of the next rule from the first on
@@ -73,7 +73,7 @@ module _ (s : List ℕ) where
 
   -- column i of those from a place on, with its choice
   abbrev numbered : ℕ → List ℕ → ℕ → Chosen Value
-  numbered at choices i = chosenAt s (headOf s at i) (choiceOf s (headOf s at i) (getD choices i 0))
+  numbered at choices i = chosenAt s (headOf s at i) (choiceAt s (headOf s at i) (getD choices i 0))
 
   columns-none : (at : ℕ) (choices : List ℕ) → columnsOf 0 s at choices ≡ []
   unfolding columnsOf
@@ -81,10 +81,10 @@ module _ (s : List ℕ) where
 
   -- of n columns the first with its choice, and the others with theirs
   columns-first : (n at e : ℕ) (choices : List ℕ) → columnEnd s at ≡ At e
-      → columnsOf (suc n) s at choices ≡ chosenAt s at (choiceOf s at (getD choices 0 0)) ∷ columnsOf n s e (drop 1 choices)
+      → columnsOf (suc n) s at choices ≡ chosenAt s at (choiceAt s at (getD choices 0 0)) ∷ columnsOf n s e (drop 1 choices)
   unfolding columnsOf many
   columns-first n at e choices h =
-      ap (λ (l : List (Chosen Value)). chosenAt s at (choiceOf s at (getD choices 0 0)) ∷ l)
+      ap (λ (l : List (Chosen Value)). chosenAt s at (choiceAt s at (getD choices 0 0)) ∷ l)
       (shifted (numbered at choices) 0 n
       ∙ alike (λ i. numbered at choices (suc i)) (numbered e (drop 1 choices)) 0 n (λ i. rw (later-head at e i h, later-choice choices i)))
 

@@ -12,12 +12,12 @@ use Rattle.bags.specs.Sections.{Sectioned}
 use Rattle.bags.specs.declared.After.the-variants.{At}
 use Rattle.bags.specs.declared.sections.Sections.{Sections}
 use Rattle.bags.proofs.ReadLaws.{nth}
-use Rattle.lookups.specs.Values.{valueAt, Valued, Whole}
+use Rattle.lookups.specs.Values.{valueAt, Valued, ValueWhole}
 use Rattle.lookups.specs.Lookups.{baseOf}
 use Rattle.lookups.specs.declared.values.Value.{Value}
 use Rattle.lookups.proofs.BagLaws.{value-whole, value-finite, base-whole, base-finite}
 use Rattle.questions.specs.Columns.{candidateEnd, countAt, columnEnd}
-use Rattle.questions.specs.Questions.{headOf, countOf, choiceOf, cell}
+use Rattle.questions.specs.Questions.{headOf, countOf, choiceAt, cell}
 use Rattle.questions.proofs.ColumnLaws.{Columned, candidate-valued}
 use Rattle.questions.proofs.PlaceLaws.{firstOf, first-is, column-of}
 use Rattle.views.specs.Meaning.{present, look, hasPath, Chosen, rowBag, columnsFirst}
@@ -41,8 +41,8 @@ module _ (s : List ℕ) (p : Sections) (n : ℕ) (heads values : List ℕ) (w : 
       columns-have (λ i. chosenAt s (getD heads i 0) (getD values i 0)) (baseValue s p) root path P base n 0
       (λ j l. let z : 0 + j ≡ j = omega arith in rw z (some (getD values j 0) (w .valued j l)))
 
-  row-whole : Whole s (rowValue s p n heads values root path)
-  row-whole = row-has (Whole s) (base-whole s path p root (w .sections)) (value-whole s)
+  row-whole : ValueWhole s (rowValue s p n heads values root path)
+  row-whole = row-has (ValueWhole s) (base-whole s path p root (w .sections)) (value-whole s)
 
   -- a number of the row is finite
   pub row-finite : T (finite (rowValue s p n heads values root path .number))
@@ -61,8 +61,8 @@ module _ (s : List ℕ) (p : Sections) (n at last : ℕ) (few : n ≤ 6) (column
   pub choices-small : (i : ℕ) → i < n → getD choices i 0 < 8
   choices-small i l = omega (arith, chooses i l, column i l .1 .few)
 
-  choice-valued : (i : ℕ) → i < n → Valued s (choiceOf s (headOf s at i) (getD choices i 0))
-  unfolding choiceOf
+  choice-valued : (i : ℕ) → i < n → Valued s (choiceAt s (headOf s at i) (getD choices i 0))
+  unfolding choiceAt
   choice-valued i l =
       let c = column i l .1 in
       let r = nth (candidateEnd s) (countOf s (headOf s at i)) (getD choices i 0) (countAt s (headOf s at i) + 1) (column i l .0) (chooses i l) (c .candidates) in
@@ -75,7 +75,7 @@ module _ (s : List ℕ) (p : Sections) (n at last : ℕ) (few : n ≤ 6) (column
     head-is : (i : ℕ) → i < n → getD heads i 0 ≡ headOf s at i
     head-is i l = first-is (headOf s at) heads few heads-are l
 
-    value-is : (i : ℕ) → i < n → getD values i 0 ≡ choiceOf s (headOf s at i) (getD choices i 0)
+    value-is : (i : ℕ) → i < n → getD values i 0 ≡ choiceAt s (headOf s at i) (getD choices i 0)
     unfolding cell
     value-is i l =
         let here : i < 6 = omega arith in
@@ -92,7 +92,7 @@ module _ (s : List ℕ) (p : Sections) (n at last : ℕ) (few : n ≤ 6) (column
     same-columns : chosenOf n s heads values ≡ columnsOf n s at choices
     unfolding chosenOf columnsOf
     same-columns =
-        listed-alike (λ i. chosenAt s (getD heads i 0) (getD values i 0)) (λ i. chosenAt s (headOf s at i) (choiceOf s (headOf s at i) (getD choices i 0))) 0 n
+        listed-alike (λ i. chosenAt s (getD heads i 0) (getD values i 0)) (λ i. chosenAt s (headOf s at i) (choiceAt s (headOf s at i) (getD choices i 0))) 0 n
         (λ i l. let z : 0 + i ≡ i = omega arith in rw (z, head-is i l, value-is i l))
 
     -- the row's view is the look-up in the base with each column's attribute set to its choice, or removed

@@ -10,8 +10,9 @@ use Rattle.lookups.specs.Values.{absent as absentValue, valueAt, Valued}
 use Rattle.lookups.specs.Lookups.{lookIn, baseOf}
 use Rattle.lookups.specs.declared.values.Value.{Value}
 use Rattle.questions.specs.Columns.{columnPath, countAt}
-use Rattle.questions.specs.Questions.{headOf, countOf, choiceOf}
+use Rattle.questions.specs.Questions.{headOf, countOf, choiceAt}
 use Rattle.questions.specs.Forms.{Column}
+use Rattle.questions.specs.Sizes.{mostColumns}
 use Rattle.views.specs.Meaning.{Datum, absent, View, Bag, look, Chosen, rowBag, columnsFirst}
 use Rattle.views.specs.Values.{baseBag, chosenMeant}
 
@@ -40,7 +41,7 @@ rowView s p n heads values = columnsFirst (map (chosenMeant s) (chosenOf n s hea
 -- the row's sections, columns and choices lie in the bytes
 pub record RowStands (s : List ℕ) (p : Sections) (n : ℕ) (heads values : List ℕ) : Type 0 where
   pub sections : Sectioned s p
-  pub few : n ≤ 6
+  pub few : n ≤ mostColumns
   pub named : (i : ℕ) → i < n → countAt s (getD heads i 0) < length s
   pub valued : (i : ℕ) → i < n → Valued s (getD values i 0)
 
@@ -48,7 +49,7 @@ pub record RowStands (s : List ℕ) (p : Sections) (n : ℕ) (heads values : Lis
 
 -- each column with its choice
 unfoldable pub columnsOf : ℕ → List ℕ → ℕ → List ℕ → List (Chosen Value)
-columnsOf n s at choices = valuesFrom (λ i. chosenAt s (headOf s at i) (choiceOf s (headOf s at i) (getD choices i 0))) 0 n
+columnsOf n s at choices = valuesFrom (λ i. chosenAt s (headOf s at i) (choiceAt s (headOf s at i) (getD choices i 0))) 0 n
 
 -- the bag of the row: the base with each column's attribute set to its choice, or removed
 unfoldable pub bagOfRow : List ℕ → Sections → ℕ → ℕ → List ℕ → Bag

@@ -6,7 +6,7 @@ use mathlib.Core.Path.{_≡_}
 use lib.Dec.{eqb}
 use lib.Ieee.{eq}
 use Rattle.bags.specs.declared.sections.Sections.{Sections}
-use Rattle.lookups.specs.Values.{unit, Whole}
+use Rattle.lookups.specs.Values.{unit, ValueWhole}
 use Rattle.lookups.specs.Lookups.{Entry, baseOf}
 use Rattle.lookups.specs.declared.values.Value.{Value}
 use Rattle.views.specs.Meaning.{Datum, text, number, flag, texts, absent, Bag, Chosen}
@@ -27,17 +27,17 @@ datumIn s v = datumOf v (stringAt s (v .place)) (listAt s (v .place))
 -- v was read from s, and stands for d
 pub record StandsFor (s : List ℕ) (v : Value) (d : Datum) : Type 0 where
   pub is : datumIn s v ≡ d
-  pub whole : Whole s v
+  pub whole : ValueWhole s v
 
 -- ---- the same of entries, of the base, and of what is chosen
 
 -- an entry
-abbrev pub meant : List ℕ → Entry Value → Entry Datum
-meant s e = record { path = e .path; value = datumIn s (e .value) }
+abbrev pub entryMeant : List ℕ → Entry Value → Entry Datum
+entryMeant s e = record { path = e .path; value = datumIn s (e .value) }
 
 -- the three sections as a bag
 unfoldable pub baseBag : List ℕ → Sections → Bag
-baseBag s p root = map (meant s) (baseOf s p root)
+baseBag s p root = map (entryMeant s) (baseOf s p root)
 
 -- a column with what is chosen for it
 abbrev pub chosenMeant : List ℕ → Chosen Value → Chosen Datum

@@ -9,12 +9,15 @@ ghost use Rattle.slices.specs.Same.{same};
 ghost use Rattle.bags.specs.Reading.{byte};
 ghost use Rattle.tokens.specs.Blanks.{unblanked};
 ghost use Rattle.questions.specs.Columns.{columnPath, countAt};
+ghost use Rattle.questions.specs.Sizes.{mostColumns, mostCandidates};
 ghost use Rattle.views.specs.Rows.{rowValue, RowStands};
 use bags::sections::Sections;
 use lookups::finding::base_value;
 use lookups::finding::same_path;
 use lookups::values::Value;
 use lookups::values::value_from;
+use questions::sizes::MOST_CANDIDATES;
+use questions::sizes::MOST_COLUMNS;
 
 // Whether the column at `head` names this attribute.
 pub fn names(s: &[u8], head: usize, root: u8, path: &[u8]) -> bool
@@ -34,8 +37,8 @@ pub fn attribute(
     s: &[u8],
     p: Sections,
     n: usize,
-    heads: &[usize; 6],
-    values: &[usize; 6],
+    heads: &[usize; MOST_COLUMNS],
+    values: &[usize; MOST_COLUMNS],
     root: u8,
     path: &[u8],
 ) -> Value
@@ -57,12 +60,12 @@ pub fn attribute(
 }
 
 // The places of the chosen candidates, from those of all, by column and choice.
-pub fn chosen(grid: [[usize; 8]; 6], n: usize, choices: &[u8; 6]) -> [usize; 6]
-    requires { ⌜ n ≤ 6 ⌝ }
-    requires { ⌜ ((i : ℕ) → i < n → getD (now choices) i 0 < 8) ⌝ }
-    ensures { λ r. ⌜ ((i : ℕ) → i < 6 → getD r i 0 ≡ cond (ltb i n) (getD (getD grid i []) (getD (now (choices .entry)) i 0) 0) 0) ⌝ }
+pub fn chosen(grid: [[usize; MOST_CANDIDATES]; MOST_COLUMNS], n: usize, choices: &[u8; MOST_COLUMNS]) -> [usize; MOST_COLUMNS]
+    requires { ⌜ n ≤ mostColumns ⌝ }
+    requires { ⌜ ((i : ℕ) → i < n → getD (now choices) i 0 < mostCandidates) ⌝ }
+    ensures { λ r. ⌜ ((i : ℕ) → i < mostColumns → getD r i 0 ≡ cond (ltb i n) (getD (getD grid i []) (getD (now (choices .entry)) i 0) 0) 0) ⌝ }
 {
-    let mut values = [0usize; 6];
+    let mut values = [0usize; MOST_COLUMNS];
     let mut i = 0;
     while i < n {
         let choice = choices[i] as usize;

@@ -8,7 +8,7 @@ ghost use lib.Dec.{T};
 ghost use lib.Ieee.Scale.{finite};
 ghost use lib.ListN.{getD};
 ghost use Rattle.tokens.specs.Table.{classTable};
-ghost use Rattle.lookups.specs.Values.{Whole};
+ghost use Rattle.lookups.specs.Values.{ValueWhole};
 ghost use Rattle.questions.specs.Questions.{Question};
 use bags::sections::Divided;
 use bags::sections::Sections;
@@ -27,7 +27,7 @@ use views::chosen;
 
 // A value's line.
 fn report(s: &[u8], v: Value)
-    requires { ⌜ T (finite (v .number)) × Whole (now s) v ⌝ }
+    requires { ⌜ T (finite (v .number)) × ValueWhole (now s) v ⌝ }
 {
     let kind = v.kind;
     let place = v.place;

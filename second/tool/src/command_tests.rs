@@ -241,7 +241,7 @@ fn a_missing_file_is_empty_for_the_sheet_program_alone() {
 /// What was hardly meant: rules, question, and the warning.
 const DOUBTFUL: [(&str, &str, &str); 21] = [
     (RULES, "subject = \"person:K7 \"\naction = \"teach\"\nresource = \"shaft:A\"\nprincipal.grade = 3\nprincipal.hired = \"own\"", "the subject begins or ends with a blank, \"person:K7 \": it is compared with it"),
-    (RULES, "subject = \"person:K7\"\naction = \"teach\\r\"\nresource = \"shaft:A\"\nprincipal.grade = 3\nprincipal.hired = \"own\"", "the action ends with a carriage return, \"teach\\r\": save request.txt with plain line feeds"),
+    (RULES, "subject = \"person:K7\"\naction = \"teach\\r\"\nresource = \"shaft:A\"\nprincipal.grade = 3\nprincipal.hired = \"own\"", "the action ends with a carriage return, \"teach\\r\": take it out of question.txt"),
     (RULES, "subject = \"person:K7\"\naction = \" teach\"\nresource = \"shaft:A\"\nprincipal.grade = 3\nprincipal.hired = \"own\"", "the action begins or ends with a blank"),
     (RULES, "subject = \"person:K7\"\naction = \"teech\"\nresource = \"shaft:A\"\nprincipal.grade = 3\nprincipal.hired = \"own\"", "no policy names the action \"teech\": did you mean teach?"),
     (RULES, "subject = \"person:K7\"\naction = \"move\"\nresource = \"shaft:A\"\nprincipal.grade = 3\nprincipal.hired = \"own\"", "no policy names the action \"move\""),
@@ -273,7 +273,7 @@ fn what_was_hardly_meant_is_warned_of() {
         assert!(said.out.starts_with("rows "), "the answer stays");
         // The table and the page have it too.
         let table = folder.says(&["sheet", "@", "--table"]).out.replace('\n', " ");
-        assert!(table.contains("Warning: "), "{}", table);
+        assert!(table.contains("Warning: ") && !table.contains("?."), "{}", table);
         assert_eq!(folder.says(&["sheet", "@", "--html", "@page.html"]).status, 0);
         assert!(fs::read_to_string(folder.path("page.html")).unwrap().contains("<b>Warning:</b>"));
         assert_eq!(folder.says(&["explain", "@", "--row", "0"]).warnings, said.warnings);
@@ -308,6 +308,7 @@ fn a_request_of_more_lines_is_warned_of() {
     );
     for part in ["subject", "action", "resource"] {
         assert!(text.contains(&format!("the {} ends with a carriage return", part)), "{}", text);
+        assert!(text.contains("save request.txt with plain line feeds"), "{}", text);
     }
 }
 
@@ -429,6 +430,28 @@ fn one_request_is_decided() {
     assert!(said.status == 2 && all(&said).contains("has 9 rows: ./desk sheet shows them all"), "{}", all(&said));
     let said = worked().says(&["explain", "@", "--row", "9"]);
     assert!(said.status == 2 && all(&said).contains("there is no row 9"), "{}", all(&said));
+}
+
+#[test]
+fn a_bag_is_not_spoken_of_as_rows_and_a_disarmed_forbid_is_shown() {
+    let bag = "bag\nsubject = \"person:K7\"\naction = \"teach\"\nresource = \"shaft:A\"\nprincipal.grade = ";
+    let of = |grade: &str, words: &[&str]| {
+        Folder::new(&[("policy.txt", RULES), ("k7.txt", &[bag, grade].concat())]).says(words)
+    };
+    let said = of("4", &["decide", "@k7.txt"]);
+    assert!(
+        said.out.ends_with("!! policy 2 in line 3 is disarmed: it could forbid if principal.hired were there\n"),
+        "{}",
+        said.out
+    );
+    assert!(of("4", &["explain", "@k7.txt"]).out.contains("!! disarmed: it could forbid if principal.hired were there"));
+    assert_eq!(said.warnings, ["policy 2 asks for principal.hired, which is given nowhere: it is absent"]);
+    let said = of("\"4\"\nprincipal.hired = \"own\"", &["decide", "@k7.txt"]);
+    assert_eq!(said.out, "Not permitted: no policy is satisfied.\n");
+    assert_eq!(
+        said.warnings,
+        ["policy 1 has principal.grade >= 3, but principal.grade is not a number: the comparison is false"]
+    );
 }
 
 #[test]

@@ -12,7 +12,7 @@ use crate::bytes::read_bytes;
 use crate::command::{not_asked, read_file, Done, Said, Words};
 use crate::diffing::{diff, diff_text};
 use crate::doubts::doubts;
-use crate::explaining::{conclusion, explained};
+use crate::explaining::{conclusion, disarmed, explained};
 use crate::page;
 use crate::places::wrong_in_text;
 use crate::plain;
@@ -200,16 +200,20 @@ fn one_case(
 pub fn decide(desk: &dyn Answers, words: &[&str]) -> Done<Said> {
     let words = Words::read(words, &["--rules"], 1..=1)?;
     let mut asked = read_asked(&words.names[0], words.rules.as_deref(), false)?;
-    let answer = match one_case(desk, &asked, None)? {
-        Ok((_, answer)) => answer,
+    let (case, answer) = match one_case(desk, &asked, None)? {
+        Ok(answered) => answered,
         Err(refused) => return Ok(Said::refused(refused_rules(&asked.rules_name, &asked.rules, refused)?)),
     };
     let mut said = match answer {
         Answer::Refused(refused) => Said::refused(refusal_shown(&asked, refused)?.text(&asked.rules_name)),
-        Answer::Decided { policy, .. } => {
+        Answer::Decided { outcome, policy } => {
             let texts = policy_texts(&asked.rules);
             let mut lines = conclusion(answer, &texts);
             lines.extend(texts.iter().filter(|text| text.number == policy).flat_map(|text| condition_lines(text)));
+            if outcome == 1 {
+                let policies = policies_of(&asked.rules).unwrap_or_default();
+                lines.extend(disarmed(&asked.rules, &policies, &texts, &case));
+            }
             Said::answered(lines.join("\n") + "\n")
         }
     };

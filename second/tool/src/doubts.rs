@@ -6,7 +6,7 @@ use definitions::numbers::Comparator;
 use definitions::patterns::like;
 use definitions::policies::{ActionPart, Attribute, Condition, Effect, Literal, Operand, Policy, Root};
 
-use crate::asked::Asked;
+use crate::asked::{file_name, Asked};
 use crate::form::{attribute, PARTS};
 use crate::rules::{attributes, condition_text, inside, leaves, path_of, section_of};
 use crate::writing::{quoted, shown};
@@ -35,11 +35,11 @@ fn doubts_of_parts(asked: &Asked) -> Vec<String> {
     for (part, value) in PARTS.iter().zip(&asked.request) {
         let is_blank = |byte: Option<&u8>| byte.map_or(false, |byte| matches!(byte, b' ' | b'\t'));
         if value.ends_with(b"\r") {
-            doubts.push(format!(
-                "the {} ends with a carriage return, {}: save request.txt with plain line feeds",
-                part,
-                quoted(value)
-            ));
+            let mend = match &asked.request_file {
+                Some((name, _)) => format!("save {} with plain line feeds", file_name(name)),
+                None => format!("take it out of {}", file_name(&asked.name)),
+            };
+            doubts.push(format!("the {} ends with a carriage return, {}: {}", part, quoted(value), mend));
         } else if is_blank(value.first()) || is_blank(value.last()) {
             doubts.push(format!("the {} begins or ends with a blank, {}: it is compared with it", part, quoted(value)));
         }
@@ -165,13 +165,8 @@ fn doubts_of_missing(asked: &Asked, policies: &[Policy]) -> Vec<String> {
     let said = missing.into_iter().map(|(name, numbers)| {
         let numbers: Vec<String> = numbers.iter().map(usize::to_string).collect();
         let (policy, asks) = if numbers.len() == 1 { ("policy", "asks") } else { ("policies", "ask") };
-        format!(
-            "{} {} {} for {}, which is given nowhere: it is absent in every row",
-            policy,
-            numbers.join(", "),
-            asks,
-            name
-        )
+        let absent = if asked.is_bag() { "it is absent" } else { "it is absent in every row" };
+        format!("{} {} {} for {}, which is given nowhere: {}", policy, numbers.join(", "), asks, name, absent)
     });
     said.collect()
 }
@@ -187,13 +182,14 @@ fn doubts_of_kinds(asked: &Asked, policies: &[Policy]) -> Vec<String> {
                     None => continue,
                 };
                 if !values.is_empty() && !values.iter().any(|value| kinds.contains(&kind_of(value))) {
-                    doubts.push(format!(
-                        "policy {} has {}, but {} is never {} in this question: the comparison is always false",
-                        index + 1,
-                        condition_text(&asked.rules, leaf),
-                        crate::rules::attribute_text(&asked.rules, &asked_for),
-                        kinds.join(" or ")
-                    ));
+                    let name = crate::rules::attribute_text(&asked.rules, &asked_for);
+                    let kinds = kinds.join(" or ");
+                    let never = if asked.is_bag() {
+                        format!("{} is not {}: the comparison is false", name, kinds)
+                    } else {
+                        format!("{} is never {} in this question: the comparison is always false", name, kinds)
+                    };
+                    doubts.push(format!("policy {} has {}, but {}", index + 1, condition_text(&asked.rules, leaf), never));
                 }
             }
         }

@@ -16,6 +16,30 @@ use crate::writing::value_text;
 
 /// The explanation of an answer, line by line. The answer must be that of these policies.
 pub fn explained(text: &[u8], policies: &[Policy], texts: &[PolicyText], case: &Case, answer: Answer) -> Vec<String> {
+    over(text, case, |explaining| {
+        let mut lines = explaining.policies(policies, texts);
+        lines.extend(conclusion(answer, texts));
+        lines
+    })
+}
+
+/// The forbids that an absence disarms, a line each: they are not satisfied, and could be.
+pub fn disarmed(text: &[u8], policies: &[Policy], texts: &[PolicyText], case: &Case) -> Vec<String> {
+    over(text, case, |explaining| {
+        let forbids = policies.iter().zip(texts).filter(|(policy, _)| policy.effect == Effect::Forbid);
+        let about = forbids.filter(|(policy, _)| explaining.is_about(policy));
+        let open = about.filter(|(policy, _)| !explaining.facts.is_satisfied(policy));
+        open.filter_map(|(policy, shown)| {
+            let names = explaining.turned_by(policy, false)?.join(" and ");
+            let policy = format!("policy {} in line {}", shown.number, shown.line);
+            Some(format!("!! {} is disarmed: it could forbid if {} were there", policy, names))
+        })
+        .collect()
+    })
+}
+
+/// What is said of a case's facts; nothing where its bag is none.
+fn over(text: &[u8], case: &Case, said: impl FnOnce(&Explaining) -> Vec<String>) -> Vec<String> {
     let [subject, action, resource] = &case.request;
     let request = Request { subject, action, resource };
     let bag = match read_bag(&case.bag) {
@@ -24,24 +48,7 @@ pub fn explained(text: &[u8], policies: &[Policy], texts: &[PolicyText], case: &
     };
     let look_up = |root: u8, path: &[u8]| bag.look_up(root, path);
     let facts = Facts { text, request, look_up: &look_up };
-    let explaining = Explaining { text, facts: &facts };
-    let mut lines = Vec::new();
-    let mut away: Vec<String> = Vec::new();
-    for (policy, shown) in policies.iter().zip(texts) {
-        if explaining.is_about(policy) {
-            lines.extend(explaining.policy(policy, shown));
-            lines.push(String::new());
-        } else {
-            away.push(explaining.away(policy, shown));
-        }
-    }
-    if !away.is_empty() {
-        lines.push("Policies that are not about this request:".to_string());
-        lines.extend(away);
-        lines.push(String::new());
-    }
-    lines.extend(conclusion(answer, texts));
-    lines
+    said(&Explaining { text, facts: &facts })
 }
 
 /// What is decided, and why by this policy.
@@ -75,6 +82,26 @@ struct Explaining<'a> {
 }
 
 impl Explaining<'_> {
+    /// The policies that are about the request, each with its parts, and then those that are not.
+    fn policies(&self, policies: &[Policy], texts: &[PolicyText]) -> Vec<String> {
+        let mut lines = Vec::new();
+        let mut away: Vec<String> = Vec::new();
+        for (policy, shown) in policies.iter().zip(texts) {
+            if self.is_about(policy) {
+                lines.extend(self.policy(policy, shown));
+                lines.push(String::new());
+            } else {
+                away.push(self.away(policy, shown));
+            }
+        }
+        if !away.is_empty() {
+            lines.push("Policies that are not about this request:".to_string());
+            lines.extend(away);
+            lines.push(String::new());
+        }
+        lines
+    }
+
     fn is_about(&self, policy: &Policy) -> bool {
         self.facts.principal_matches(&policy.principal)
             && self.facts.action_matches(&policy.action)
@@ -176,8 +203,8 @@ impl Explaining<'_> {
         attributes(condition).into_iter().map(value).collect()
     }
 
-    /// What is absent, and whether it could turn the policy: a forbid that an absence disarms is said so.
-    fn absences(&self, policy: &Policy, is_satisfied: bool) -> Vec<String> {
+    /// What is absent, if that could turn the policy.
+    fn turned_by(&self, policy: &Policy, is_satisfied: bool) -> Option<Vec<String>> {
         let mut absent: Vec<String> = Vec::new();
         for attribute in leaves(policy).into_iter().flat_map(attributes) {
             let name = attribute_text(self.text, &attribute);
@@ -193,9 +220,15 @@ impl Explaining<'_> {
                 can_be_true
             }
         });
-        if absent.is_empty() || !could_turn {
-            return Vec::new();
-        }
+        Some(absent).filter(|absent| !absent.is_empty() && could_turn)
+    }
+
+    /// What is absent and could turn the policy: a forbid that an absence disarms is said so.
+    fn absences(&self, policy: &Policy, is_satisfied: bool) -> Vec<String> {
+        let absent = match self.turned_by(policy, is_satisfied) {
+            Some(absent) => absent,
+            None => return Vec::new(),
+        };
         let names = absent.join(" and ");
         let are = if absent.len() == 1 { "is" } else { "are" };
         let line = match (policy.effect, is_satisfied) {

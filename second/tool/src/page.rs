@@ -4,7 +4,7 @@
 use crate::record::Record;
 use crate::refusals::RefusalShown;
 use crate::report::{title_of, Mark, PolicyShown, Report, RowShown};
-use crate::words::{count_of, grouped};
+use crate::words::{count_of, grouped, sentence};
 
 /// With more columns the page lies on its side.
 const MOST_COLUMNS_UPRIGHT: usize = 3;
@@ -75,7 +75,7 @@ fn warnings(warnings: &[String]) -> String {
         return String::new();
     }
     let lines: Vec<String> =
-        warnings.iter().map(|warning| format!("<p><b>Warning:</b> {}.</p>", escaped(warning))).collect();
+        warnings.iter().map(|warning| format!("<p><b>Warning:</b> {}</p>", escaped(&sentence(warning)))).collect();
     format!("<div class=\"warning\">{}</div>\n", lines.join("\n"))
 }
 

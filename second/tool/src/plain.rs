@@ -1,7 +1,7 @@
 //! The printed sheet as plain text: aligned, and no line longer than 100 characters where that can be helped.
 
 use crate::report::{title_of, ColumnShown, Mark, Report, RowShown};
-use crate::words::{count_of, grouped};
+use crate::words::{count_of, grouped, sentence};
 
 /// The width of the page.
 pub const WIDTH: usize = 100;
@@ -24,7 +24,7 @@ pub fn sheet_text(report: &Report) -> String {
     }
     lines.push(String::new());
     for warning in &report.warnings {
-        lines.extend(wrapped(&format!("Warning: {}.", warning), WIDTH));
+        lines.extend(wrapped(&format!("Warning: {}", sentence(warning)), WIDTH));
     }
     if !report.warnings.is_empty() {
         lines.push(String::new());

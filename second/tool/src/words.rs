@@ -18,6 +18,11 @@ pub fn count_of(count: usize, one: &str, many: &str) -> String {
     format!("{} {}", grouped(count), if count == 1 { one } else { many })
 }
 
+/// A sentence with its full stop, unless it is a question.
+pub fn sentence(said: &str) -> String {
+    format!("{}{}", said, if said.ends_with('?') { "" } else { "." })
+}
+
 /// `1st`, `2nd`, `33rd`.
 pub fn ordinal(number: usize) -> String {
     let ending = match (number % 100, number % 10) {
@@ -41,6 +46,8 @@ mod tests {
         assert_eq!(grouped(262_144), "262,144");
         assert_eq!(count_of(1, "row", "rows"), "1 row");
         assert_eq!(count_of(1_000, "row", "rows"), "1,000 rows");
+        assert_eq!(sentence("so it is"), "so it is.");
+        assert_eq!(sentence("is it?"), "is it?");
         assert_eq!(ordinal(1), "1st");
         assert_eq!(ordinal(11), "11th");
         assert_eq!(ordinal(33), "33rd");

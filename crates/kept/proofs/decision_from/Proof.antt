@@ -7,7 +7,7 @@ use native.Mathlib.Omega.{arith}
 use borrow.Author.Needs.{needs}
 use lib.Dec.{eqb, ltb}
 use lib.ListN.{length, getD}
-use Rattle.stored.specs.ReadBack.{policyOf, policiesAt}
+use Rattle.stored.specs.ReadBack.{policyAt, policiesAt}
 use Rattle.stored.specs.Ready.{Last}
 use Rattle.views.specs.Rows.{rowView}
 use Rattle.placing.specs.Said.{policyWords, wordsOf}
@@ -113,7 +113,7 @@ loop-again c =
     let from = args .walk .from in
     let ps = policiesAt (args .table .now) (args .walk .entries) in
     let number = loop .number in
-    let policy = policyOf (args .table .now) (loop .end) (met .entry-at .result) in
+    let policy = policyAt (args .table .now) (loop .end) (met .entry-at .result) in
     let there = last-numbered left (last met) in
     let chosen = pre .1 .1 .1 .1 .0 in (
       fewer-left left (last met),

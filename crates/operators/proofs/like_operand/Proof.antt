@@ -1,7 +1,7 @@
 -- `operators::like_operand` meets its contract. Assumes nothing.
 use Rattle.operators.proofs.OperatorLaws.{of-string, of-no-string}
 use Rattle.operators.proofs.OperandLaws.{operand-whole}
-use Rattle.stored.specs.ReadBack.{spanOf}
+use Rattle.stored.specs.ReadBack.{spanOfEntry}
 use Rattle.placing.specs.Placed.{quotedAt}
 use Rattle.patterns.proofs.Computed.{like-is}
 use Rattle.patterns.specs.Likes.{likes}
@@ -13,7 +13,7 @@ use Rattle.operators.proofs.like_operand.Statement.{statement}
 use Rattle.operators.proofs.like_operand.Tie as tie
 
 returns : tie.Need-returns
-returns c = of-no-string _ _ _ _ _ _ (c .before .before .before .before .pre .1 .1 .0) _ _ _ (c .before .before .before .before .pre .0) (c .before .before .before .before .pre .1 .1 .1) (likes (quotedAt (c .before .before .before .before .args .text .now) (spanOf (c .before .before .before .before .args .o)))) (c .if1 .taken)
+returns c = of-no-string _ _ _ _ _ _ (c .before .before .before .before .pre .1 .1 .0) _ _ _ (c .before .before .before .before .pre .0) (c .before .before .before .before .pre .1 .1 .1) (likes (quotedAt (c .before .before .before .before .args .text .now) (spanOfEntry (c .before .before .before .before .args .o)))) (c .if1 .taken)
 
 operand-string-requires : tie.Need-operand-string-requires
 operand-string-requires c κs = (c .before .before .before .before .pre .0, operand-whole _ _ _ _ _ _ (c .before .before .before .before .pre .1 .1 .0) _ _ (c .before .before .before .before .pre .1 .1 .1))
@@ -25,7 +25,7 @@ like-requires : tie.Need-like-requires
 like-requires c κs = search needs
 
 returns-2 : tie.Need-returns-2
-returns-2 c = of-string _ _ _ _ _ _ (c .before .before .before .before .before .before .before .pre .1 .1 .0) _ _ _ (c .before .before .before .before .before .before .before .pre .0) (c .before .before .before .before .before .before .before .pre .1 .1 .1) (likes (quotedAt (c .before .before .before .before .before .before .before .args .text .now) (spanOf (c .before .before .before .before .before .before .before .args .o)))) _ _ (c .before .before .before .if1 .left) (c .before .before .operand-string .ensures) (like-is _ _ (c .like .ensures) ∙ ap (λ (q : List ℕ). likes q (c .before .before .operand-string .result .now)) (c .before .quoted .ensures))
+returns-2 c = of-string _ _ _ _ _ _ (c .before .before .before .before .before .before .before .pre .1 .1 .0) _ _ _ (c .before .before .before .before .before .before .before .pre .0) (c .before .before .before .before .before .before .before .pre .1 .1 .1) (likes (quotedAt (c .before .before .before .before .before .before .before .args .text .now) (spanOfEntry (c .before .before .before .before .before .before .before .args .o)))) _ _ (c .before .before .before .if1 .left) (c .before .before .operand-string .ensures) (like-is _ _ (c .like .ensures) ∙ ap (λ (q : List ℕ). likes q (c .before .before .operand-string .result .now)) (c .before .quoted .ensures))
 
 pub like-operand-spec : {M : Type 1} → statement M
 like-operand-spec =

@@ -6,12 +6,12 @@ use lib.ListN.{length, drop}
 use mathlib.Core.Path.{_≡_, refl, sym, _∙_}
 use native.Mathlib.Omega.{arith}
 use Rattle.bags.proofs.PathLaws.{word-bytes-run, not-a-name, last-name, no-dot, dot-then, path-long, path-is}
-use Rattle.bags.specs.Paths.{every, isName, pieces}
+use Rattle.bags.specs.Paths.{every, isName, dotPieces}
 use Rattle.bags.proofs.paths.is_path.Statement.{statement}
 use Rattle.bags.proofs.paths.is_path.Tie as tie
 
 abbrev Inv-loop : tie.InvT-loop
-Inv-loop classes path at₀ at = (every isName (pieces (drop at path)) ≡ every isName (pieces path)) × (at ≤ length path)
+Inv-loop classes path at₀ at = (every isName (dotPieces (drop at path)) ≡ every isName (dotPieces path)) × (at ≤ length path)
 
 abbrev μ-loop : tie.MeasureT-loop
 μ-loop classes path at₀ at = length path - at

@@ -4,7 +4,7 @@ use Prim.Native.Nat.{_-_, _≤_, _<_}
 use native.Mathlib.Omega.{arith}
 use borrow.Author.Needs.{needs}
 use Rattle.table.specs.Layout.{entryAt}
-use Rattle.stored.specs.ReadBack.{policyOf, policiesAt}
+use Rattle.stored.specs.ReadBack.{policyAt, policiesAt}
 use Rattle.stored.specs.Ready.{Last}
 use Rattle.targets.specs.Matching.{request}
 use Rattle.deciding.proofs.Lowest.{last-there}
@@ -100,7 +100,7 @@ loop-again c =
       (let b = last met .begins in let e = last met .ends in let l = loop .inv .1 in omega arith),
       rw (c .one-if .ensures)
           (found-more (args .text .now) (args .s .now) (args .n) (args .heads .now) _ _ (loop .number) (loop .found)
-          (policyOf (args .table .now) (loop .end) (met .entry-at .result)) (c .before .from-zero .result) (other .result) (c .before .before .target-matches .result)
+          (policyAt (args .table .now) (loop .end) (met .entry-at .result)) (c .before .from-zero .result) (other .result) (c .before .before .target-matches .result)
           (one met) (rw (← pre .1 .0) (pre .1 .1 .0)) (last-numbered left (last met)) (loop .inv .2)
           (rw (c .before .from-zero .ensures, own .ensures) (omega (arith, depth-few (args .text .now) (entryAt (args .table .now)) (args .s .now) (args .n) (args .heads .now) 0 (pre .1 .1 .1 .0 .few) (loop .end - 1 - met .entry-at .result .second) (met .entry-at .result .second) 0 (omega arith))))
           (rw (c .before .from-zero .ensures, other .ensures) (last-steady (left .ready) (met .entry-at .ensures) (last met) _ _ _ _))

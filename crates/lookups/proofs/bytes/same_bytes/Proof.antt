@@ -34,9 +34,6 @@ same-four-requires-2 c κs = (omega arith, omega arith)
 returns-3 : tie.Need-returns-3 Inv-loop μ-loop
 returns-3 c = four-other _ _ _ _ (c .before .same-four2 .ensures) (not-true _ (c .if3 .taken))
 
-add-i : tie.Need-add-i Inv-loop μ-loop
-add-i c = omega arith
-
 loop-again : tie.Need-loop-again Inv-loop μ-loop
 loop-again c =
     let start = c .before .before .before .before .before .before .before .before .before in
@@ -61,7 +58,7 @@ same-bytes-spec =
     loop-holds
     same-four-requires-2
     returns-3
-    add-i
+    (λ c. omega arith)
     (λ c. omega arith)
     loop-again
     returns-4)

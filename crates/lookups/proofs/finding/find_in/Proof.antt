@@ -1,44 +1,34 @@
 -- `lookups::finding::find_in` meets its contract: the entry with the path is among those left exactly when it is among all. Assumes nothing.
-use Prim.Native.Nat.{ℕ, _<_}
 use borrow.Author.Needs.{needs}
-use mathlib.Core.Path.{_≡_, refl, sym, _∙_}
-use native.Mathlib.Omega.{arith}
-use Rattle.bags.proofs.ReadLaws.{First, first, same-end, many-more}
-use Rattle.bags.proofs.SectionLaws.{Entry, entry-at}
-use Rattle.bags.specs.Reading.{many, each}
-use Rattle.bags.specs.Sections.{entryEnd}
-use Rattle.lookups.proofs.BagLaws.{entry-valued, no-empty-path}
-use Rattle.lookups.proofs.FindLaws.{look-done, look-here, look-on}
-use Rattle.tokens.specs.Blanks.{unblanked}
-use Rattle.lookups.specs.Lookups.{lookIn, entryAt}
 use Rattle.lookups.specs.Values.{absent}
+use Rattle.lookups.specs.Lookups.{lookIn, bagEntryAt}
+use Rattle.tokens.specs.Blanks.{unblanked}
+use Rattle.lookups.proofs.FindLaws.{look-done, look-here, look-on}
+use Rattle.lookups.proofs.BagLaws.{entry-valued}
+use Rattle.bags.specs.Sections.{entryEnd}
+use Rattle.bags.specs.Reading.{many, each}
+use Rattle.bags.proofs.SectionLaws.{Entry, entry-at}
+use Rattle.bags.proofs.ReadLaws.{First, first, same-end, many-more}
+use native.Mathlib.Omega.{arith}
+use mathlib.Core.Path.{_≡_, refl, sym, _∙_}
 use Rattle.lookups.proofs.finding.find_in.Statement.{statement}
 use Rattle.lookups.proofs.finding.find_in.Tie as tie
-
-not-none : {n : ℕ} → (n ≡ 0 → ⊥) → 0 < n
-not-none h = omega arith
 
 abbrev Inv-loop : tie.InvT-loop
 Inv-loop n path s at lead left₀ next₀ left next =
     (many left (entryEnd s) next ≡ many n (entryEnd s) at)
-    × (lookIn absent (each left (entryEnd s) (entryAt s) next) (unblanked path) ≡ lookIn absent (each n (entryEnd s) (entryAt s) at) (unblanked path))
+    × (lookIn absent (each left (entryEnd s) (bagEntryAt s) next) (unblanked path) ≡ lookIn absent (each n (entryEnd s) (bagEntryAt s) at) (unblanked path))
 
 abbrev μ-loop : tie.MeasureT-loop
 μ-loop n path s at lead left₀ next₀ left next = left
 
-returns : tie.Need-returns Inv-loop μ-loop
-returns c = c .absent-value .ensures ∙ no-empty-path _ _ _ _ _ (c .before .if1 .taken) (c .before .before .before .before .pre .1)
-
-shared-slice-read-lead : tie.Need-shared-slice-read-lead Inv-loop μ-loop
-shared-slice-read-lead c = not-none (c .before .if1 .left)
-
 loop-holds : tie.Need-loop-holds Inv-loop μ-loop
 loop-holds c = (refl, refl)
 
-one : (c : tie.In-loop Inv-loop μ-loop) → First (entryEnd (c .before .before .before .before .before .before .args .s .now)) (c .before .loop .left) (c .before .loop .next) (c .before .before .before .before .before .before .pre .0)
-one c = first _ _ _ _ (c .loop-test .taken) (c .before .loop .inv .0 ∙ c .before .before .before .before .before .before .pre .1)
+one : (c : tie.In-loop Inv-loop μ-loop) → First (entryEnd (c .before .before .before .before .before .args .s .now)) (c .before .loop .left) (c .before .loop .next) (c .before .before .before .before .before .pre .0)
+one c = first _ _ _ _ (c .loop-test .taken) (c .before .loop .inv .0 ∙ c .before .before .before .before .before .pre .1)
 
-whole : (c : tie.In-loop Inv-loop μ-loop) → Entry (c .before .before .before .before .before .before .args .s .now) (c .before .loop .next) (one c .stop)
+whole : (c : tie.In-loop Inv-loop μ-loop) → Entry (c .before .before .before .before .before .args .s .now) (c .before .loop .next) (one c .stop)
 whole c = entry-at _ _ _ (one c .ends)
 
 shared-slice-read-size : tie.Need-shared-slice-read-size Inv-loop μ-loop
@@ -54,15 +44,15 @@ add-kind-at : tie.Need-add-kind-at Inv-loop μ-loop
 add-kind-at c = omega (arith, whole (c .before) .named)
 
 is-named-requires : tie.Need-is-named-requires Inv-loop μ-loop
-is-named-requires c κs = (omega (arith, whole (c .before) .named), (whole (c .before) .path, (not-none (c .before .before .before .before .if1 .left), refl)))
+is-named-requires c κs = (omega (arith, whole (c .before) .named), (whole (c .before) .path, c .before .before .before .lead-of .ensures))
 
 value-from-requires : tie.Need-value-from-requires Inv-loop μ-loop
 value-from-requires c κs = entry-valued _ _ _ (one (c .before .before .before) .ends)
 
-returns-2 : tie.Need-returns-2 Inv-loop μ-loop
-returns-2 c =
+returns : tie.Need-returns Inv-loop μ-loop
+returns c =
     c .value-from .ensures
-    ∙ look-here absent _ (entryAt (c .before .before .before .before .before .before .before .before .before .before .args .s .now)) _ _ _ (omega arith) _ (one (c .before .before .before .before) .ends) (sym (c .before .before .is-named .ensures) ∙ c .before .if2 .taken)
+    ∙ look-here absent _ (bagEntryAt (c .before .before .before .before .before .before .before .before .before .args .s .now)) _ _ _ (omega arith) _ (one (c .before .before .before .before) .ends) (sym (c .before .before .is-named .ensures) ∙ c .before .if1 .taken)
     ∙ c .before .before .before .before .before .loop .inv .1
 
 shared-slice-read-value-next : tie.Need-shared-slice-read-value-next Inv-loop μ-loop
@@ -80,11 +70,11 @@ loop-again c =
     let is = same-end (whole (c .before .before .before .before .before) .valued) (c .value-next .ensures) in
     let ends = rw is at (f .ends) in (
       sym (many-more _ _ _ _ (omega arith) ends) ∙ c .before .before .before .before .before .before .loop .inv .0,
-      look-on absent _ (entryAt (c .before .before .before .before .before .before .before .before .before .before .before .args .s .now)) _ _ _ (omega arith) _ ends (sym (c .before .before .before .is-named .ensures) ∙ c .before .before .if2 .left) ∙ c .before .before .before .before .before .before .loop .inv .1,
+      look-on absent _ (bagEntryAt (c .before .before .before .before .before .before .before .before .before .before .args .s .now)) _ _ _ (omega arith) _ ends (sym (c .before .before .before .is-named .ensures) ∙ c .before .before .if1 .left) ∙ c .before .before .before .before .before .before .loop .inv .1,
     )
 
-returns-3 : tie.Need-returns-3 Inv-loop μ-loop
-returns-3 c = c .absent-value2 .ensures ∙ look-done absent _ (entryAt (c .before .before .before .before .before .before .before .args .s .now)) _ _ _ (omega arith) ∙ c .before .before .loop .inv .1
+returns-2 : tie.Need-returns-2 Inv-loop μ-loop
+returns-2 c = c .absent-value .ensures ∙ look-done absent _ (bagEntryAt (c .before .before .before .before .before .before .args .s .now)) _ _ _ (omega arith) ∙ c .before .before .loop .inv .1
 
 pub find-in-spec : {M : Type 1} → statement M
 find-in-spec =
@@ -93,8 +83,6 @@ find-in-spec =
     Inv-loop
     μ-loop
     (λ c κs. search needs)
-    returns
-    shared-slice-read-lead
     loop-holds
     shared-slice-read-size
     cast-size
@@ -102,7 +90,7 @@ find-in-spec =
     add-kind-at
     is-named-requires
     value-from-requires
-    returns-2
+    returns
     shared-slice-read-value-next
     add-value-next
     value-next-requires
@@ -110,4 +98,4 @@ find-in-spec =
     (λ c. search needs)
     loop-again
     (λ c κs. search needs)
-    returns-3)
+    returns-2)

@@ -1,20 +1,18 @@
 -- `lookups::finding::is_named` meets its contract. Assumes nothing.
+use Rattle.lookups.proofs.BagLaws.{path-clear}
+use Rattle.lookups.proofs.FindLaws.{same-long, other-lead, part-sized}
+use Rattle.bags.proofs.ReadLaws.{part-to}
+use Rattle.bags.proofs.PathLaws.{path-sized}
+use Rattle.bags.specs.Paths.{isPath}
+use Rattle.slices.specs.Same.{same}
+use Rattle.slices.specs.Parts.{part}
+use native.Mathlib.Omega.{arith}
+use mathlib.Core.Path.{_≡_, _∙_, ap}
+use mathlib.Core.List.{List}
+use mathlib.Core.Bool.{true}
+use lib.ListN.{length}
 use Prim.Native.Nat.{ℕ, _+_, _<_, _≤_}
 use borrow.Author.Needs.{needs}
-use borrow.Author.Tests.{eqb-false, not-true}
-use lib.Dec.{eqb}
-use lib.ListN.{length}
-use mathlib.Core.Bool.{Bool, true, false, not, _&&_, and-eq-true-iff}
-use mathlib.Core.List.{List}
-use mathlib.Core.Path.{_≡_, sym, _∙_, ap}
-use native.Mathlib.Omega.{arith}
-use Rattle.slices.specs.Parts.{part}
-use Rattle.slices.specs.Same.{same}
-use Rattle.bags.specs.Paths.{isPath}
-use Rattle.bags.proofs.PathLaws.{path-sized}
-use Rattle.bags.proofs.ReadLaws.{part-to}
-use Rattle.lookups.proofs.FindLaws.{same-long, other-lead, part-sized}
-use Rattle.lookups.proofs.BagLaws.{path-clear}
 use Rattle.lookups.proofs.finding.is_named.Statement.{statement}
 use Rattle.lookups.proofs.finding.is_named.Tie as tie
 
@@ -22,26 +20,18 @@ use Rattle.lookups.proofs.finding.is_named.Tie as tie
 sized : (s : List ℕ) (at n : ℕ) → at + n ≤ length s → isPath (part s at n) ≡ true → 0 < n
 sized s at n f p = let l = path-sized (part s at n) p .0 in let k = part-sized s at n f in omega arith
 
-both-differ : (a b : ℕ) (k : Bool) → (not (eqb a b) && not k) ≡ true → (a ≡ b → ⊥) × (k ≡ false)
-both-differ a b k h = let w = and-eq-true-iff (not (eqb a b)) (not k) .0 h in (eqb-false a b (not-true (eqb a b) (w .0)), not-true k (w .1))
-
 shared-slice-read-if1 : tie.Need-shared-slice-read-if1
 shared-slice-read-if1 c = omega (arith, sized _ _ _ (c .before .before .before .pre .0) (c .before .before .before .pre .1 .0))
 
 returns : tie.Need-returns
-returns c =
-    let start = c .before .before .before .before .before in
-    let (d, b) = both-differ _ _ _ (c .if1 .taken) in
-    other-lead _ _ _ _ _ (sized _ _ _ (start .pre .0) (start .pre .1 .0)) (start .pre .0) (start .pre .1 .1 .0) (start .pre .1 .1 .1) (sym (c .before .is-blank .ensures) ∙ b) d
+returns c = other-lead _ _ _ _ _ (sized _ _ _ (c .before .before .before .before .pre .0) (c .before .before .before .before .pre .1 .0)) (c .before .before .before .before .pre .0) (c .before .before .before .before .pre .1 .1) (c .if1 .taken)
 
 same-bytes-requires : tie.Need-same-bytes-requires
-same-bytes-requires c κs =
-    let start = c .before .before .before .before .before .before .before in
-    ap length (part-to (start .args .s .now) (start .args .at) (start .args .n)) ∙ part-sized _ _ _ (start .pre .0) ∙ c .before .if2 .taken
+same-bytes-requires c κs = ap length (part-to (c .before .before .before .before .before .before .args .s .now) (c .before .before .before .before .before .before .args .at) (c .before .before .before .before .before .before .args .n)) ∙ part-sized _ _ _ (c .before .before .before .before .before .before .pre .0) ∙ c .before .if2 .taken
 
 returns-2 : tie.Need-returns-2
 returns-2 c =
-    let start = c .before .before .before .before .before .before .before .before in
+    let start = c .before .before .before .before .before .before .before in
     let s = start .args .s .now in
     c .same-bytes .ensures
     ∙ ap (λ (l : List ℕ). same l (start .args .path .now)) (part-to s (start .args .at) (start .args .n))
@@ -52,7 +42,6 @@ is-named-spec =
     tie.close
     (tie.spec
     shared-slice-read-if1
-    (λ c κs. search needs)
     returns
     (λ c. search needs)
     (λ c. search needs)

@@ -2,7 +2,7 @@
 use Rattle.operators.proofs.ListLaws.{isListed}
 use borrow.Author.Needs.{needs}
 use Rattle.operators.proofs.ListLaws.{FirstPlaced, first-placed, at-entry, asked-done, asked-here, asked-more}
-use Rattle.operators.specs.Operands.{whichOf}
+use Rattle.operators.specs.Operands.{whichBy}
 use Rattle.meaning.specs.Conditions.{asked}
 use Rattle.meaning.specs.Values.{sameFlag}
 use Rattle.table.specs.Layout.{entryAt}
@@ -17,7 +17,7 @@ use Rattle.operators.proofs.lists.literals_listed.Statement.{statement}
 use Rattle.operators.proofs.lists.literals_listed.Tie as tie
 
 abbrev Inv-loop : tie.InvT-loop
-Inv-loop text table any n at s place left₀ next₀ left next = Each (LiteralPlaced text) (literalsAt left table next) × (next + left ≡ at + n) × (asked (whichOf any) (isListed text s place) (literalsAt left table next) ≡ asked (whichOf any) (isListed text s place) (literalsAt n table at))
+Inv-loop text table any n at s place left₀ next₀ left next = Each (LiteralPlaced text) (literalsAt left table next) × (next + left ≡ at + n) × (asked (whichBy any) (isListed text s place) (literalsAt left table next) ≡ asked (whichBy any) (isListed text s place) (literalsAt n table at))
 
 abbrev μ-loop : tie.MeasureT-loop
 μ-loop text table any n at s place left₀ next₀ left next = left

@@ -4,7 +4,7 @@ use lib.ListN.{length, getD, getD-replicate, length-set}
 use mathlib.Core.Path.{_≡_, refl, sym, _∙_, ap}
 use native.Mathlib.Omega.{arith}
 use Rattle.bags.proofs.ReadLaws.{many-done, many-last}
-use Rattle.bags.specs.Reading.{many, place}
+use Rattle.bags.specs.Reading.{many, endPlace}
 use Rattle.bags.specs.declared.After.the-variants.{At}
 use Rattle.questions.proofs.PlaceLaws.{firstOf, first-none, fill-more, at-number}
 use Rattle.questions.specs.Columns.{columnEnd}
@@ -29,7 +29,7 @@ loop-again : tie.Need-loop-again Inv-loop μ-loop
 loop-again c = (
   many-last _ _ _ _ (c .before .before .loop .inv .0) ∙ c .column-next .ensures,
   simp length-set (c .before .before .loop .inv .1),
-  fill-more 6 (headOf (c .before .before .before .before .args .s .now) (c .before .before .before .before .args .at)) (c .before .before .loop .starts) (c .before .before .loop .i) _ (omega arith) (sym (ap place (c .before .before .loop .inv .0))) (c .before .before .loop .inv .2),
+  fill-more 6 (headOf (c .before .before .before .before .args .s .now) (c .before .before .before .before .args .at)) (c .before .before .loop .starts) (c .before .before .loop .i) _ (omega arith) (sym (ap endPlace (c .before .before .loop .inv .0))) (c .before .before .loop .inv .2),
   omega arith,
 )
 

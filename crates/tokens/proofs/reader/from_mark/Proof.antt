@@ -7,7 +7,7 @@ use denote.Ref.{now}
 use lib.ListN.{getD}
 use borrow.Author.Tests.{eq-eqb, ne-eqb}
 use borrow.Author.Needs.{needs}
-use Rattle.tokens.specs.Runs.{is}
+use Rattle.tokens.specs.Runs.{isOf}
 use Rattle.tokens.specs.Tokens.{markOf, markAt}
 use Rattle.tokens.specs.declared.classes.Sort.the-variants.{Digits}
 use Rattle.tokens.proofs.TokenLaws.{digit-inside}
@@ -26,8 +26,8 @@ abbrev start : tie.After-byte → ℕ
 start c = c .before .before .before .args .start
 
 -- in the branch of a digit, the byte after the `-` is one
-digit-after : (c : tie.Then3) → is Digits (getD (text (c .before .before .before .before)) (start (c .before .before .before .before) + 1) 0) ≡ true
-digit-after c = ap (is Digits) (sym (c .before .before .before .before .byte .ensures)) ∙ (sym (c .before .is-of .ensures) ∙ c .if3 .taken)
+digit-after : (c : tie.Then3) → isOf Digits (getD (text (c .before .before .before .before)) (start (c .before .before .before .before) + 1) 0) ≡ true
+digit-after c = ap (isOf Digits) (sym (c .before .before .before .before .byte .ensures)) ∙ (sym (c .before .is-of .ensures) ∙ c .if3 .taken)
 
 number-requires : tie.Need-number-requires
 number-requires c κs =
@@ -44,7 +44,7 @@ returns-2 c =
 returns-3 : tie.Need-returns-3
 unfolding markAt
 returns-3 c =
-    let other = ap (is Digits) (sym (c .before .before .before .before .before .byte .ensures)) ∙ (sym (c .before .before .is-of .ensures) ∙ c .before .if3 .left) in
+    let other = ap (isOf Digits) (sym (c .before .before .before .before .before .byte .ensures)) ∙ (sym (c .before .before .is-of .ensures) ∙ c .before .if3 .left) in
     simp (ne-eqb _ _ (c .before .before .before .before .if1 .left), eq-eqb _ _ (c .before .before .before .if2 .taken), other) (c .one-byte .ensures)
 
 returns-4 : tie.Need-returns-4

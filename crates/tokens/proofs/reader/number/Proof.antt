@@ -3,7 +3,7 @@ use mathlib.Core.Path.{sym, _∙_}
 use native.Mathlib.Omega.{arith}
 use denote.Ref.{now}
 use borrow.Author.Needs.{needs}
-use Rattle.tokens.specs.Tokens.{numberAt}
+use Rattle.tokens.specs.Tokens.{numberToken}
 use Rattle.tokens.proofs.TokenLaws.{point-inside}
 use Rattle.tokens.proofs.reader.number.Statement.{statement}
 use Rattle.tokens.proofs.reader.number.Tie as tie
@@ -16,14 +16,14 @@ run-end-requires-2 c κs =
     )
 
 returns : tie.Need-returns
-unfolding numberAt
+unfolding numberToken
 returns c =
     let at-test = c .before .before .before in
     rw (← at-test .before .run-end .ensures .place, sym (at-test .has-fraction .ensures) ∙ c .before .before .if1 .taken, ← c .before .run-end2 .ensures .place)
     (c .within .ensures)
 
 returns-2 : tie.Need-returns-2
-unfolding numberAt
+unfolding numberToken
 returns-2 c =
     let at-test = c .before .before in
     rw (← at-test .before .run-end .ensures .place, sym (at-test .has-fraction .ensures) ∙ c .before .if1 .left) (c .within2 .ensures)

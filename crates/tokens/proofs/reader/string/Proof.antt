@@ -3,7 +3,7 @@ use mathlib.Core.Path.{_≡_, _∙_, ap}
 use denote.Ref.{now}
 use borrow.Author.Tests.{le-leb, lt-leb, eq-eqb, ne-eqb}
 use borrow.Author.Needs.{needs}
-use Rattle.tokens.specs.Tokens.{stringTo, stringAt}
+use Rattle.tokens.specs.Tokens.{stringTo, stringToken}
 use Rattle.tokens.specs.declared.reader.Token.{Token}
 use Rattle.tokens.proofs.reader.string.Statement.{statement}
 use Rattle.tokens.proofs.reader.string.Tie as tie
@@ -13,10 +13,10 @@ abbrev to-end : tie.After-run-end → Token
 to-end c = let args = c .before .before .args in stringTo (now (args .text)) (args .start) (c .run-end .result)
 
 abbrev Right : tie.After-run-end → Token → Type 0
-Right c r = let args = c .before .before .args in r ≡ stringAt (now (args .text)) (args .start)
+Right c r = let args = c .before .before .args in r ≡ stringToken (now (args .text)) (args .start)
 
 ended : (c : tie.After-run-end) (r : Token) → r ≡ to-end c → Right c r
-unfolding stringAt
+unfolding stringToken
 ended c r e = let args = c .before .before .args in e ∙ ap (stringTo (now (args .text)) (args .start)) (c .run-end .ensures .place)
 
 returns : tie.Need-returns
