@@ -25,6 +25,7 @@ mod record;
 mod refusals;
 mod report;
 mod rules;
+mod tallies;
 mod testing;
 mod words;
 mod writing;
