@@ -1,4 +1,5 @@
-// The ask program, run in a folder with one word. `check`: whether policy.txt compiles. `decide`: what the desk answers to each case of cases.bin. All it says is what the desk's calls say.
+// The ask program, run in a folder with one word. `check`: whether policy.txt compiles. `decide`: what the desk answers to each case of cases.bin. `tally`: what it counts over
+// question.bin for the requests of requests.bin. All it says is what the desk's calls say.
 ghost use mathlib.Core.Bool.{true};
 ghost use mathlib.Core.Path.{_≡_};
 ghost use Prim.Native.Nat.{_+_, _≤_, _<_};
@@ -9,8 +10,11 @@ ghost use Rattle.ask.specs.Lines.{compiledLine, decidedLine, casesFrom, 
 use desk::DeskCompiled;
 use desk::DeskDecision;
 use folder::cases::part_at;
+use folder::cases::wide;
+use folder::lines::put_one;
 use folder::lines::put_refusal;
 use folder::lines::put_two;
+use folder::lines::put_word;
 use folder::read_file;
 use libc::STDOUT_FILENO;
 
@@ -157,6 +161,129 @@ fn print_answers<'a>(text: &'a [u8], table: &mut [u8], cases: &'a [u8]) -> usize
     print_cases(text, table, cases)
 }
 
+// A line for each of so many counts from a place on: a word, the number of the count from 1, and the count.
+fn put_counts(
+    out: &mut [u8],
+    at: usize,
+    word: &[u8],
+    counts: &[u32; 612],
+    from: usize,
+    many: usize,
+) -> usize {
+    let mut filled = at;
+    let mut n = 0;
+    while n < many {
+        let count = counts[from + n] as usize;
+        filled = put_two(out, filled, word, n + 1, count);
+        n += 1;
+    }
+    filled
+}
+
+// The lines of a group of counts: its four outcomes and so many policies.
+fn put_group(
+    out: &mut [u8],
+    at: usize,
+    counts: &[u32; 612],
+    group: usize,
+    policies: usize,
+) -> usize {
+    let first = 68 * group;
+    let outcomes = put_counts(out, at, b"outcome ", counts, first, 4);
+    put_counts(out, outcomes, b"policy ", counts, first + 4, policies)
+}
+
+// The lines of so many requests, each group behind the request's number.
+fn put_requests(
+    out: &mut [u8],
+    at: usize,
+    counts: &[u32; 612],
+    many: usize,
+    policies: usize,
+) -> usize {
+    let mut filled = at;
+    let mut k = 0;
+    while k < many {
+        let heading = put_one(out, filled, b"request ", k + 1);
+        filled = put_group(out, heading, counts, k, policies);
+        k += 1;
+    }
+    filled
+}
+
+// The lines of a tally: the number of rows, the requests and the sums.
+fn put_tally(
+    out: &mut [u8],
+    counts: &[u32; 612],
+    rows: usize,
+    many: usize,
+    policies: usize,
+) -> usize {
+    let first = put_one(out, 0, b"rows ", rows);
+    let groups = put_requests(out, first, counts, many, policies);
+    let sums = put_word(out, groups, b"sums\n");
+    put_group(out, sums, counts, 8, policies)
+}
+
+// Prints a tally.
+fn print_counts(counts: &[u32; 612], rows: usize, many: usize, policies: usize) {
+    let mut out = [0u8; 32768]; // 50 bytes for each of nine groups of 68 counts, and room for the other lines
+    let n = put_tally(&mut out, counts, rows, many, policies);
+    io::write_all(STDOUT_FILENO, &out[..n]);
+}
+
+// Prints the line of a refusal that has no place.
+fn print_refusal(number: u32) {
+    let mut out = [0u8; 71];
+    let n = put_refusal(&mut out, 0, number, 0, 0);
+    io::write_all(STDOUT_FILENO, &out[..n]);
+}
+
+// Prints the tally of so many requests over rules with so many policies, or its refusal, and gives the refusal's number.
+fn print_tally<'a>(
+    text: &'a [u8],
+    table: &[u8],
+    policies: usize,
+    question: &'a [u8],
+    many: usize,
+    requests: &'a [u8],
+) -> u32 {
+    let mut counts = [0u32; 612];
+    let refusal = desk::desk_tally(text, table, question, many, requests, &mut counts);
+    if 0 < refusal {
+        print_refusal(refusal);
+        return refusal;
+    }
+    print_counts(&counts, desk::desk_rows(question), many, policies);
+    0
+}
+
+// What is printed for a text, a question and requests, which stand behind their number in one byte: the tally; or the refusal's line. Gives the refusal's number.
+fn print_counted<'a>(
+    text: &'a [u8],
+    table: &mut [u8],
+    question: &'a [u8],
+    requests: &'a [u8],
+) -> u32 {
+    let c = desk::desk_compile(text, table);
+    if 0 < c.refusal {
+        print_compiled(c);
+        return c.refusal;
+    }
+    let n = requests.len();
+    if n < 1 {
+        return print_tally(text, table, c.policies, question, 0, requests);
+    }
+    print_tally(
+        text,
+        table,
+        c.policies,
+        question,
+        wide(requests[0]),
+        &requests[1..n],
+    )
+}
+
 // A file is read with room for one byte more than its limit, so that what is too long is refused and not cut.
 fn check() {
     let mut text = [0u8; 8193];
@@ -179,6 +306,18 @@ fn decide() {
     print_answers(&text[..n], &mut table, &cases[..m]);
 }
 
+// Eight requests have 6,145 bytes at most; what lies behind them is not looked at.
+fn tally() {
+    let mut text = [0u8; 8193];
+    let mut table = [0u8; 65544];
+    let mut question = [0u8; 4097];
+    let mut requests = [0u8; 6145];
+    let n = read_file(b"policy.txt", &mut text);
+    let q = read_file(b"question.bin", &mut question);
+    let r = read_file(b"requests.bin", &mut requests);
+    print_counted(&text[..n], &mut table, &question[..q], &requests[..r]);
+}
+
 fn main() {
     let mut word = [0u8; 8];
     let n = os::arg(1, &mut word);
@@ -187,7 +326,9 @@ fn main() {
         check();
     } else if single & slices::same(&word[..n], b"decide") {
         decide();
+    } else if single & slices::same(&word[..n], b"tally") {
+        tally();
     } else {
-        io::write_all(STDOUT_FILENO, b"usage check decide\n");
+        io::write_all(STDOUT_FILENO, b"usage check decide tally\n");
     }
 }
