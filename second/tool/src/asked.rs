@@ -26,6 +26,7 @@ const REQUEST: &str = "request.txt";
 const REQUESTS: &str = "requests.bin";
 
 /// Rules, and a question or bag with its requests.
+#[derive(Clone)]
 pub struct Asked {
     pub rules_name: String,
     pub rules: Vec<u8>,

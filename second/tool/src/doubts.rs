@@ -7,9 +7,29 @@ use definitions::patterns::like;
 use definitions::policies::{ActionPart, Attribute, Condition, Effect, Literal, Operand, Policy, Root};
 
 use crate::asked::Asked;
-use crate::form::{attribute, PARTS};
+use crate::form::{attribute, Parts, PARTS};
 use crate::rules::{attributes, condition_text, inside, leaves, path_of, section_of};
 use crate::writing::{quoted, shown};
+
+/// All doubts about requests that are asked together. What is doubtful of each of them is said once, and else of which it is.
+pub fn doubts_of_all(asked: &Asked, policies: &[Policy]) -> Vec<String> {
+    let of_one = |request: &Parts| doubts(&Asked { request: request.clone(), ..asked.clone() }, policies);
+    let each: Vec<Vec<String>> = asked.requests.iter().map(of_one).collect();
+    let is_of_all = |doubt: &String| each.iter().all(|doubts| doubts.contains(doubt));
+    let mut all: Vec<String> = each[0].iter().filter(|doubt| is_of_all(doubt)).cloned().collect();
+    for (index, doubts) in each.iter().enumerate() {
+        let own = doubts.iter().filter(|doubt| !is_of_all(doubt));
+        all.extend(own.map(|doubt| format!("request {}: {}", index + 1, doubt)));
+        if let Some(same) = asked.requests[..index].iter().position(|other| *other == asked.requests[index]) {
+            all.push(format!(
+                "request {} is the same as request {}: the sums count its rows twice",
+                index + 1,
+                same + 1
+            ));
+        }
+    }
+    all
+}
 
 /// All doubts about what is asked, the policies being those of its rules.
 pub fn doubts(asked: &Asked, policies: &[Policy]) -> Vec<String> {

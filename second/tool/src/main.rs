@@ -26,6 +26,8 @@ mod refusals;
 mod report;
 mod rules;
 mod tallies;
+mod tally_page;
+mod tally_text;
 mod testing;
 mod words;
 mod writing;
@@ -66,6 +68,7 @@ fn run(desk: &dyn Answers, words: &[&str]) -> Done<Said> {
     }
     match name {
         "sheet" => commands::sheet(desk, rest),
+        "tally" => commands::tally(desk, rest),
         "check" => commands::check(desk, rest),
         "decide" => commands::decide(desk, rest),
         "explain" => commands::explain(desk, rest),

@@ -707,9 +707,48 @@ column resource.taught = true | absent
             ("bag\ncolumn env.a = 1", "2:1: a bag has no columns; expected an attribute of the base"),
             ("env.a = 1\nbag", "2:1: bag must stand before all other lines, and once"),
             ("question\nquestion", "2:1: question must stand before all other lines, and once"),
+            ("subject = \"system\"\nrequest\nquestion", "3:1: question must stand before all other lines, and once"),
+            ("subject = \"system\"\nrequest\nenv.a = 1", &format!("3:1: {}", A_PART)),
+            ("subject = \"system\"\nrequest\nresource.a = 1", &format!("3:1: {}", A_PART)),
+            ("subject = \"system\"\nrequest\ncolumn env.a = 1", &format!("3:1: {}", A_PART)),
+            ("request \"one\"", "1:9: expected the end of the line"),
+            (
+                "action = \"a\"\nrequest\nsubject = \"tool:1\"",
+                "2:1: this request has no resource: say resource = \"..\" in it, or before the first request",
+            ),
+            (
+                "request\nrequest\nsubject = \"system\"",
+                "1:1: this request has no subject: say subject = \"..\" in it, or before the first request",
+            ),
+            (
+                "bag\nrequest",
+                "2:1: a bag has one request: expected subject, action and resource without a line request",
+            ),
         ] {
             assert_eq!(wrong_with(text), message, "{}", text);
         }
+    }
+
+    // What stands before the first request holds for all, and their own lines change it.
+    #[test]
+    fn requests_come_one_after_the_other() {
+        let text = "subject = \"person:K7\"\nresource = \"shaft:A\"\ncolumn env.a = 1 | 2
+            request # the first\n  action = \"teach\"\n\n request\nresource = \"shaft:B\"\naction = \"move\"
+            request\nsubject = \"system\"";
+        let form = read_text(text.as_bytes()).unwrap();
+        let of = |parts: [&str; 3]| parts.map(|part| part.as_bytes().to_vec());
+        let requests = [
+            of(["person:K7", "teach", "shaft:A"]),
+            of(["person:K7", "move", "shaft:B"]),
+            of(["system", "", "shaft:A"]),
+        ];
+        assert_eq!(form.requests, requests);
+        assert_eq!(read_text(text_of(&form).as_bytes()).unwrap(), form);
+        assert_eq!(form.bytes(), read_text(b"column env.a = 1 | 2").unwrap().bytes());
+        let twice = read_text(b"subject = \"a\"\nrequest\nsubject = \"b\"\nsubject = \"c\"").unwrap_err();
+        assert_eq!(twice.what, "subject has a value already, in line 3");
+        let nine = "subject = \"system\"\n".to_string() + &"request\n".repeat(9);
+        assert_eq!(read_text(nine.as_bytes()).unwrap().requests.len(), 9);
     }
 
     // Every limit passes at its number, not one above.

@@ -7,6 +7,9 @@ use crate::answers::{numbers, read_refused, Answers, Refused};
 use crate::asked::{bytes_of_requests, Asked};
 use crate::command::{not_asked, Done};
 use crate::printed::Listed;
+use crate::rules::{policy_texts, PolicyText};
+use crate::words::ranges;
+use crate::writing::shown;
 
 /// How many rows there are, the counts of each request, and their sums.
 #[derive(Clone, PartialEq, Debug)]
@@ -44,10 +47,11 @@ const OF_REQUESTS: std::ops::RangeInclusive<usize> = 20..=23;
 pub fn tally(desk: &dyn Answers, asked: &Asked) -> Done<(String, Result<Tally, RefusedTally>)> {
     let printed = desk.tally(&asked.rules, &asked.sent, &asked.requests_bytes())?;
     if let Some(refused) = read_refused(printed.trim_end()) {
-        let request = if OF_REQUESTS.contains(&refused.number) { Some(refused_one(desk, asked, refused)?) } else { None };
+        let request =
+            if OF_REQUESTS.contains(&refused.number) { Some(refused_one(desk, asked, refused)?) } else { None };
         return Ok((printed, Err(RefusedTally { refused, request })));
     }
-    let policies = crate::rules::policy_texts(&asked.rules).len();
+    let policies = policy_texts(&asked.rules).len();
     let tally = match read_tally(&printed) {
         Some(tally) => tally,
         None => return not_asked(format!("ask tally printed '{}', which is no tally", printed.trim_end())),
@@ -66,7 +70,10 @@ fn refused_one(desk: &dyn Answers, asked: &Asked, refused: Refused) -> Done<usiz
             None => {}
         }
     }
-    not_asked(format!("the tally is refused with {}, but none of its requests alone: the proved program is wrong", refused.number))
+    not_asked(format!(
+        "the tally is refused with {}, but none of its requests alone: the proved program is wrong",
+        refused.number
+    ))
 }
 
 /// The tally that the lines say.
@@ -127,6 +134,52 @@ fn check_adds_up(tally: &Tally, requests: usize, rows: usize, policies: usize) -
     Ok(())
 }
 
+/// A tally as it is shown: each request with its parts, the policies as they stand in the rules, and what is counted.
+pub struct TallyShown {
+    pub requests: Vec<[String; 3]>,
+    /// The request whose sheet is shown, from 1, where that is one of several.
+    pub chosen: Option<usize>,
+    pub policies: Vec<PolicyText>,
+    pub tally: Tally,
+}
+
+impl TallyShown {
+    /// The tally of what is asked, beside the sheet of a request if one is chosen.
+    pub fn new(asked: &Asked, tally: Tally, chosen: Option<usize>) -> TallyShown {
+        TallyShown {
+            requests: asked.requests.iter().map(|[a, b, c]| [shown(a), shown(b), shown(c)]).collect(),
+            chosen: chosen.filter(|_| asked.requests.len() > 1),
+            policies: policy_texts(&asked.rules),
+            tally,
+        }
+    }
+
+    pub fn has_several(&self) -> bool {
+        self.requests.len() > 1
+    }
+
+    /// The policies that decide some row, each with how many rows it decides: for each request, and then the sum if there are several.
+    pub fn deciding(&self) -> Vec<(&PolicyText, Vec<usize>)> {
+        let of = |index: usize| {
+            let sum = Some(&self.tally.sums).filter(|_| self.has_several());
+            self.tally.requests.iter().chain(sum).map(|counts| counts.policies[index]).collect()
+        };
+        let decides = |policy: &&PolicyText| self.tally.sums.policies[policy.number - 1] > 0;
+        self.policies.iter().filter(decides).map(|policy| (policy, of(policy.number - 1))).collect()
+    }
+
+    /// Which policies decide no row, in a sentence; nothing if each decides one.
+    pub fn idle(&self) -> Option<String> {
+        let is_idle = |number: &usize| self.tally.sums.policies[*number - 1] == 0;
+        let idle: Vec<usize> = (1..=self.policies.len()).filter(is_idle).collect();
+        let policies = if idle.len() == 1 { "policy" } else { "policies" };
+        if idle.is_empty() {
+            return None;
+        }
+        Some(format!("No row is decided by {} {}.", policies, ranges(&idle)))
+    }
+}
+
 /// A request's counts are those of the rows that its sheet lists: outcomes 1 and 4, and what each policy decides of them.
 pub fn check_lists(counts: &Counts, listed: &[Listed]) -> Done<()> {
     let mut decided = vec![0; counts.policies.len()];
@@ -137,7 +190,9 @@ pub fn check_lists(counts: &Counts, listed: &[Listed]) -> Done<()> {
     if counts.outcomes[0] + counts.outcomes[3] == listed.len() && are_counted {
         return Ok(());
     }
-    not_asked("the tally counts other rows than the sheet lists: one of the proved programs is wrong, so nothing is shown")
+    not_asked(
+        "the tally counts other rows than the sheet lists: one of the proved programs is wrong, so nothing is shown",
+    )
 }
 
 #[cfg(test)]
@@ -146,7 +201,8 @@ mod tests {
     use crate::answers::tests::{StandIn, Wrong};
     use crate::report::tests::{asked, EXAMPLE, QUESTION, REQUEST};
 
-    const LINES: &str = "rows 9\nrequest 1\noutcome 1 2\noutcome 2 3\noutcome 3 4\noutcome 4 0\npolicy 1 2\npolicy 2 3\n\
+    const LINES: &str =
+        "rows 9\nrequest 1\noutcome 1 2\noutcome 2 3\noutcome 3 4\noutcome 4 0\npolicy 1 2\npolicy 2 3\n\
         sums\noutcome 1 2\noutcome 2 3\noutcome 3 4\noutcome 4 0\npolicy 1 2\npolicy 2 3\n";
 
     fn with_requests(subjects: &[&str]) -> Asked {
@@ -194,7 +250,6 @@ mod tests {
         for wrong in [
             "",
             "rows 9\n",
-            "refused 21 0 0\n",
             "rows 9\nsums\noutcome 1 2\noutcome 2 3\noutcome 3 4\noutcome 4 0\npolicy 1 2\npolicy 2 3\n",
             "rows 8\nrequest 1\noutcome 1 2\noutcome 2 3\noutcome 3 4\noutcome 4 0\npolicy 1 2\npolicy 2 3\nsums\noutcome 1 2\noutcome 2 3\noutcome 3 4\noutcome 4 0\npolicy 1 2\npolicy 2 3\n",
             "rows 9\nrequest 1\noutcome 1 2\noutcome 2 3\noutcome 3 5\noutcome 4 0\npolicy 1 2\npolicy 2 3\nsums\noutcome 1 2\noutcome 2 3\noutcome 3 5\noutcome 4 0\npolicy 1 2\npolicy 2 3\n",
