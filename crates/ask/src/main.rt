@@ -11,10 +11,9 @@ use desk::DeskCompiled;
 use desk::DeskDecision;
 use folder::cases::part_at;
 use folder::cases::wide;
-use folder::lines::put_one;
+use folder::counts::put_tally;
 use folder::lines::put_refusal;
 use folder::lines::put_two;
-use folder::lines::put_word;
 use folder::read_file;
 use libc::STDOUT_FILENO;
 
@@ -161,73 +160,11 @@ fn print_answers<'a>(text: &'a [u8], table: &mut [u8], cases: &'a [u8]) -> usize
     print_cases(text, table, cases)
 }
 
-// A line for each of so many counts from a place on: a word, the number of the count from 1, and the count.
-fn put_counts(
-    out: &mut [u8],
-    at: usize,
-    word: &[u8],
-    counts: &[u32; 612],
-    from: usize,
-    many: usize,
-) -> usize {
-    let mut filled = at;
-    let mut n = 0;
-    while n < many {
-        let count = counts[from + n] as usize;
-        filled = put_two(out, filled, word, n + 1, count);
-        n += 1;
-    }
-    filled
-}
-
-// The lines of a group of counts: its four outcomes and so many policies.
-fn put_group(
-    out: &mut [u8],
-    at: usize,
-    counts: &[u32; 612],
-    group: usize,
-    policies: usize,
-) -> usize {
-    let first = 68 * group;
-    let outcomes = put_counts(out, at, b"outcome ", counts, first, 4);
-    put_counts(out, outcomes, b"policy ", counts, first + 4, policies)
-}
-
-// The lines of so many requests, each group behind the request's number.
-fn put_requests(
-    out: &mut [u8],
-    at: usize,
-    counts: &[u32; 612],
-    many: usize,
-    policies: usize,
-) -> usize {
-    let mut filled = at;
-    let mut k = 0;
-    while k < many {
-        let heading = put_one(out, filled, b"request ", k + 1);
-        filled = put_group(out, heading, counts, k, policies);
-        k += 1;
-    }
-    filled
-}
-
-// The lines of a tally: the number of rows, the requests and the sums.
-fn put_tally(
-    out: &mut [u8],
-    counts: &[u32; 612],
-    rows: usize,
-    many: usize,
-    policies: usize,
-) -> usize {
-    let first = put_one(out, 0, b"rows ", rows);
-    let groups = put_requests(out, first, counts, many, policies);
-    let sums = put_word(out, groups, b"sums\n");
-    put_group(out, sums, counts, 8, policies)
-}
-
-// Prints a tally.
-fn print_counts(counts: &[u32; 612], rows: usize, many: usize, policies: usize) {
-    let mut out = [0u8; 32768]; // 50 bytes for each of nine groups of 68 counts, and room for the other lines
+// Prints the lines of a tally.
+fn print_counts(counts: &[u32; 612], rows: usize, many: usize, policies: usize)
+    requires { ⌜ (many ≤ 8) × (policies ≤ 64) ⌝ }
+{
+    let mut out = [0u8; 30863]; // 50 bytes for each of nine groups of 68 counts, and the lines of rows, requests and sums
     let n = put_tally(&mut out, counts, rows, many, policies);
     io::write_all(STDOUT_FILENO, &out[..n]);
 }
