@@ -220,3 +220,17 @@ pub extern "C" fn desk_rows(question: &[u8]) -> usize
 {
     sheets::row_count(question)
 }
+
+// The tally of so many requests over one question. `requests` has subject, action and resource of each, each behind a length byte. `counts` has nine groups of 68 numbers, one for each
+// request and the sums: the rows of outcome 1 to 4, then those that policy 1 to 64 decides. Answers the refusal's number, 0 where nothing is refused; a refusal changes nothing.
+#[no_mangle]
+pub extern "C" fn desk_tally<'a>(
+    text: &'a [u8],
+    table: &[u8],
+    question: &'a [u8],
+    many: usize,
+    requests: &'a [u8],
+    counts: &mut [u32; 612],
+) -> u32 {
+    tallies::tally(text, table, question, many, requests, counts) as u32
+}
