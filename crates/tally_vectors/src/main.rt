@@ -14,12 +14,12 @@ fn fill(counts: &mut [u32; 612]) {
 }
 
 // The sum of all the counts.
-fn sum_of(counts: &[u32; 612]) -> u64
+fn sum_of(counts: &[u32]) -> u64
     ensures { λ r. ⌜ r < 1000003 ⌝ }
 {
     let mut sum: u64 = 0;
     let mut i = 0;
-    while i < 612 {
+    while i < counts.len() {
         sum = vectors::with(sum, counts[i] as usize);
         i += 1;
     }
@@ -27,9 +27,9 @@ fn sum_of(counts: &[u32; 612]) -> u64
 }
 
 // Writes the place and the number of each count that is not 0.
-fn print_counts(counts: &[u32; 612]) {
+fn print_counts(counts: &[u32]) {
     let mut i = 0;
-    while i < 612 {
+    while i < counts.len() {
         if 0 < counts[i] {
             vectors::print_more(i as u64);
             vectors::print_more(counts[i] as u64);
