@@ -340,7 +340,8 @@ fn add_many_rows(vectors: &mut Vec<Vector>) {
     let question = question_of_rows(&[8; 6]);
     vectors.push(with_own_table(BY_REQUEST, &question, &[SYSTEM; 8]));
     vectors.push(with_own_table(BY_REQUEST, &question, &REQUESTS[1..3]));
-    let last = "permit(principal,action,resource)when{env.c0==3&&env.c1==4&&env.c2==true&&env.c3==false&&env.c4==\"\"&&\
+    let last =
+        "permit(principal,action,resource)when{env.c0==3&&env.c1==4&&env.c2==true&&env.c3==false&&env.c4==\"\"&&\
         !env has c5};";
     vectors.push(with_own_table(last, &question, &[TEACH, SYSTEM]));
     vectors.push(with_own_table(BY_REQUEST, &question_of_rows(&[8, 8, 8, 8, 4]), &REQUESTS));
