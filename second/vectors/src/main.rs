@@ -12,6 +12,7 @@ mod packing;
 mod pattern_vectors;
 mod questions_vectors;
 mod sheet_vectors;
+mod tally_vectors;
 mod token_vectors;
 mod vector;
 mod vectors;
@@ -37,8 +38,8 @@ const USAGE: &str = "usage:
   second ask check DIR                       print what `ask check` prints for policy.txt in DIR
   second ask decide DIR                      print what `ask decide` prints for policy.txt and cases.bin in DIR
   second ask tally DIR                       print what `ask tally` prints for policy.txt, question.bin and requests.bin in DIR
-SORT is tokens, number, like, compile, begins, bag, question, view, decide or sheet; README.md says what the input of
-each is";
+SORT is tokens, number, like, compile, begins, bag, question, view, decide, sheet or tally; README.md says what the
+input of each is";
 
 /// The bytes of the sheets that `second sheet` lends.
 const PAGE_BYTES: usize = 6_000;
