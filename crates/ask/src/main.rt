@@ -4,9 +4,9 @@ ghost use mathlib.Core.Bool.{true};
 ghost use mathlib.Core.Path.{_≡_};
 ghost use Prim.Native.Nat.{_+_, _≤_, _<_};
 ghost use lib.ListN.{length, take};
-ghost use Rattle.desk.specs.Answers.{compileSays, beginsSays};
+ghost use Rattle.desk.specs.Answers.{compileSays, beginsSays, tallySays};
 ghost use Rattle.folder.specs.Added.{Added};
-ghost use Rattle.ask.specs.Lines.{compiledLine, decidedLine, casesFrom, answeredFor, CaseAnswered, CasesAnswered};
+ghost use Rattle.ask.specs.Lines.{compiledLine, decidedLine, casesFrom, answeredFor, CaseAnswered, CasesAnswered, countedFor};
 use desk::DeskCompiled;
 use desk::DeskDecision;
 use folder::cases::part_at;
@@ -184,7 +184,10 @@ fn print_tally<'a>(
     question: &'a [u8],
     many: usize,
     requests: &'a [u8],
-) -> u32 {
+) -> u32
+    requires { ⌜ policies ≤ 64 ⌝ }
+    ensures { λ r. ⌜ r ≡ tallySays (now (text .entry)) (now (table .entry)) (now (question .entry)) many (now (requests .entry)) ⌝ }
+{
     let mut counts = [0u32; 612];
     let refusal = desk::desk_tally(text, table, question, many, requests, &mut counts);
     if 0 < refusal {
@@ -201,7 +204,9 @@ fn print_counted<'a>(
     table: &mut [u8],
     question: &'a [u8],
     requests: &'a [u8],
-) -> u32 {
+) -> u32
+    ensures { λ r. ⌜ r ≡ countedFor (now (text .entry)) (now (table .entry)) (now (question .entry)) (now (requests .entry)) ⌝ }
+{
     let c = desk::desk_compile(text, table);
     if 0 < c.refusal {
         print_compiled(c);
