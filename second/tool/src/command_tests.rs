@@ -548,19 +548,28 @@ fn refusals_of_tallies_say_which_request() {
     assert!(said.status == 2 && all(&said).contains("request.txt: say subject = \"..\""), "{}", all(&said));
 }
 
-// What is doubtful of each request is said once, and what is doubtful of one with its number.
+// A doubt is said once, with the numbers of the requests that it is about; without, where it is about all but the system's.
 #[test]
 fn doubts_of_several_requests_name_them() {
     let said = with_requests("request\nrequest\nrequest\naction = \"teech\"").says(&["tally", "@", "--lines"]);
     let doubts = [
-        "request 2 is the same as request 1: the sums count its rows twice",
         "request 3: no policy names the action \"teech\": did you mean teach?",
+        "request 2 is the same as request 1: the sums count its rows twice",
     ];
     assert_eq!(said.warnings, doubts);
     let question = "subject = \"system\"\nrequest\nrequest\naction = \"a\"";
     let said = with_question(RULES, question).says(&["tally", "@", "--lines"]);
     assert_eq!(said.warnings, ["the subject is system: the answer is yes without a look at the rules"]);
     assert!(doubts.iter().all(|doubt| documented(doubt)));
+    let base = "principal.grade = 3\nprincipal.hired = \"own\"\nenv.extra = 1\n";
+    let requests = "request\nrequest\naction = \"teech\"\nrequest\naction = \"teech\"\nresource = \"shaft:B\"\nrequest\nsubject = \"system\"";
+    let said = with_question(RULES, &[REQUEST, base, requests].concat()).says(&["tally", "@", "--lines"]);
+    let doubts = [
+        "no policy asks for env.extra",
+        "requests 2, 3: no policy names the action \"teech\": did you mean teach?",
+        "request 4: the subject is system: the answer is yes without a look at the rules",
+    ];
+    assert_eq!(said.warnings, doubts);
 }
 
 #[test]

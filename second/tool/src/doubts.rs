@@ -7,28 +7,42 @@ use definitions::patterns::like;
 use definitions::policies::{ActionPart, Attribute, Condition, Effect, Literal, Operand, Policy, Root};
 
 use crate::asked::Asked;
-use crate::form::{attribute, Parts, PARTS};
+use crate::form::{attribute, PARTS};
 use crate::rules::{attributes, condition_text, inside, leaves, path_of, section_of};
+use crate::words::ranges;
 use crate::writing::{quoted, shown};
 
-/// All doubts about requests that are asked together. What is doubtful of each of them is said once, and else of which it is.
+/// All doubts about requests that are asked together: each once, with the numbers of those that it is about. What is doubtful of all, but
+/// maybe the system's, which need no rules, is said without.
 pub fn doubts_of_all(asked: &Asked, policies: &[Policy]) -> Vec<String> {
-    let of_one = |request: &Parts| doubts(&Asked { request: request.clone(), ..asked.clone() }, policies);
-    let each: Vec<Vec<String>> = asked.requests.iter().map(of_one).collect();
-    let is_of_all = |doubt: &String| each.iter().all(|doubts| doubts.contains(doubt));
-    let mut all: Vec<String> = each[0].iter().filter(|doubt| is_of_all(doubt)).cloned().collect();
-    for (index, doubts) in each.iter().enumerate() {
-        let own = doubts.iter().filter(|doubt| !is_of_all(doubt));
-        all.extend(own.map(|doubt| format!("request {}: {}", index + 1, doubt)));
-        if let Some(same) = asked.requests[..index].iter().position(|other| *other == asked.requests[index]) {
-            all.push(format!(
+    let mut all: Vec<(String, Vec<usize>)> = Vec::new();
+    let mut by_rules = Vec::new();
+    let mut twice = Vec::new();
+    for (index, request) in asked.requests.iter().enumerate() {
+        let one = Asked { request: request.clone(), ..asked.clone() };
+        for doubt in doubts(&one, policies) {
+            match all.iter_mut().find(|(other, _)| *other == doubt) {
+                Some((_, numbers)) => numbers.push(index + 1),
+                None => all.push((doubt, vec![index + 1])),
+            }
+        }
+        if !one.request().is_of_system() {
+            by_rules.push(index + 1);
+        }
+        if let Some(same) = asked.requests[..index].iter().position(|other| other == request) {
+            twice.push(format!(
                 "request {} is the same as request {}: the sums count its rows twice",
                 index + 1,
                 same + 1
             ));
         }
     }
-    all
+    let said = all.into_iter().map(|(doubt, numbers)| match numbers.len() {
+        many if many == asked.requests.len() || numbers == by_rules => doubt,
+        1 => format!("request {}: {}", ranges(&numbers), doubt),
+        _ => format!("requests {}: {}", ranges(&numbers), doubt),
+    });
+    said.chain(twice).collect()
 }
 
 /// All doubts about what is asked, the policies being those of its rules.
