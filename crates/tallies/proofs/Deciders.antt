@@ -2,7 +2,9 @@
 use mathlib.Core.Path.{_≡_, refl, ap, _∙_}
 use mathlib.Core.Bool.{Bool, true, false, cond}
 use mathlib.Core.List.{List}
-use Prim.Native.Nat.{ℕ, zero, suc, _+_, _≤_}
+use Prim.Native.Nat.{ℕ, zero, suc, _+_, _-_, _≤_}
+use mathlib.Core.Logic.{_↔_}
+use borrow.Author.Tests.{eq-eqb, eqb-true, lt-ltb, le-ltb}
 use native.Mathlib.Decide.{decLt, ℕ-discrete}
 use native.Mathlib.Omega.{arith}
 use lib.ListN.{length, getD}
@@ -12,10 +14,10 @@ use Rattle.bags.specs.declared.sections.Sections.{Sections}
 use Rattle.placing.specs.Said.{Word, wordsOf}
 use Rattle.views.specs.Meaning.{View}
 use Rattle.meaning.specs.Targets.{Request, isSystem}
-use Rattle.meaning.specs.Decisions.{decisionOf, policiesDecide, byNumbers, policyOf}
+use Rattle.meaning.specs.Decisions.{decisionOf, policiesDecide, byNumbers, outcomeOf, policyOf, isAllowed}
 use Rattle.meaning.specs.declared.Decision.{Decision}
 use Rattle.meaning.specs.declared.Decision.the-variants.{Allowed, Forbidden, Nothing, System}
-use Rattle.pages.specs.Tally.{tallyOf, bumped, countedIn, leastPolicy, Countable}
+use Rattle.pages.specs.Tally.{howMany, countsAt, tallyOf, bumped, countedIn, leastPolicy, Countable}
 use Rattle.sheets.specs.Sheets.{decisionBy, decisionAt}
 use Rattle.pages.proofs.Tallying.{group-more}
 use Rattle.turns.proofs.RowLaws.{policy-few}
@@ -31,7 +33,7 @@ unfolding leastPolicy policyOf
 some-by true d h = omega arith
 some-by false d h = h
 
-decided-some : (view : View) (q : Request) (ps : List (PolicyOf Word)) → leastPolicy (decisionOf view q ps) ≤ policyOf (decisionOf view q ps)
+pub decided-some : (view : View) (q : Request) (ps : List (PolicyOf Word)) → leastPolicy (decisionOf view q ps) ≤ policyOf (decisionOf view q ps)
 unfolding decisionOf policiesDecide
 decided-some view q ps = some-by (isSystem (q .subject)) (policiesDecide view q ps) (numbers-some _ _)
 
@@ -88,3 +90,32 @@ counted-system l e = rw e
 pub counted-turn : (d : ℕ → Decision) (row : ℕ) {group last : List ℕ} {e : Decision} → group ≡ tallyOf d row → e ≡ d row → last ≡ countedIn e group → Countable (d row)
     → last ≡ tallyOf d (row + 1)
 counted-turn d row {group} {last} {e} g is l c = l ∙ rw (is, g) (group-more d row c)
+
+-- ---- what a count counts
+
+-- at places 0 to 3, the outcomes
+pub counts-outcome : (o : ℕ) → 1 ≤ o → o ≤ 4 → (d : Decision) → (countsAt (o - 1) d ≡ true) ↔ (outcomeOf d ≡ o)
+unfolding countsAt
+counts-outcome o some few d =
+    let e : o - 1 + 1 ≡ o = omega arith in
+    rw (lt-ltb (o - 1) 4 (omega arith), e) (λ h. eqb-true (outcomeOf d) o h, λ h. eq-eqb (outcomeOf d) o h)
+
+-- at places 4 to 67, the policies
+pub counts-policy : (n : ℕ) (d : Decision) → 1 ≤ n → (countsAt (n + 3) d ≡ true) ↔ (policyOf d ≡ n)
+unfolding countsAt
+counts-policy n d some =
+    let e : n + 3 - 3 ≡ n = omega arith in
+    rw (le-ltb (n + 3) 4 (omega arith), e) (λ h. eqb-true (policyOf d) n h, λ h. eq-eqb (policyOf d) n h)
+
+yes-or-system : (d : Decision) → cond (isAllowed d) 1 0 ≡ cond (countsAt 0 d) 1 0 + cond (countsAt 3 d) 1 0
+unfolding isAllowed countsAt outcomeOf
+yes-or-system (Allowed n) = refl
+yes-or-system (Forbidden n) = refl
+yes-or-system Nothing = refl
+yes-or-system System = refl
+
+-- the rows that get yes are those of outcomes 1 and 4
+pub yes-counted : (d : ℕ → Decision) (n : ℕ) → howMany (λ row. isAllowed (d row)) n ≡ howMany (λ row. countsAt 0 (d row)) n + howMany (λ row. countsAt 3 (d row)) n
+unfolding howMany
+yes-counted d zero = refl
+yes-counted d (suc n) = omega (arith, yes-counted d n, yes-or-system (d n))

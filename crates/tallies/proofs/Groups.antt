@@ -9,10 +9,12 @@ use native.Mathlib.Omega.{arith}
 use borrow.Rule.Slice.PartMut.{putMid}
 use lib.ListN.{length, getD, set, take, drop, replicate, length-append, length-set, length-take, length-drop, length-replicate, getD-replicate, replicate-append-replicate}
 use lib.ListN.{take-append-drop, List·getD-append, List·getD-eq-default}
-use lib.Seq.{take-at, drop-at, take-all, take-append-le, getD-append-add, getD-take, take-suc-set, length-take-le, drop-drop, take-take}
+use lib.Seq.{take-at, drop-at, take-all, drop-append-add, getD-append-add, getD-take, getD-drop, take-suc-set, length-take-le, take-take}
 use Rattle.meaning.specs.Targets.{Request}
-use Rattle.pages.specs.Tally.{groupSize, fromOn}
-use Rattle.pages.proofs.Tallying.{from-on-long}
+use Rattle.meaning.specs.Decisions.{Numbered, first, later}
+use Rattle.meaning.proofs.Deciding.{numbered-some}
+use Rattle.pages.specs.Tally.{groupSize, fromOn, sumOf}
+use Rattle.pages.proofs.Tallying.{from-on-at}
 use Rattle.tallies.specs.Tallies.{groupCount, groupsOf, sumFrom, sumsOf, withSums}
 use Rattle.tallies.specs.Counted.{CountsFew}
 
@@ -235,3 +237,68 @@ pub sum-none : (left : ℕ) (counts : List ℕ) (at : ℕ) → left ≡ 0 → su
 unfolding sumFrom
 sum-none zero counts at e = refl
 sum-none (suc n) counts at e = absurd (omega arith)
+
+-- ---- the groups in the counts
+
+module _ (group : Request → List ℕ) (long : (q : Request) → length (group q) ≡ groupSize) where
+  past-first : (k : ℕ) (a b : List ℕ) → length a ≡ groupSize → drop (groupSize * suc k) (a ++ b) ≡ drop (groupSize * k) b
+  past-first k a b e =
+      let n : groupSize * suc k ≡ length a + groupSize * k = omega arith in
+      ap (λ (m : ℕ). drop m (a ++ b)) n ∙ drop-append-add a b (groupSize * k)
+
+  -- each request's is its own
+  pub group-there : {k : ℕ} {q : Request} {qs : List Request} → Numbered k q qs → (n j : ℕ) → k ≡ suc j → j < n → (rest : List ℕ)
+      → take groupSize (drop (groupSize * j) (groupsOf n group qs ++ rest)) ≡ group q
+  unfolding groupsOf
+  group-there i zero j e h rest = absurd (omega arith)
+  group-there (first {p = q} {ps = qs}) (suc n) zero e h rest =
+      ap (take groupSize) (append-assoc (group q) (groupsOf n group qs) rest) ∙ take-at (group q) (groupsOf n group qs ++ rest) groupSize (long q)
+  group-there first (suc n) (suc j) e h rest = absurd (omega arith)
+  group-there (later {n = m} i) (suc n) zero e h rest = absurd (omega (arith, numbered-some i))
+  group-there (later {q = p} {ps = qs} i) (suc n) (suc j) e h rest =
+      ap (λ (l : List ℕ). take groupSize (drop (groupSize * suc j) l)) (append-assoc (group p) (groupsOf n group qs) rest)
+      ∙ ap (take groupSize) (past-first j (group p) (groupsOf n group qs ++ rest) (long p)) ∙ group-there i n j (omega arith) (omega arith) rest
+
+  -- and those behind the last are zeros
+  pub group-behind : (qs : List Request) (n j : ℕ) → length qs ≤ j → j < n → (rest : List ℕ)
+      → take groupSize (drop (groupSize * j) (groupsOf n group qs ++ rest)) ≡ replicate groupSize 0
+  unfolding groupsOf
+  group-behind qs zero j l h rest = absurd (omega arith)
+  group-behind (q ∷ qs) (suc n) zero l h rest = absurd (omega arith)
+  group-behind (q ∷ qs) (suc n) (suc j) l h rest =
+      ap (λ (x : List ℕ). take groupSize (drop (groupSize * suc j) x)) (append-assoc (group q) (groupsOf n group qs) rest)
+      ∙ ap (take groupSize) (past-first j (group q) (groupsOf n group qs ++ rest) (long q)) ∙ group-behind qs n j (omega arith) (omega arith) rest
+  group-behind [] (suc n) zero l h rest =
+      ap (take groupSize) (append-assoc (replicate groupSize 0) (groupsOf n group []) rest)
+      ∙ take-at (replicate groupSize 0) (groupsOf n group [] ++ rest) groupSize (length-replicate {A = ℕ} groupSize 0)
+  group-behind [] (suc n) (suc j) l h rest =
+      ap (λ (x : List ℕ). take groupSize (drop (groupSize * suc j) x)) (append-assoc (replicate groupSize 0) (groupsOf n group []) rest)
+      ∙ ap (take groupSize) (past-first j (replicate groupSize 0) (groupsOf n group [] ++ rest) (length-replicate {A = ℕ} groupSize 0))
+      ∙ group-behind [] n j (omega arith) (omega arith) rest
+
+-- a count of a group
+pub count-in : (counts : List ℕ) (k i : ℕ) → i < groupSize → getD (take groupSize (drop (groupSize * k) counts)) i 0 ≡ getD counts (groupSize * k + i) 0
+count-in counts k i h = getD-take groupSize (drop (groupSize * k) counts) i 0 h ∙ getD-drop (groupSize * k) counts i 0
+
+module _ (groups : List ℕ) (long : length groups ≡ 544) where
+  sums-by : (n k i : ℕ) → k + n ≤ groupCount → i < groupSize
+      → sumFrom n groups (groupSize * k + i) ≡ sumOf (fromOn (λ j. getD (take groupSize (drop (groupSize * j) (withSums groups))) i 0) k n)
+  unfolding sumFrom fromOn sumOf withSums
+  sums-by zero k i l h = refl
+  sums-by (suc n) k i l h =
+      let at : groupSize * k + i + groupSize ≡ groupSize * suc k + i = omega arith in
+      let here : getD (take groupSize (drop (groupSize * k) (groups ++ sumsOf groups))) i 0 ≡ getD groups (groupSize * k + i) 0 =
+          count-in (groups ++ sumsOf groups) k i h ∙ List·getD-append groups (sumsOf groups) 0 (groupSize * k + i) (omega arith) in
+      rw (at, here, sums-by n (suc k) i (omega arith) h)
+
+  -- each of the ninth group is the sum of the eight
+  pub sums-there : (i : ℕ) → i < groupSize
+      → getD (take groupSize (drop (groupSize * groupCount) (withSums groups))) i 0
+      ≡ sumOf (fromOn (λ j. getD (take groupSize (drop (groupSize * j) (withSums groups))) i 0) 0 groupCount)
+  unfolding withSums
+  sums-there i h =
+      let z : length groups + i ≡ groupSize * groupCount + i = omega arith in
+      let zero-on-left : 0 + i ≡ i = omega arith in
+      count-in (groups ++ sumsOf groups) groupCount i h ∙ ap (λ (m : ℕ). getD (groups ++ sumsOf groups) m 0) (sym z)
+      ∙ getD-append-add groups (sumsOf groups) i 0 ∙ from-on-at (sumFrom groupCount groups) 0 groupSize i h
+      ∙ sums-by groupCount 0 i (omega arith) h

@@ -17,9 +17,10 @@ use Rattle.meaning.specs.Targets.{Request, isSystem, isSubject, isAction, isRes
 use Rattle.targets.specs.Matching.{request}
 use Rattle.deciding.specs.Promise.{Wellformed, RequestRefused, bad-subject, bad-action, bad-resource}
 use Rattle.deciding.proofs.Promised.{begun, begins-then, not-begun, begins-not}
-use Rattle.sheets.specs.Sheets.{requestRefusal, unless}
+use Rattle.meaning.specs.Decisions.{Numbered, first, later}
+use Rattle.sheets.specs.Sheets.{sectionsIn, requestRefusal, unless}
 use Rattle.tallies.specs.Lent.{partOf, behindPart, requestsOf}
-use Rattle.tallies.specs.Tallies.{groupCount, firstRefusal, tallyRefusal, countsAfter}
+use Rattle.tallies.specs.Tallies.{groupCount, firstRefusal, talliedOf, tallyRefusal, countsAfter}
 use Rattle.tallies.specs.Promise as promise
 use Rattle.tallies.specs.Promise.{TallyCall, PartAt, whole, missing, Lent, more, Accepted, the-system, none-wrong, FirstRefused, none-refused, passed, bad-request, not-compiled}
 use Rattle.tallies.specs.Promise.{TallyRefused, no-request, too-many, no-question, by-request, TallyRefusedExactly, OneLent}
@@ -163,6 +164,52 @@ module _ (c : TallyCall) where
 pub tally-refused-exactly : TallyRefusedExactly
 unfolding TallyRefusedExactly
 tally-refused-exactly c number = (λ e. subst (TallyRefused c) e (refused-as c), told c)
+
+-- ---- a call that is not refused
+
+pub requests-many : (n : ℕ) (bytes : List ℕ) → length (requestsOf n bytes) ≡ n
+unfolding requestsOf
+requests-many zero bytes = refl
+requests-many (suc n) bytes = ap suc (requests-many n (behindPart (behindPart (behindPart bytes))))
+
+-- every request is accepted
+pub all-accepted : {text table : List ℕ} {qs : List Request} {n : ℕ} → FirstRefused text table qs n → n ≡ 0 → {k : ℕ} {q : Request} → Numbered k q qs → Accepted text table q
+all-accepted (passed a f) z first = a
+all-accepted (passed a f) z (later i) = all-accepted f z i
+all-accepted (bad-request (bad-subject e f)) z i = absurd (omega arith)
+all-accepted (bad-request (bad-action e f g)) z i = absurd (omega arith)
+all-accepted (bad-request (bad-resource e f g h)) z i = absurd (omega arith)
+all-accepted (not-compiled f n) z i = absurd (omega arith)
+
+-- what it is about
+pub record TallyHeard (c : TallyCall) : Type 0 where
+  pub few : c .many ≤ groupCount
+  pub base : Contents
+  pub columns : List Column
+  pub question-says : QuestionBytes (c .question) base columns
+  pub lent : Lent (c .many) (c .requests) (requestsOf (c .many) (c .requests))
+  pub accepted : {k : ℕ} {q : Request} → Numbered k q (requestsOf (c .many) (c .requests)) → Accepted (c .text) (c .table) q
+
+heard-by : (c : TallyCall) {n : ℕ} → n ≡ 0 → TallyRefused c n → TallyHeard c
+heard-by c z (no-request e) = absurd (omega arith)
+heard-by c z (too-many h) = absurd (omega arith)
+heard-by c z (no-question h l e) = absurd (omega arith)
+heard-by c z (by-request {base = base} {columns = columns} h l w q f) = record {
+  few = l;
+  base = base;
+  columns = columns;
+  question-says = w;
+  lent = lent-read (c .many) (c .requests);
+  accepted = λ i. all-accepted f z (rw (← lent-once q) at i);
+}
+
+pub tally-heard : (c : TallyCall) → tallyRefusal (c .text) (c .table) (c .question) (c .many) (c .requests) ≡ 0 → TallyHeard c
+tally-heard c e = heard-by c e (refused-as c)
+
+pub counts-there : (text table s : List ℕ) (many : ℕ) (requests counts : List ℕ) → tallyRefusal text table s many requests ≡ 0
+    → countsAfter text table s many requests counts ≡ talliedOf text s (sectionsIn s) (requestsOf many requests)
+unfolding countsAfter unless
+counts-there text table s many requests counts e = rw e
 
 -- ---- a refusal changes nothing
 
