@@ -1,4 +1,4 @@
-//! Document 01 in ordinary Rust, written from the documents alone: what the second program and the tool for people share.
+//! Documents 01 and 02 in ordinary Rust, written from the documents alone: what the second program and the tool for people share.
 
 pub mod asking;
 pub mod bags;
@@ -11,4 +11,5 @@ pub mod policies;
 pub mod questions;
 pub mod sheets;
 pub mod table;
+pub mod tallies;
 pub mod tokens;

@@ -64,7 +64,13 @@ pub fn write_page(
 }
 
 /// A row's decision: that over the base with each column's attribute set to its choice or removed.
-fn decision_of_row(text: &[u8], policies: &[Policy], question: &Question, request: Request, row: usize) -> Decision {
+pub fn decision_of_row(
+    text: &[u8],
+    policies: &[Policy],
+    question: &Question,
+    request: Request,
+    row: usize,
+) -> Decision {
     if request.is_of_system() {
         return SYSTEM_DECISION;
     }
