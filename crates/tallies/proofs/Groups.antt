@@ -3,11 +3,10 @@ use mathlib.Core.Path.{_≡_, refl, sym, ap, _∙_}
 use mathlib.Core.List.{List, [], _∷_, _++_, append-nil, append-assoc}
 use Prim.Native.Nat.{ℕ, zero, suc, _+_, _-_, _*_, _≤_, _<_, zero-le}
 use native.Mathlib.Decide.{decLt}
-use native.Mathlib.Nat.{le-refl}
 use native.Mathlib.Numerals.{add-one}
 use native.Mathlib.Omega.{arith}
 use borrow.Rule.Slice.PartMut.{putMid}
-use lib.ListN.{length, getD, set, take, drop, replicate, length-append, length-set, length-take, length-drop, length-replicate, getD-replicate, replicate-append-replicate}
+use lib.ListN.{length, getD, set, take, drop, replicate, length-append, length-set, length-drop, length-replicate, getD-replicate, replicate-append-replicate}
 use lib.ListN.{take-append-drop, List·getD-append, List·getD-eq-default}
 use lib.Seq.{take-at, drop-at, take-all, drop-append-add, getD-append-add, getD-take, getD-drop, take-suc-set, length-take-le, take-take}
 use Rattle.meaning.specs.Targets.{Request}
