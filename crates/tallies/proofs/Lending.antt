@@ -62,7 +62,7 @@ module _ (bytes : List ℕ) (at : ℕ) where
     request-found =
         let a : spanned bytes (spans .action) ≡ partOf (behindPart (drop at bytes)) = f .action-found .part ∙ ap partOf (f .subject-found .behind) in
         let r : spanned bytes (spans .resource) ≡ partOf (behindPart (behindPart (drop at bytes))) =
-            f .resource-found .part ∙ ap partOf (f .action-found .behind ∙ ap behindPart (f .subject-found .behind)) in
+        f .resource-found .part ∙ ap partOf (f .action-found .behind ∙ ap behindPart (f .subject-found .behind)) in
         λ i. record { subject = f .subject-found .part i; action = a i; resource = r i }
 
     -- the requests that are left

@@ -32,7 +32,9 @@ use views::chosen;
 
 // The counts of a group, and those of the eight groups before the sums.
 const GROUP: usize = 68;
+
 const EIGHT: usize = 544;
+
 const ALL: usize = 612;
 
 // How many policies and entries the table holds; none where no request asks for it.
@@ -349,7 +351,16 @@ pub fn count_all<'a>(
     };
     clear(counts);
     count_requests(
-        asking, text, table, s, &starts, &grid, &ends, many, requests, counts,
+        asking,
+        text,
+        table,
+        s,
+        &starts,
+        &grid,
+        &ends,
+        many,
+        requests,
+        counts,
     );
     add_up(counts);
 }

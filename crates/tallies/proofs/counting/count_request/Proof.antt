@@ -11,9 +11,19 @@ looks-requires : tie.Need-looks-requires
 looks-requires c κs =
     let pre = c .before .before .before .before .before .before .before .before .before .before .before .pre in
     let is = c .before .before .rules-for .ensures in
-    let rules = rules-are (c .before .before .before .is-system .result) _ _ is (pre .0 .rules) in
-    (rules .ready, (rules .many, (rules .few, (counted-there (pre .0 .asked .question) (pre .0 .laid),
-    types-are (c .before .before .before .is-system .result) _ _ is (request _ _ _) (c .before .before .before .is-system .ensures) (pre .1 .0) (c .before .subject-type .ensures) (c .resource-type .ensures)))))
+    let rules = rules-are (c .before .before .before .is-system .result) _ _ is (pre .0 .rules) in (
+      rules .ready,
+      (
+        rules .many,
+        (
+          rules .few,
+          (
+            counted-there (pre .0 .asked .question) (pre .0 .laid),
+            types-are (c .before .before .before .is-system .result) _ _ is (request _ _ _) (c .before .before .before .is-system .ensures) (pre .1 .0) (c .before .subject-type .ensures) (c .resource-type .ensures),
+          ),
+        ),
+      ),
+    )
 
 count-rows-requires : tie.Need-count-rows-requires
 count-rows-requires c κs =
