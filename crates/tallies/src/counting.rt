@@ -1,4 +1,20 @@
 // Counts the rows: each row takes its turn, and is counted by its outcome and by the policy that decides it.
+ghost use mathlib.Core.Path.{_≡_};
+ghost use mathlib.Core.Bool.{cond};
+ghost use mathlib.Core.List.{_++_};
+ghost use Prim.Native.Nat.{_+_, _≤_, _<_};
+ghost use lib.ListN.{length, getD, take, replicate};
+ghost use Rattle.stored.specs.ReadBack.{policiesAt};
+ghost use Rattle.placing.specs.Said.{wordsOf};
+ghost use Rattle.questions.specs.Questions.{Question};
+ghost use Rattle.meaning.specs.Targets.{Request};
+ghost use Rattle.targets.specs.Matching.{request};
+ghost use Rattle.pages.specs.Tally.{groupSize, tallyOf, bumped, countedIn, Countable};
+ghost use Rattle.sheets.specs.Sheets.{rowsIn, decisionAt};
+ghost use Rattle.sheets.specs.Asked.{RowsAsked, WalkFor, WalkForSome};
+ghost use Rattle.tallies.specs.Lent.{requestsOf};
+ghost use Rattle.tallies.specs.Tallies.{groupCount, formRefusal, firstWrong, groupsOf, sumFrom, sumsOf, withSums};
+ghost use Rattle.tallies.specs.Counted.{RulesHeld, Surveyed, groupBy, CountsFew};
 use crate::lent::request_at;
 use bags::sections::Sections;
 use kept::Walk;
@@ -37,12 +53,21 @@ pub struct Asking {
 }
 
 // One more at a place.
-fn bump(group: &mut [u32], k: usize) {
+fn bump(group: &mut [u32], k: usize)
+    requires { ⌜ k < length (now group) ⌝ }
+    requires { ⌜ getD (now group) k 0 < 4294967295 ⌝ }
+    ensures { λ _. ⌜ now (group .exit) ≡ bumped (now (group .entry)) k ⌝ }
+{
     group[k] = group[k] + 1;
 }
 
 // A row is counted: by its outcome at place 0 to 3, and from place 4 on by the policy that decides it.
-fn count_row(group: &mut [u32], d: Decision) {
+fn count_row(group: &mut [u32], d: Decision)
+    requires { ⌜ Countable d ⌝ }
+    requires { ⌜ length (now group) ≡ groupSize ⌝ }
+    requires { ⌜ CountsFew (now group) ⌝ }
+    ensures { λ _. ⌜ now (group .exit) ≡ countedIn d (now (group .entry)) ⌝ }
+{
     match d {
         Decision::Allowed(n) => {
             bump(group, 0);
@@ -74,7 +99,13 @@ fn count_rows<'a>(
     action: &'a [u8],
     all: usize,
     group: &mut [u32],
-) {
+)
+    requires { ⌜ RowsAsked (now text) (now table) (now s) walk (now starts) (now grid) (now ends) (now looks) all 0 ⌝ }
+    requires { ⌜ WalkForSome (now text) (now table) walk (now looks) (now action) ⌝ }
+    requires { ⌜ now group ≡ replicate groupSize 0 ⌝ }
+    ensures { λ _. ⌜ ((q : Request) → WalkFor (now (text .entry)) (now (table .entry)) walk (now (looks .entry)) (now (action .entry)) q
+        → now (group .exit) ≡ tallyOf (decisionAt (now (s .entry)) (walk .p) q (wordsOf (now (text .entry)) (policiesAt (now (table .entry)) (walk .entries)))) all) ⌝ }
+{
     let p = walk.p;
     let mut choices = choices_of(ends, 0);
     let mut values = chosen(*grid, 6, &choices);
@@ -104,9 +135,10 @@ fn count_rows<'a>(
             starts,
             action,
         );
+        let d = t.d;
         from = t.from;
-        count_row(group, t.d);
         row += 1;
+        count_row(group, d);
     }
 }
 
@@ -123,7 +155,13 @@ fn count_request<'a>(
     action: &'a [u8],
     resource: &[u8],
     group: &mut [u32],
-) {
+)
+    requires { ⌜ Surveyed (now text) (now table) (now s) asking (now starts) (now grid) (now ends) ⌝ }
+    requires { ⌜ formRefusal (request (now subject) (now action) (now resource)) ≡ 0 ⌝ }
+    requires { ⌜ now group ≡ replicate groupSize 0 ⌝ }
+    ensures { λ _. ⌜ now (group .exit) ≡ groupBy (now (text .entry)) (now (table .entry)) (now (s .entry)) asking
+        (request (now (subject .entry)) (now (action .entry)) (now (resource .entry))) ⌝ }
+{
     let system = is_system(subject);
     let rules = rules_for(system, asking.policies, asking.entries);
     let types = Types {
@@ -168,7 +206,9 @@ fn count_request<'a>(
 }
 
 // The rules for a subject: none for the system.
-fn rules_for(system: bool, policies: usize, entries: usize) -> Rules {
+fn rules_for(system: bool, policies: usize, entries: usize) -> Rules
+    ensures { λ r. ⌜ r ≡ record { policies = cond system 0 policies; entries = cond system 0 entries } ⌝ }
+{
     if system {
         return Rules {
             policies: 0,
@@ -192,18 +232,25 @@ fn count_requests<'a>(
     ends: &[u8; 6],
     many: usize,
     requests: &'a [u8],
-    counts: &mut [u32; 612],
-) {
+    counts: &mut [u32],
+)
+    requires { ⌜ Surveyed (now text) (now table) (now s) asking (now starts) (now grid) (now ends) ⌝ }
+    requires { ⌜ many ≤ groupCount ⌝ }
+    requires { ⌜ firstWrong (requestsOf many (now requests)) ≡ 0 ⌝ }
+    requires { ⌜ now counts ≡ replicate 612 0 ⌝ }
+    ensures { λ _. ⌜ now (counts .exit) ≡ groupsOf groupCount (groupBy (now (text .entry)) (now (table .entry)) (now (s .entry)) asking)
+        (requestsOf many (now (requests .entry))) ++ replicate groupSize 0 ⌝ }
+{
     let mut at = 0;
     let mut k = 0;
     while k < many {
-        let lent = request_at(requests, at);
-        let subject_start = lent.subject.start;
-        let subject_end = lent.subject.end;
-        let action_start = lent.action.start;
-        let action_end = lent.action.end;
-        let resource_start = lent.resource.start;
-        let resource_end = lent.resource.end;
+        let spans = request_at(requests, at);
+        let subject_start = spans.subject.start;
+        let subject_end = spans.subject.end;
+        let action_start = spans.action.start;
+        let action_end = spans.action.end;
+        let resource_start = spans.resource.start;
+        let resource_end = spans.resource.end;
         let start = GROUP * k;
         let end = start + GROUP;
         count_request(
@@ -225,18 +272,29 @@ fn count_requests<'a>(
 }
 
 // The sum of the counts that the eight groups have at a place.
-fn sum_at(counts: &[u32; 612], i: usize) -> u32 {
-    let mut sum = 0;
+fn sum_at(counts: &[u32], i: usize) -> u32
+    requires { ⌜ length (now counts) ≡ 612 ⌝ }
+    requires { ⌜ CountsFew (now counts) ⌝ }
+    requires { ⌜ i < groupSize ⌝ }
+    ensures { λ r. ⌜ r ≡ sumFrom groupCount (now (counts .entry)) i ⌝ }
+{
+    let mut sum: u32 = 0;
     let mut at = i;
-    while at < EIGHT {
+    let mut left: usize = 8;
+    while 0 < left {
         sum = sum + counts[at];
         at += GROUP;
+        left -= 1;
     }
     sum
 }
 
 // The last group: the sums.
-fn add_up(counts: &mut [u32; 612]) {
+fn add_up(counts: &mut [u32])
+    requires { ⌜ length (now counts) ≡ 612 ⌝ }
+    requires { ⌜ CountsFew (now counts) ⌝ }
+    ensures { λ _. ⌜ now (counts .exit) ≡ take 544 (now (counts .entry)) ++ sumsOf (now (counts .entry)) ⌝ }
+{
     let mut i = 0;
     while i < GROUP {
         let sum = sum_at(counts, i);
@@ -246,7 +304,10 @@ fn add_up(counts: &mut [u32; 612]) {
 }
 
 // All counts are 0.
-fn clear(counts: &mut [u32; 612]) {
+fn clear(counts: &mut [u32])
+    requires { ⌜ length (now counts) ≡ 612 ⌝ }
+    ensures { λ _. ⌜ now (counts .exit) ≡ replicate 612 0 ⌝ }
+{
     let mut i = 0;
     while i < ALL {
         counts[i] = 0;
@@ -263,8 +324,17 @@ pub fn count_all<'a>(
     p: Sections,
     many: usize,
     requests: &'a [u8],
-    counts: &mut [u32; 612],
-) {
+    counts: &mut [u32],
+)
+    requires { ⌜ length (now counts) ≡ 612 ⌝ }
+    requires { ⌜ Question (now s) p ⌝ }
+    requires { ⌜ RulesHeld (now text) (now table) (rules .policies) (rules .entries) ⌝ }
+    requires { ⌜ many ≤ groupCount ⌝ }
+    requires { ⌜ firstWrong (requestsOf many (now requests)) ≡ 0 ⌝ }
+    ensures { λ _. ⌜ now (counts .exit) ≡ withSums (groupsOf groupCount
+        (λ q. tallyOf (decisionAt (now (s .entry)) p q (wordsOf (now (text .entry)) (policiesAt (now (table .entry)) (rules .entries)))) (rowsIn (now (s .entry)) p))
+        (requestsOf many (now (requests .entry)))) ⌝ }
+{
     let at = p.end;
     let n = s[at] as usize;
     let first = at + 1;

@@ -1,4 +1,10 @@
 // The requests as they are lent: subject, action and resource of each, one behind the other, each behind its length byte.
+ghost use mathlib.Core.Path.{_≡_};
+ghost use Prim.Native.Nat.{_≤_};
+ghost use lib.ListN.{length};
+ghost use Rattle.targets.specs.Matching.{request};
+ghost use Rattle.tallies.specs.Lent.{requestsOf, spanned, PartFound, RequestFound};
+ghost use Rattle.tallies.specs.Tallies.{formOf, firstWrong, someAsks};
 use targets::forms::is_action;
 use targets::forms::is_system;
 use targets::forms::resource_type;
@@ -11,14 +17,17 @@ pub struct Span {
 }
 
 // Where the parts of a request lie. The next request starts at its resource's end.
-pub struct Lent {
+pub struct Spans {
     pub subject: Span,
     pub action: Span,
     pub resource: Span,
 }
 
 // The part behind the length byte at a place. What is not wholly there is empty, and so is everything behind it.
-fn part_at(requests: &[u8], at: usize) -> Span {
+fn part_at(requests: &[u8], at: usize) -> Span
+    requires { ⌜ at ≤ length (now requests) ⌝ }
+    ensures { λ r. ⌜ PartFound (now (requests .entry)) at r ⌝ }
+{
     let n = requests.len();
     if at < n {
         let size = requests[at] as usize;
@@ -34,25 +43,30 @@ fn part_at(requests: &[u8], at: usize) -> Span {
 }
 
 // The request at a place.
-pub fn request_at(requests: &[u8], at: usize) -> Lent {
+pub fn request_at(requests: &[u8], at: usize) -> Spans
+    requires { ⌜ at ≤ length (now requests) ⌝ }
+    ensures { λ r. ⌜ RequestFound (now (requests .entry)) at r ⌝ }
+{
     let subject = part_at(requests, at);
     let action = part_at(requests, subject.end);
     let resource = part_at(requests, action.end);
-    Lent {
+    Spans {
         subject: subject,
         action: action,
         resource: resource,
     }
 }
 
-// What is wrong with a request by itself, 0 where nothing is; and whether it needs the text and its table.
+// What is refused of a request by itself, 0 where nothing is; and whether the text and its table are looked at for it.
 pub struct Form {
     pub asks: bool,
     pub refusal: u8,
 }
 
-// The form of a request. The system's is never wrong, and needs no table.
-fn form_of(subject: &[u8], action: &[u8], resource: &[u8]) -> Form {
+// The form of a request. Of the system nothing is refused, and no table is looked at.
+fn form_of(subject: &[u8], action: &[u8], resource: &[u8]) -> Form
+    ensures { λ r. ⌜ r ≡ formOf (request (now (subject .entry)) (now (action .entry)) (now (resource .entry))) ⌝ }
+{
     if is_system(subject) {
         return Form {
             asks: false,
@@ -84,13 +98,17 @@ fn form_of(subject: &[u8], action: &[u8], resource: &[u8]) -> Form {
 }
 
 // The form of the request whose parts lie there.
-fn form_at(requests: &[u8], lent: Lent) -> Form {
-    let subject_start = lent.subject.start;
-    let subject_end = lent.subject.end;
-    let action_start = lent.action.start;
-    let action_end = lent.action.end;
-    let resource_start = lent.resource.start;
-    let resource_end = lent.resource.end;
+fn form_at(requests: &[u8], spans: Spans, at: usize) -> Form
+    requires { ⌜ RequestFound (now requests) at spans ⌝ }
+    ensures { λ r. ⌜ r ≡ formOf (request (spanned (now (requests .entry)) (spans .subject)) (spanned (now (requests .entry)) (spans .action))
+        (spanned (now (requests .entry)) (spans .resource))) ⌝ }
+{
+    let subject_start = spans.subject.start;
+    let subject_end = spans.subject.end;
+    let action_start = spans.action.start;
+    let action_end = spans.action.end;
+    let resource_start = spans.resource.start;
+    let resource_end = spans.resource.end;
     form_of(
         &requests[subject_start..subject_end],
         &requests[action_start..action_end],
@@ -98,15 +116,17 @@ fn form_at(requests: &[u8], lent: Lent) -> Form {
     )
 }
 
-// The first request that is wrong by itself: its refusal, and whether one before it needs the text and its table.
-pub fn first_wrong(many: usize, requests: &[u8]) -> Form {
+// The first of so many requests that is refused by itself: its refusal, and whether the text and its table are looked at for one before it.
+pub fn first_wrong(many: usize, requests: &[u8]) -> Form
+    ensures { λ r. ⌜ r ≡ record { asks = someAsks (requestsOf many (now (requests .entry))); refusal = firstWrong (requestsOf many (now (requests .entry))) } ⌝ }
+{
     let mut asks = false;
     let mut at = 0;
     let mut left = many;
     while 0 < left {
-        let lent = request_at(requests, at);
-        let form = form_at(requests, lent);
-        at = lent.resource.end;
+        let spans = request_at(requests, at);
+        let form = form_at(requests, spans, at);
+        at = spans.resource.end;
         left -= 1;
         asks = asks | form.asks;
         if form.refusal != 0 {

@@ -2,6 +2,15 @@
 mod counting;
 mod lent;
 
+ghost use mathlib.Core.Path.{_≡_};
+ghost use mathlib.Core.Bool.{cond};
+ghost use Prim.Native.Nat.{_≤_};
+ghost use Rattle.tokens.specs.Table.{classTable};
+ghost use Rattle.compiling.specs.Outcome.{heldOf};
+ghost use Rattle.compiling.specs.declared.Held.the-variants.{Right};
+ghost use Rattle.questions.specs.Questions.{Question};
+ghost use Rattle.tallies.specs.Lent.{requestsOf};
+ghost use Rattle.tallies.specs.Tallies.{groupCount, RequestsTallied, Tallied};
 use crate::counting::Rules;
 use crate::counting::count_all;
 use crate::lent::first_wrong;
@@ -13,7 +22,10 @@ use questions::question_sections;
 use tokens::classes::class_table;
 
 // The policies and entries that the table holds, looked at only where a request asks for it.
-fn held_for(asked: bool, classes: &[u8; 256], text: &[u8], table: &[u8]) -> Held {
+fn held_for(asked: bool, classes: &[u8; 256], text: &[u8], table: &[u8]) -> Held
+    requires { ⌜ now classes ≡ classTable ⌝ }
+    ensures { λ r. ⌜ r ≡ cond asked (heldOf (now (text .entry)) (now (table .entry))) (Right 0 0) ⌝ }
+{
     if asked {
         return held_policies(classes, text, table);
     }
@@ -30,7 +42,13 @@ fn tally_asked<'a>(
     many: usize,
     requests: &'a [u8],
     counts: &mut [u32; 612],
-) -> u8 {
+) -> u8
+    requires { ⌜ now classes ≡ classTable ⌝ }
+    requires { ⌜ Question (now s) p ⌝ }
+    requires { ⌜ many ≤ groupCount ⌝ }
+    ensures { λ r. ⌜ RequestsTallied (now (text .entry)) (now (table .entry)) (now (s .entry)) p (requestsOf many (now (requests .entry)))
+        (now (counts .entry)) r (now (counts .exit)) ⌝ }
+{
     let first = first_wrong(many, requests);
     match held_for(first.asks, classes, text, table) {
         Held::Wrong => 20,
@@ -55,7 +73,10 @@ pub fn tally<'a>(
     many: usize,
     requests: &'a [u8],
     counts: &mut [u32; 612],
-) -> u8 {
+) -> u8
+    ensures { λ r. ⌜ Tallied (now (text .entry)) (now (table .entry)) (now (question .entry)) many (now (requests .entry)) (now (counts .entry)) r
+        (now (counts .exit)) ⌝ }
+{
     if (many == 0) | (8 < many) {
         return 27;
     }
