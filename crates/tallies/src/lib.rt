@@ -65,7 +65,8 @@ fn tally_asked<'a>(
     }
 }
 
-// The tally of so many requests over one question: nine groups of 68 counts, one for each of eight requests and the sums. Answers the refusal's number, 0 where there is none.
+// The tally of so many requests over one question: nine groups of 68 counts, one for each of eight requests and the sums. Answers the refusal's number, 0 where
+// there is none.
 pub fn tally<'a>(
     text: &'a [u8],
     table: &[u8],
