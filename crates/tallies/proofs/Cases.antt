@@ -7,11 +7,9 @@ use native.Mathlib.Decide.{ℕ-discrete}
 use native.Mathlib.Omega.{arith}
 use borrow.Author.Tests.{le-leb, lt-leb, eq-eqb, ne-eqb, ltb-true, ltb-false}
 use lib.Dec.{eqb, ltb}
-use lib.ListN.{length}
 use Rattle.grammar.specs.Rules.{principalTypes, resourceTypes}
 use Rattle.placing.specs.Said.{wordsOf}
 use Rattle.compiling.specs.Outcome.{heldOf, beginsOf}
-use Rattle.compiling.specs.declared.Held.{Held}
 use Rattle.compiling.specs.declared.Held.the-variants.{Right, Wrong}
 use Rattle.compiling.proofs.Outcomes.{right-begins, wrong-begins}
 use Rattle.bags.specs.Sections.{sectionsOf}
@@ -19,14 +17,13 @@ use Rattle.bags.specs.declared.sections.Sections.{Sections}
 use Rattle.bags.specs.declared.sections.Divided.the-variants.{In}
 use Rattle.questions.specs.Questions.{isQuestion}
 use Rattle.stored.specs.ReadBack.{policiesAt}
-use Rattle.stored.specs.Ready.{ReadyPolicies}
 use Rattle.meaning.specs.Targets.{Request, isTyped, typeIn, isSystem}
 use Rattle.targets.specs.Matching.{TypesOf}
 use Rattle.targets.specs.declared.Types.{Types}
 use Rattle.deciding.specs.Answers.{wordsIn}
 use Rattle.deciding.proofs.HeldLaws.{held-says, held-ready, held-many, held-few}
 use Rattle.pages.specs.Tally.{tallyOf}
-use Rattle.sheets.specs.Sheets.{rowsIn, decisionAt, dividedAs, sectionsIn, unless}
+use Rattle.sheets.specs.Sheets.{rowsIn, decisionAt, dividedAs, unless}
 use Rattle.turns.proofs.RowLaws.{none-ready, none-many}
 use Rattle.tallies.specs.Lent.{requestsOf}
 use Rattle.tallies.specs.Tallies.{formRefusal, firstWrong, someAsks, firstRefusal, groupCount, groupsOf, withSums, groupFor, RequestsTallied, tallyRefusal, countsAfter, Tallied}

@@ -3,11 +3,10 @@ use mathlib.Core.Path.{_≡_, refl, sym, ap, _∙_}
 use mathlib.Core.List.{List, [], _∷_, _++_, append-nil, append-assoc}
 use Prim.Native.Nat.{ℕ, zero, suc, _+_, _-_, _*_, _≤_, _<_, zero-le}
 use native.Mathlib.Decide.{decLt}
-use native.Mathlib.Nat.{le-refl}
 use native.Mathlib.Numerals.{add-one}
 use native.Mathlib.Omega.{arith}
 use borrow.Rule.Slice.PartMut.{putMid}
-use lib.ListN.{length, getD, set, take, drop, replicate, length-append, length-set, length-take, length-drop, length-replicate, getD-replicate, replicate-append-replicate}
+use lib.ListN.{length, getD, set, take, drop, replicate, length-append, length-set, length-drop, length-replicate, getD-replicate, replicate-append-replicate}
 use lib.ListN.{take-append-drop, List·getD-append, List·getD-eq-default}
 use lib.Seq.{take-at, drop-at, take-all, drop-append-add, getD-append-add, getD-take, getD-drop, take-suc-set, length-take-le, take-take}
 use Rattle.meaning.specs.Targets.{Request}
@@ -92,7 +91,7 @@ module _ (group : Request → List ℕ) (long : (q : Request) → length (group 
       let here : length (take at counts) ≡ at = length-take-le at counts (omega (arith, f .whole)) in
       let before : length (take at counts ++ after) ≡ groupSize * (k + 1) = omega (arith, length-append (take at counts) after, here, ap length e ∙ long q) in
       let now : putMid at groupSize counts after ≡ (take at counts ++ after) ++ drop groupSize (drop at counts) =
-          sym (append-assoc (take at counts) after (drop groupSize (drop at counts))) in
+      sym (append-assoc (take at counts) after (drop groupSize (drop at counts))) in
       let left : groupCount - k ≡ suc (groupCount - (k + 1)) = omega arith in
       let others : 612 - groupSize * k ≡ groupSize + (612 - groupSize * (k + 1)) = omega arith in
       record {
@@ -182,8 +181,8 @@ module _ {before counts : List ℕ} {i : ℕ} (long : length before ≡ 612) (s 
       let there : 544 + i < length counts = omega (arith, s .whole) in
       let next : 544 + (i + 1) ≡ suc (544 + i) = omega arith in
       let same : sum ≡ sumFrom groupCount before (0 + i) =
-          e ∙ sym (sum-taken groupCount counts i (omega arith)) ∙ ap (λ (l : List ℕ). sumFrom groupCount l i) eight-stay ∙ sum-taken groupCount before i (omega arith)
-          ∙ (let z : i ≡ 0 + i = omega arith in ap (sumFrom groupCount before) z) in
+      e ∙ sym (sum-taken groupCount counts i (omega arith)) ∙ ap (λ (l : List ℕ). sumFrom groupCount l i) eight-stay ∙ sum-taken groupCount before i (omega arith)
+      ∙ (let z : i ≡ 0 + i = omega arith in ap (sumFrom groupCount before) z) in
       record {
         whole = length-set-is ∙ s .whole;
         so-far =
@@ -288,7 +287,7 @@ module _ (groups : List ℕ) (long : length groups ≡ 544) where
   sums-by (suc n) k i l h =
       let at : groupSize * k + i + groupSize ≡ groupSize * suc k + i = omega arith in
       let here : getD (take groupSize (drop (groupSize * k) (groups ++ sumsOf groups))) i 0 ≡ getD groups (groupSize * k + i) 0 =
-          count-in (groups ++ sumsOf groups) k i h ∙ List·getD-append groups (sumsOf groups) 0 (groupSize * k + i) (omega arith) in
+      count-in (groups ++ sumsOf groups) k i h ∙ List·getD-append groups (sumsOf groups) 0 (groupSize * k + i) (omega arith) in
       rw (at, here, sums-by n (suc k) i (omega arith) h)
 
   -- each of the ninth group is the sum of the eight

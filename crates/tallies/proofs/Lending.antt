@@ -6,12 +6,10 @@ use native.Mathlib.Nat.{le-refl}
 use native.Mathlib.Numerals.{add-one}
 use native.Mathlib.Omega.{arith}
 use borrow.Author.Tests.{le-leb, lt-leb}
-use lib.ListN.{length, getD, take, drop, length-drop, drop-of-length-le}
+use lib.ListN.{length, getD, drop, length-drop, drop-of-length-le}
 use lib.Seq.{drop-cons, drop-drop, drop-length}
-use Rattle.meaning.specs.Targets.{Request}
 use Rattle.targets.specs.Matching.{request}
 use Rattle.tallies.specs.Lent.{partOf, behindPart, requestOf, behindRequest, requestsOf, spanned, PartFound, RequestFound}
-use Rattle.tallies.specs.declared.lent.Span.{Span}
 use Rattle.tallies.specs.declared.lent.Spans.{Spans}
 
 module _ (bytes : List ℕ) (at : ℕ) where
@@ -64,7 +62,7 @@ module _ (bytes : List ℕ) (at : ℕ) where
     request-found =
         let a : spanned bytes (spans .action) ≡ partOf (behindPart (drop at bytes)) = f .action-found .part ∙ ap partOf (f .subject-found .behind) in
         let r : spanned bytes (spans .resource) ≡ partOf (behindPart (behindPart (drop at bytes))) =
-            f .resource-found .part ∙ ap partOf (f .action-found .behind ∙ ap behindPart (f .subject-found .behind)) in
+        f .resource-found .part ∙ ap partOf (f .action-found .behind ∙ ap behindPart (f .subject-found .behind)) in
         λ i. record { subject = f .subject-found .part i; action = a i; resource = r i }
 
     -- the requests that are left

@@ -2,7 +2,7 @@
 use mathlib.Core.Path.{_≡_, refl, sym, ap, _∙_, subst}
 use mathlib.Core.Bool.{Bool, true, false, cond, _&&_}
 use mathlib.Core.List.{List, [], _∷_, _++_}
-use Prim.Native.Nat.{ℕ, zero, suc, _+_, _≤_, _<_}
+use Prim.Native.Nat.{ℕ, zero, suc, _≤_, _<_}
 use native.Mathlib.Omega.{arith}
 use borrow.Author.Tests.{leb-true, leb-false, le-leb, lt-leb}
 use lib.Dec.{leb}
@@ -14,7 +14,6 @@ use Rattle.questions.specs.Questions.{isQuestion}
 use Rattle.questions.specs.Forms.{Column, QuestionBytes}
 use Rattle.questions.proofs.Exactly.{question-exactly, not-a-question}
 use Rattle.meaning.specs.Targets.{Request, isSystem, isSubject, isAction, isResource}
-use Rattle.targets.specs.Matching.{request}
 use Rattle.deciding.specs.Promise.{Wellformed, RequestRefused, bad-subject, bad-action, bad-resource}
 use Rattle.deciding.proofs.Promised.{begun, begins-then, not-begun, begins-not}
 use Rattle.meaning.specs.Decisions.{Numbered, first, later}

@@ -3,6 +3,7 @@ use mathlib.Core.Path.{_≡_}
 use mathlib.Core.List.{List}
 use Prim.Native.Nat.{ℕ, _≤_, _<_}
 use lib.ListN.{length, getD}
+use Rattle.bags.specs.declared.sections.Sections.{Sections}
 use Rattle.stored.specs.ReadBack.{policiesAt}
 use Rattle.stored.specs.Ready.{ReadyPolicies}
 use Rattle.placing.specs.Said.{wordsOf}
@@ -25,9 +26,13 @@ pub record Surveyed (text table s : List ℕ) (a : Asking) (starts : List ℕ) (
   pub laid : Laid s (a .p) (a .n) starts grid ends
   pub rules : RulesHeld text table (a .policies) (a .entries)
 
--- the group of a request by the policies that the table holds
+-- the group of a request by the policies of so many entries of the table
+abbrev pub countedBy : List ℕ → List ℕ → List ℕ → Sections → ℕ → ℕ → Request → List ℕ
+countedBy text table s p entries all q = tallyOf (decisionAt s p q (wordsOf text (policiesAt table entries))) all
+
+-- by those that it holds
 abbrev pub groupBy : List ℕ → List ℕ → List ℕ → Asking → Request → List ℕ
-groupBy text table s a q = tallyOf (decisionAt s (a .p) q (wordsOf text (policiesAt table (a .entries)))) (a .all)
+groupBy text table s a q = countedBy text table s (a .p) (a .entries) (a .all) q
 
 -- no count of eight groups is above the number of rows that a question can have
 pub record CountsFew (counts : List ℕ) : Type 0 where

@@ -1,4 +1,4 @@
--- The requests as they are lent, as a reader takes them: subject, action and resource of each, one behind the other, each behind its length byte. Definitions only.
+-- The requests as they are lent, as a reader takes them: subject, action and resource of each, each behind its length byte. Definitions only.
 use mathlib.Core.Path.{_≡_}
 use mathlib.Core.Bool.{cond}
 use mathlib.Core.List.{List, [], _∷_}

@@ -1,6 +1,6 @@
 -- What the tally's call answers and leaves in the counts, as functions of all that it is given (document 02, request 1). Definitions only.
 use mathlib.Core.Path.{_≡_}
-use mathlib.Core.Bool.{Bool, true, false, cond, _&&_, _||_}
+use mathlib.Core.Bool.{Bool, false, cond, _&&_, _||_}
 use mathlib.Core.List.{List, [], _∷_, _++_}
 use Prim.Native.Nat.{ℕ, zero, suc, _+_}
 use lib.Dec.{leb}
@@ -38,6 +38,10 @@ firstWrong (q ∷ qs) = unless (formRefusal q) (firstWrong qs) (λ n. n)
 unfoldable pub someAsks : List Request → Bool
 someAsks [] = false
 someAsks (q ∷ qs) = asksTable q || unless (formRefusal q) (someAsks qs) (λ _. false)
+
+-- both
+abbrev pub formsOf : List Request → Form
+formsOf qs = record { asks = someAsks qs; refusal = firstWrong qs }
 
 -- the refusal of the first request that is refused, the text and its table included
 unfoldable pub firstRefusal : List ℕ → List ℕ → List Request → ℕ

@@ -2,19 +2,17 @@
 ghost use mathlib.Core.Path.{_≡_};
 ghost use mathlib.Core.Bool.{cond};
 ghost use mathlib.Core.List.{_++_};
-ghost use Prim.Native.Nat.{_+_, _≤_, _<_};
+ghost use Prim.Native.Nat.{_≤_, _<_};
 ghost use lib.ListN.{length, getD, take, replicate};
-ghost use Rattle.stored.specs.ReadBack.{policiesAt};
-ghost use Rattle.placing.specs.Said.{wordsOf};
 ghost use Rattle.questions.specs.Questions.{Question};
 ghost use Rattle.meaning.specs.Targets.{Request};
 ghost use Rattle.targets.specs.Matching.{request};
-ghost use Rattle.pages.specs.Tally.{groupSize, tallyOf, bumped, countedIn, Countable};
-ghost use Rattle.sheets.specs.Sheets.{rowsIn, decisionAt};
+ghost use Rattle.pages.specs.Tally.{groupSize, bumped, countedIn, Countable};
+ghost use Rattle.sheets.specs.Sheets.{rowsIn};
 ghost use Rattle.sheets.specs.Asked.{RowsAsked, WalkFor, WalkForSome};
 ghost use Rattle.tallies.specs.Lent.{requestsOf};
 ghost use Rattle.tallies.specs.Tallies.{groupCount, formRefusal, firstWrong, groupsOf, sumFrom, sumsOf, withSums};
-ghost use Rattle.tallies.specs.Counted.{RulesHeld, Surveyed, groupBy, CountsFew};
+ghost use Rattle.tallies.specs.Counted.{RulesHeld, Surveyed, countedBy, groupBy, CountsFew};
 use crate::lent::request_at;
 use bags::sections::Sections;
 use kept::Walk;
@@ -34,7 +32,9 @@ use views::chosen;
 
 // The counts of a group, and those of the eight groups before the sums.
 const GROUP: usize = 68;
+
 const EIGHT: usize = 544;
+
 const ALL: usize = 612;
 
 // How many policies and entries the table holds; none where no request asks for it.
@@ -104,7 +104,7 @@ fn count_rows<'a>(
     requires { ⌜ WalkForSome (now text) (now table) walk (now looks) (now action) ⌝ }
     requires { ⌜ now group ≡ replicate groupSize 0 ⌝ }
     ensures { λ _. ⌜ ((q : Request) → WalkFor (now (text .entry)) (now (table .entry)) walk (now (looks .entry)) (now (action .entry)) q
-        → now (group .exit) ≡ tallyOf (decisionAt (now (s .entry)) (walk .p) q (wordsOf (now (text .entry)) (policiesAt (now (table .entry)) (walk .entries)))) all) ⌝ }
+        → now (group .exit) ≡ countedBy (now (text .entry)) (now (table .entry)) (now (s .entry)) (walk .p) (walk .entries) all q) ⌝ }
 {
     let p = walk.p;
     let mut choices = choices_of(ends, 0);
@@ -332,7 +332,7 @@ pub fn count_all<'a>(
     requires { ⌜ many ≤ groupCount ⌝ }
     requires { ⌜ firstWrong (requestsOf many (now requests)) ≡ 0 ⌝ }
     ensures { λ _. ⌜ now (counts .exit) ≡ withSums (groupsOf groupCount
-        (λ q. tallyOf (decisionAt (now (s .entry)) p q (wordsOf (now (text .entry)) (policiesAt (now (table .entry)) (rules .entries)))) (rowsIn (now (s .entry)) p))
+        (countedBy (now (text .entry)) (now (table .entry)) (now (s .entry)) p (rules .entries) (rowsIn (now (s .entry)) p))
         (requestsOf many (now (requests .entry)))) ⌝ }
 {
     let at = p.end;
@@ -351,7 +351,16 @@ pub fn count_all<'a>(
     };
     clear(counts);
     count_requests(
-        asking, text, table, s, &starts, &grid, &ends, many, requests, counts,
+        asking,
+        text,
+        table,
+        s,
+        &starts,
+        &grid,
+        &ends,
+        many,
+        requests,
+        counts,
     );
     add_up(counts);
 }

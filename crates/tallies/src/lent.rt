@@ -4,7 +4,7 @@ ghost use Prim.Native.Nat.{_≤_};
 ghost use lib.ListN.{length};
 ghost use Rattle.targets.specs.Matching.{request};
 ghost use Rattle.tallies.specs.Lent.{requestsOf, spanned, PartFound, RequestFound};
-ghost use Rattle.tallies.specs.Tallies.{formOf, firstWrong, someAsks};
+ghost use Rattle.tallies.specs.Tallies.{formOf, formsOf};
 use targets::forms::is_action;
 use targets::forms::is_system;
 use targets::forms::resource_type;
@@ -118,7 +118,7 @@ fn form_at(requests: &[u8], spans: Spans, at: usize) -> Form
 
 // The first of so many requests that is refused by itself: its refusal, and whether the text and its table are looked at for one before it.
 pub fn first_wrong(many: usize, requests: &[u8]) -> Form
-    ensures { λ r. ⌜ r ≡ record { asks = someAsks (requestsOf many (now (requests .entry))); refusal = firstWrong (requestsOf many (now (requests .entry))) } ⌝ }
+    ensures { λ r. ⌜ r ≡ formsOf (requestsOf many (now (requests .entry))) ⌝ }
 {
     let mut asks = false;
     let mut at = 0;

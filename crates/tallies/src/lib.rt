@@ -84,15 +84,6 @@ pub fn tally<'a>(
     let classes = class_table();
     match question_sections(&classes, question) {
         Divided::Broken => 24,
-        Divided::In(p) => tally_asked(
-            &classes,
-            text,
-            table,
-            question,
-            p,
-            many,
-            requests,
-            counts,
-        ),
+        Divided::In(p) => tally_asked(&classes, text, table, question, p, many, requests, counts),
     }
 }

@@ -1,49 +1,25 @@
+-- `tallies::tally` meets its contract: a case for each refusal, and a tally of the question. Assumes nothing.
 use Rattle.tallies.proofs.Cases.{refused-27, one-to-eight, refused-24, tallied-there}
 use Rattle.questions.proofs.ColumnLaws.{question-divided, no-question, question-is}
 use mathlib.Core.Path.{sym, _∙_}
 use borrow.Author.Needs.{needs}
 use Rattle.tallies.proofs.tally.Statement.{statement}
 use Rattle.tallies.proofs.tally.Tie as tie
-use Rattle.tallies.proofs.tally.Reads as reads
-use Rattle.tallies.proofs.tally.Lts as lts
-use Rattle.questions.proofs.question_sections.Reads as question-sections-reads
-use Rattle.tallies.proofs.tally_asked.Reads as tally-asked-reads
-use Rattle.tokens.proofs.classes.class_table.Reads as class-table-reads
 
--- src/lib.rt:81:9
 returns : tie.Need-returns
 returns c = refused-27 _ _ _ _ _ _ (c .if1 .taken)
 
--- src/lib.rt:83:19
-class-table-requires : tie.Need-class-table-requires
-class-table-requires c κs = search needs
-
--- src/lib.rt:84:11
-question-sections-requires : tie.Need-question-sections-requires
-question-sections-requires c κs = search needs
-
--- src/lib.rt:85:28
-enum-told : tie.Need-enum-told
-enum-told c = search needs
-
--- src/lib.rt:86:21
-enum-known-p : tie.Need-enum-known-p
-enum-known-p c = search needs
-
--- src/lib.rt:86:27
 tally-asked-requires : tie.Need-tally-asked-requires
 tally-asked-requires c κs = (
   c .before .before .before .before .before .before .before .class-table .ensures,
   (question-is _ _ (sym (c .before .before .before .before .before .question-sections .ensures) ∙ c .before .before .before .p .given .1), one-to-eight _ (c .before .before .before .before .before .before .before .before .if1 .left) .1),
 )
 
--- src/lib.rt:69:1
 returns-2 : tie.Need-returns-2
 returns-2 c =
     let h = one-to-eight _ (c .before .before .before .before .before .if1 .left) in
     refused-24 _ _ _ _ _ _ (h .0) (h .1) (sym (no-question _ (sym (c .before .before .question-sections .ensures) ∙ c .enum-told .given .1)))
 
--- src/lib.rt:69:1
 returns-3 : tie.Need-returns-3
 returns-3 c =
     let h = one-to-eight _ (c .before .before .before .before .before .before .before .before .before .if1 .left) in
@@ -55,10 +31,10 @@ tally-spec =
     tie.close
     (tie.spec
     returns
-    class-table-requires
-    question-sections-requires
-    enum-told
-    enum-known-p
+    (λ c κs. search needs)
+    (λ c κs. search needs)
+    (λ c. search needs)
+    (λ c. search needs)
     tally-asked-requires
     returns-2
     returns-3)

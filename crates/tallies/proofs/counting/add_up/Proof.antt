@@ -1,3 +1,4 @@
+-- `tallies::counting::add_up` meets its contract: the sums so far stand behind the eight groups. Assumes nothing.
 use Rattle.tallies.proofs.Groups.{Summed, summed-none, summed-more, summed-all, still-few}
 use Rattle.pages.specs.Tally.{groupSize}
 use native.Mathlib.Omega.{arith}
@@ -5,9 +6,6 @@ use Prim.Native.Nat.{_-_, _≤_}
 use mathlib.Core.Path.{_≡_, sym, _∙_}
 use Rattle.tallies.proofs.counting.add_up.Statement.{statement}
 use Rattle.tallies.proofs.counting.add_up.Tie as tie
-use Rattle.tallies.proofs.counting.add_up.Reads as reads
-use Rattle.tallies.proofs.counting.add_up.Lts as lts
-use Rattle.tallies.proofs.counting.sum_at.Reads as sum-at-reads
 
 abbrev Inv-loop : tie.InvT-loop
 Inv-loop counts₀ i₀ counts i = (i ≤ 68) × Summed counts₀ counts i
@@ -15,45 +13,26 @@ Inv-loop counts₀ i₀ counts i = (i ≤ 68) × Summed counts₀ counts i
 abbrev μ-loop : tie.MeasureT-loop
 μ-loop counts₀ i₀ counts i = 68 - i
 
--- src/counting.rt:299:5
 loop-holds : tie.Need-loop-holds Inv-loop μ-loop
 loop-holds c = (omega arith, summed-none _ (c .before .pre .0))
 
--- src/counting.rt:300:13
 sum-at-requires : tie.Need-sum-at-requires Inv-loop μ-loop
 sum-at-requires c κs =
     let s = c .before .before .loop .inv .1 in
     (s .whole, (still-few (c .before .before .before .before .pre .0) s (c .before .before .before .before .pre .1), c .before .loop-test .taken))
 
--- src/counting.rt:301:16
-add-counts : tie.Need-add-counts Inv-loop μ-loop
-add-counts c = omega arith
-
--- src/counting.rt:301:9
 mul-counts : tie.Need-mul-counts Inv-loop μ-loop
 mul-counts c = omega (arith, c .before .before .before .loop .inv .1 .whole)
 
--- src/counting.rt:301:9
 slice-write-counts : tie.Need-slice-write-counts Inv-loop μ-loop
 slice-write-counts c = omega (arith, c .before .before .before .loop .inv .1 .whole)
 
--- src/counting.rt:302:9
-add-i : tie.Need-add-i Inv-loop μ-loop
-add-i c = omega arith
-
--- src/counting.rt:299:5
-loop-less : tie.Need-loop-less Inv-loop μ-loop
-loop-less c = omega arith
-
--- src/counting.rt:299:5
 loop-again : tie.Need-loop-again Inv-loop μ-loop
 loop-again c = (omega arith, summed-more (c .before .before .before .before .before .pre .0) (c .before .before .before .loop .inv .1) (c .before .before .loop-test .taken) (c .sum-at .ensures))
 
--- src/counting.rt:293:1
 same-length : tie.Need-same-length Inv-loop μ-loop
 same-length c = c .before .loop .inv .1 .whole ∙ sym (c .before .before .before .pre .0)
 
--- src/counting.rt:293:1
 returns : tie.Need-returns Inv-loop μ-loop
 returns c =
     let l = c .before .loop in
@@ -68,11 +47,11 @@ add-up-spec =
     μ-loop
     loop-holds
     sum-at-requires
-    add-counts
+    (λ c. omega arith)
     mul-counts
     slice-write-counts
-    add-i
-    loop-less
+    (λ c. omega arith)
+    (λ c. omega arith)
     loop-again
     same-length
     returns)

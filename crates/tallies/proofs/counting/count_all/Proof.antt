@@ -1,3 +1,4 @@
+-- `tallies::counting::count_all` meets its contract: places and rows are found once, and the sums put behind the groups. Assumes nothing.
 use Rattle.tallies.proofs.Groups.{groups-long, groups-small, sums-behind}
 use Rattle.tallies.specs.Tallies.{groupCount, groupsOf, sumsOf, withSums}
 use Rattle.tallies.specs.Lent.{requestsOf}
@@ -7,58 +8,19 @@ use Rattle.pages.specs.Tally.{tallyOf}
 use Rattle.placing.specs.Said.{wordsOf}
 use Rattle.stored.specs.ReadBack.{policiesAt}
 use denote.Ref.{now}
-use lib.ListN.{length, take}
+use lib.ListN.{take}
 use native.Mathlib.Omega.{arith}
-use Prim.Native.Nat.{ℕ, _*_, zero-le}
+use Prim.Native.Nat.{ℕ, zero-le}
 use mathlib.Core.List.{List, _++_}
-use mathlib.Core.Path.{_≡_, refl, sym, ap, _∙_}
+use mathlib.Core.Path.{refl, ap, _∙_}
 use Rattle.pages.proofs.SixColumns.{heads-counted}
 use borrow.Author.Needs.{needs}
 use Rattle.tallies.proofs.counting.count_all.Statement.{statement}
 use Rattle.tallies.proofs.counting.count_all.Tie as tie
-use Rattle.tallies.proofs.counting.count_all.Reads as reads
-use Rattle.tallies.proofs.counting.count_all.Lts as lts
-use Rattle.pages.proofs.rows.lasts.Reads as lasts-reads
-use Rattle.questions.proofs.places.heads.Reads as heads-reads
-use Rattle.questions.proofs.places.places.Reads as places-reads
-use Rattle.questions.proofs.places.rows.Reads as rows-reads
-use Rattle.tallies.proofs.counting.add_up.Reads as add-up-reads
-use Rattle.tallies.proofs.counting.clear.Reads as clear-reads
-use Rattle.tallies.proofs.counting.count_requests.Reads as count-requests-reads
 
--- src/counting.rt:339:13
-shared-slice-read-n : tie.Need-shared-slice-read-n
-shared-slice-read-n c = search needs
-
--- src/counting.rt:339:13
-cast-n : tie.Need-cast-n
-cast-n c = search needs
-
--- src/counting.rt:340:17
-add-first : tie.Need-add-first
-add-first c = search needs
-
--- src/counting.rt:341:18
-heads-requires : tie.Need-heads-requires
-heads-requires c κs = search needs
-
--- src/counting.rt:342:16
-places-requires : tie.Need-places-requires
-places-requires c κs = search needs
-
--- src/counting.rt:343:16
 lasts-requires : tie.Need-lasts-requires
 lasts-requires c κs = let question = c .before .before .before .before .before .before .before .before .before .pre .1 .0 in heads-counted _ _ _ _ (question .few) (question .columns) _ (c .before .before .heads .ensures)
 
--- src/counting.rt:344:9
-rows-requires : tie.Need-rows-requires
-rows-requires c κs = search needs
-
--- src/counting.rt:352:5
-clear-requires : tie.Need-clear-requires
-clear-requires c κs = search needs
-
--- src/counting.rt:353:5
 count-requests-requires : tie.Need-count-requests-requires
 count-requests-requires c κs =
     let pre = c .before .before .before .before .before .before .before .before .before .before .before .before .before .before .before .before .before .before .before .pre in (
@@ -70,15 +32,9 @@ count-requests-requires c κs =
       (pre .1 .1 .1 .0, (pre .1 .1 .1 .1, c .before .before .before .before .before .before .clear .ensures)),
     )
 
--- src/counting.rt:356:5
 add-up-requires : tie.Need-add-up-requires
 add-up-requires c κs = groups-small _ (λ q. group-long _ _) _ (λ q k. group-few _ _ k) (c .before .before .before .before .before .before .before .before .before .before .before .before .rows .ensures .1) _ (c .before .before .before .count-requests .ensures)
 
--- src/counting.rt:319:1
-same-length : tie.Need-same-length
-same-length c = search needs
-
--- src/counting.rt:319:1
 returns : tie.Need-returns
 returns c =
     let text = now (c .before .before .before .before .before .before .before .before .before .before .before .before .before .before .before .before .before .before .before .before .before .before .before .before .before .before .args .text) in
@@ -94,15 +50,15 @@ pub count-all-spec : {M : Type 1} → statement M
 count-all-spec =
     tie.close
     (tie.spec
-    shared-slice-read-n
-    cast-n
-    add-first
-    heads-requires
-    places-requires
+    (λ c. search needs)
+    (λ c. search needs)
+    (λ c. search needs)
+    (λ c κs. search needs)
+    (λ c κs. search needs)
     lasts-requires
-    rows-requires
-    clear-requires
+    (λ c κs. search needs)
+    (λ c κs. search needs)
     count-requests-requires
     add-up-requires
-    same-length
+    (λ c. search needs)
     returns)

@@ -1,10 +1,11 @@
+-- `tallies::counting::count_rows` meets its contract: the rows passed are counted, and the walk stands at the row. Assumes nothing.
 use Rattle.tallies.proofs.Deciders.{countable-there, counted-turn}
 use Rattle.sheets.specs.Asked.{Asked, WalkFor}
 use Rattle.sheets.specs.Sheets.{rowsIn, decisionAt}
 use Rattle.turns.proofs.RowLaws.{choices-small, stands-first, kept-first, ends-few, walked-gone, at-gone, at-back}
 use Rattle.turns.specs.Turns.{AtRow}
-use Rattle.pages.proofs.Tallying.{group-none, group-few, group-more}
-use Rattle.pages.specs.Tally.{groupSize, tallyOf, countedIn, Countable}
+use Rattle.pages.proofs.Tallying.{group-none, group-few}
+use Rattle.pages.specs.Tally.{groupSize, tallyOf, Countable}
 use Rattle.meaning.specs.declared.Decision.{Decision}
 use Rattle.meaning.specs.Targets.{Request}
 use Rattle.placing.specs.Said.{wordsOf}
@@ -13,17 +14,11 @@ use Rattle.bags.specs.declared.sections.Sections.{Sections}
 use lib.ListN.{length, length-replicate}
 use native.Mathlib.Omega.{arith}
 use native.Mathlib.Nat.{le-trans}
-use Prim.Native.Nat.{ℕ, _+_, _-_, _≤_, _<_}
+use Prim.Native.Nat.{ℕ, _-_, _≤_, _<_}
 use mathlib.Core.List.{List}
 use mathlib.Core.Path.{_≡_, sym, ap, _∙_, subst}
 use Rattle.tallies.proofs.counting.count_rows.Statement.{statement}
 use Rattle.tallies.proofs.counting.count_rows.Tie as tie
-use Rattle.tallies.proofs.counting.count_rows.Reads as reads
-use Rattle.tallies.proofs.counting.count_rows.Lts as lts
-use Rattle.pages.proofs.rows.choices_of.Reads as choices-of-reads
-use Rattle.tallies.proofs.counting.count_row.Reads as count-row-reads
-use Rattle.turns.proofs.take_turn.Reads as take-turn-reads
-use Rattle.views.proofs.chosen.Reads as chosen-reads
 
 abbrev Inv-loop : tie.InvT-loop
 Inv-loop walk looks text table s starts grid ends action all group₀ p choices₀ values₀ notes₀ from₀ row₀ group choices values notes from row =
@@ -35,7 +30,6 @@ Inv-loop walk looks text table s starts grid ends action all group₀ p choices�
 abbrev μ-loop : tie.MeasureT-loop
 μ-loop walk looks text table s starts grid ends action all group₀ p choices₀ values₀ notes₀ from₀ row₀ group choices values notes from row = all - row
 
--- src/counting.rt:110:23
 there : {s : List ℕ} {p : Sections} {all start row : ℕ} → Asked s p all start → row < all → row < rowsIn s p
 there a h = rw (← a .all-rows) h
 
@@ -45,13 +39,11 @@ fits e h = omega arith
 choices-of-requires : tie.Need-choices-of-requires Inv-loop μ-loop
 choices-of-requires c κs = let w = c .before .before .before .before .before .before .pre .0 .walked in ends-few (w .question) (w .laid)
 
--- src/counting.rt:111:22
 chosen-requires : tie.Need-chosen-requires Inv-loop μ-loop
 chosen-requires c κs =
     let w = c .before .before .before .before .before .before .before .before .before .pre .0 .walked in
     (omega arith, λ i h. choices-small _ _ _ (c .before .before .choices-of .ensures) (ends-few (w .question) (w .laid)) i h)
 
--- src/counting.rt:115:5
 loop-holds : tie.Need-loop-holds Inv-loop μ-loop
 loop-holds c =
     let pre = c .before .before .before .before .before .before .before .before .before .before .pre in (
@@ -69,7 +61,6 @@ loop-holds c =
       ),
     )
 
--- src/counting.rt:124:13
 take-turn-requires : tie.Need-take-turn-requires Inv-loop μ-loop
 take-turn-requires c κs =
     let l = c .before .before .before .before in
@@ -79,11 +70,6 @@ take-turn-requires c κs =
       (record { row = l .loop .row; below = there (pre .0 .asked) (c .before .before .before .loop-test .taken); standing = at .standing }, at .kept .carried .long),
     )
 
--- src/counting.rt:140:9
-add-row : tie.Need-add-row Inv-loop μ-loop
-add-row c = omega arith
-
--- src/counting.rt:141:9
 count-row-requires : tie.Need-count-row-requires Inv-loop μ-loop
 count-row-requires c κs =
     let l = c .before .before .before .before .before .before in
@@ -94,11 +80,6 @@ count-row-requires c κs =
       (l .loop .inv .2, record { few = λ k h. rw (inv .0) (le-trans (group-few _ (l .loop .row) k) (omega arith)) }),
     )
 
--- src/counting.rt:115:5
-loop-less : tie.Need-loop-less Inv-loop μ-loop
-loop-less c = omega arith
-
--- src/counting.rt:115:5
 loop-again : tie.Need-loop-again Inv-loop μ-loop
 loop-again c =
     let l = c .before .before .before .before .before .before .before .before .before in
@@ -116,11 +97,9 @@ loop-again c =
           ),
     )
 
--- src/counting.rt:90:1
 same-length : tie.Need-same-length Inv-loop μ-loop
 same-length c = c .before .loop .inv .2 ∙ sym (ap length (c .before .before .before .before .before .before .before .before .before .before .before .before .pre .1 .1) ∙ length-replicate {A = ℕ} groupSize 0)
 
--- src/counting.rt:90:1
 returns : tie.Need-returns Inv-loop μ-loop
 returns c = λ q f.
     let l = c .before .loop in
@@ -137,9 +116,9 @@ count-rows-spec =
     chosen-requires
     loop-holds
     take-turn-requires
-    add-row
+    (λ c. omega arith)
     count-row-requires
-    loop-less
+    (λ c. omega arith)
     loop-again
     same-length
     returns)

@@ -1,3 +1,4 @@
+-- `tallies::counting::sum_at` meets its contract: what is summed, and the groups that are left. Assumes nothing.
 use Rattle.tallies.proofs.Groups.{sum-on, sum-none}
 use Rattle.tallies.specs.Tallies.{groupCount, sumFrom}
 use native.Mathlib.Omega.{arith}
@@ -6,8 +7,6 @@ use Prim.Native.Nat.{_+_, _-_, _*_, _≤_}
 use mathlib.Core.Path.{_≡_}
 use Rattle.tallies.proofs.counting.sum_at.Statement.{statement}
 use Rattle.tallies.proofs.counting.sum_at.Tie as tie
-use Rattle.tallies.proofs.counting.sum_at.Reads as reads
-use Rattle.tallies.proofs.counting.sum_at.Lts as lts
 
 abbrev Inv-loop : tie.InvT-loop
 Inv-loop counts i sum₀ at₀ left₀ sum at left =
@@ -16,35 +15,12 @@ Inv-loop counts i sum₀ at₀ left₀ sum at left =
 abbrev μ-loop : tie.MeasureT-loop
 μ-loop counts i sum₀ at₀ left₀ sum at left = left
 
--- src/counting.rt:284:5
 loop-holds : tie.Need-loop-holds Inv-loop μ-loop
 loop-holds c = (omega arith, omega arith, omega arith, omega arith)
 
--- src/counting.rt:285:21
-mul-sum : tie.Need-mul-sum Inv-loop μ-loop
-mul-sum c = omega arith
-
--- src/counting.rt:285:21
-shared-slice-read-sum : tie.Need-shared-slice-read-sum Inv-loop μ-loop
-shared-slice-read-sum c = omega arith
-
--- src/counting.rt:285:15
 add-sum : tie.Need-add-sum Inv-loop μ-loop
 add-sum c = omega (arith, c .before .before .before .pre .1 .0 .few (c .before .before .loop .at) (omega arith))
 
--- src/counting.rt:286:9
-add-at : tie.Need-add-at Inv-loop μ-loop
-add-at c = omega arith
-
--- src/counting.rt:287:9
-sub-left : tie.Need-sub-left Inv-loop μ-loop
-sub-left c = omega arith
-
--- src/counting.rt:284:5
-loop-less : tie.Need-loop-less Inv-loop μ-loop
-loop-less c = omega arith
-
--- src/counting.rt:284:5
 loop-again : tie.Need-loop-again Inv-loop μ-loop
 loop-again c =
     let l = c .before .before .loop in (
@@ -54,7 +30,6 @@ loop-again c =
       omega (arith, l .inv .3, sum-on (l .left) (now (c .before .before .before .args .counts)) (l .at) (c .before .loop-test .taken)),
     )
 
--- src/counting.rt:275:1
 returns : tie.Need-returns Inv-loop μ-loop
 returns c = let l = c .before .loop in omega (arith, l .inv .3, sum-none (l .left) (now (c .before .before .args .counts)) (l .at) (omega arith))
 
@@ -65,11 +40,11 @@ sum-at-spec =
     Inv-loop
     μ-loop
     loop-holds
-    mul-sum
-    shared-slice-read-sum
+    (λ c. omega arith)
+    (λ c. omega arith)
     add-sum
-    add-at
-    sub-left
-    loop-less
+    (λ c. omega arith)
+    (λ c. omega arith)
+    (λ c. omega arith)
     loop-again
     returns)

@@ -1,3 +1,4 @@
+-- `tallies::lent::first_wrong` meets its contract: what was found so far, and what is found in the requests that are left. Assumes nothing.
 use Rattle.tallies.proofs.Refusing.{found-here, found-on, found-none}
 use Rattle.tallies.proofs.Lending.{requests-found, requests-none}
 use Rattle.tallies.specs.Tallies.{someAsks, firstWrong}
@@ -6,16 +7,12 @@ use Rattle.meaning.specs.Targets.{Request}
 use lib.ListN.{length, drop}
 use denote.Ref.{now}
 use native.Mathlib.Omega.{arith}
-use Prim.Native.Nat.{ℕ, _-_, _≤_}
+use Prim.Native.Nat.{_≤_}
 use mathlib.Core.List.{List}
-use mathlib.Core.Bool.{Bool, _||_}
+use mathlib.Core.Bool.{_||_}
 use mathlib.Core.Path.{_≡_, refl, ap, _∙_}
 use Rattle.tallies.proofs.lent.first_wrong.Statement.{statement}
 use Rattle.tallies.proofs.lent.first_wrong.Tie as tie
-use Rattle.tallies.proofs.lent.first_wrong.Reads as reads
-use Rattle.tallies.proofs.lent.first_wrong.Lts as lts
-use Rattle.tallies.proofs.lent.form_at.Reads as form-at-reads
-use Rattle.tallies.proofs.lent.request_at.Reads as request-at-reads
 
 abbrev Inv-loop : tie.InvT-loop
 Inv-loop many requests asks₀ at₀ left₀ asks at left =
@@ -25,34 +22,21 @@ Inv-loop many requests asks₀ at₀ left₀ asks at left =
 abbrev μ-loop : tie.MeasureT-loop
 μ-loop many requests asks₀ at₀ left₀ asks at left = left
 
--- src/lent.rt:126:5
 loop-holds : tie.Need-loop-holds Inv-loop μ-loop
 loop-holds c = (omega arith, refl, refl)
 
--- src/lent.rt:127:13
 request-at-requires : tie.Need-request-at-requires Inv-loop μ-loop
 request-at-requires c κs = c .before .loop .inv .0
 
--- src/lent.rt:128:13
 form-at-requires : tie.Need-form-at-requires Inv-loop μ-loop
 form-at-requires c κs = c .request-at .ensures
 
--- src/lent.rt:130:9
-sub-left : tie.Need-sub-left Inv-loop μ-loop
-sub-left c = omega arith
-
--- src/lent.rt:133:13
 returns : tie.Need-returns Inv-loop μ-loop
 returns c =
     let l = c .before .before .before .before .before .before in
     let e = requests-found _ _ (c .before .before .before .before .request-at .ensures) (l .loop .left) (c .before .before .before .before .before .loop-test .taken) in
     found-here _ (l .loop .asks) _ _ (l .loop .inv .1 ∙ ap (λ (qs : List Request). l .loop .asks || someAsks qs) e) (l .loop .inv .2 ∙ ap firstWrong e) (c .before .before .before .form-at .ensures) (c .if1 .taken)
 
--- src/lent.rt:126:5
-loop-less : tie.Need-loop-less Inv-loop μ-loop
-loop-less c = omega arith
-
--- src/lent.rt:126:5
 loop-again : tie.Need-loop-again Inv-loop μ-loop
 loop-again c =
     let l = c .before .before .before .before .before .before in
@@ -60,7 +44,6 @@ loop-again c =
     let on = found-on _ (l .loop .asks) _ _ (l .loop .inv .1 ∙ ap (λ (qs : List Request). l .loop .asks || someAsks qs) e) (l .loop .inv .2 ∙ ap firstWrong e) (c .before .before .before .form-at .ensures) (c .if1 .left) in
     (c .before .before .before .before .request-at .ensures .resource-found .inside, on .0, on .1)
 
--- src/lent.rt:120:1
 returns-2 : tie.Need-returns-2 Inv-loop μ-loop
 returns-2 c =
     let l = c .before in
@@ -76,8 +59,8 @@ first-wrong-spec =
     loop-holds
     request-at-requires
     form-at-requires
-    sub-left
+    (λ c. omega arith)
     returns
-    loop-less
+    (λ c. omega arith)
     loop-again
     returns-2)
