@@ -4,6 +4,8 @@ pub mod asking;
 pub mod bags;
 pub mod compile;
 pub mod deciding;
+#[cfg(test)]
+mod example;
 pub mod numbers;
 pub mod patterns;
 pub mod plans;

@@ -150,26 +150,13 @@ pub fn tally_into(
 mod tests {
     use super::*;
     use crate::compile::table_of;
-    use crate::plans::{number_value, string_value, Column, Plan};
+    use crate::example::{example_question, EXAMPLE};
 
-    const EXAMPLE: &str = "permit(principal is person, action, resource is shaft)\n  when { principal.grade >= 3 };\n\
-        forbid(principal, action in [\"teach\"], resource)\n  when { principal.hired != \"own\" };\n";
     const TEACH: Request = Request { subject: b"person:K7", action: b"teach", resource: b"shaft:A" };
     const BY_TOOL: Request = Request { subject: b"tool:T1", ..TEACH };
     const READ: Request = Request { action: b"read", ..TEACH };
     const OF_RECORD: Request = Request { action: b"read", resource: b"record:1", ..TEACH };
     const BY_SYSTEM: Request = Request { subject: b"system", action: b"", resource: b"" };
-
-    /// 01, "Checked examples": columns principal.grade (absent, 3, 2.5) and principal.hired (absent, "own", "loan").
-    fn example_question() -> Vec<u8> {
-        let column =
-            |path: &str, candidates: Vec<Vec<u8>>| Column { root: 1, path: path.as_bytes().to_vec(), candidates };
-        let columns = vec![
-            column("grade", vec![vec![0], number_value(3.0_f64.to_bits()), number_value(2.5_f64.to_bits())]),
-            column("hired", vec![vec![0], string_value(b"own"), string_value(b"loan")]),
-        ];
-        Plan { sections: [Vec::new(), Vec::new(), Vec::new()], columns: Some(columns) }.bytes()
-    }
 
     fn counts(outcomes: [u32; 4], first_policies: &[u32]) -> Counts {
         let mut policies = [0; MOST_POLICIES];

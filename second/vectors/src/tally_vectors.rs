@@ -10,7 +10,7 @@ use generators::bag_bytes::{break_a_rule, damaged};
 use generators::examples::{column, example_question, number, question_of, question_of_rows, EXAMPLE, REFUSED_TEXTS};
 use generators::random::Random;
 use generators::requests;
-use generators::rich_bags::rich_question;
+use generators::rich_bags::cut_and_changed_questions;
 use generators::tallies::{self, question_of_numbers, rules_with_rows_of_their_own, REFUSED, REQUESTS};
 
 use crate::vector::Vector;
@@ -349,20 +349,9 @@ fn add_many_rows(vectors: &mut Vec<Vector>) {
 
 /// The rich question cut and changed; a bag.
 fn add_wrong_questions(vectors: &mut Vec<Vector>) {
-    let bytes = rich_question().bytes();
     let text = "permit(principal,action,resource)when{principal has a};";
-    let mut add = |question: &[u8]| vectors.push(with_own_table(text, question, &REQUESTS[..2]));
-    for at in 0..bytes.len() {
-        add(&bytes[..at]);
-        let mut changed = bytes.clone();
-        changed[at] = changed[at].wrapping_add(1);
-        add(&changed);
-    }
-    add(&bytes);
-    add(&[&bytes[..], &[0]].concat());
-    add(&[0; 4_097]);
-    for question in [&[][..], &[0, 0, 0], &[0, 0, 0, 0], &[0, 0, 0, 0, 0], &[0, 0, 0, 7], &[0, 0, 0, 1]] {
-        add(question);
+    for question in cut_and_changed_questions() {
+        vectors.push(with_own_table(text, &question, &REQUESTS[..2]));
     }
 }
 
@@ -461,44 +450,43 @@ mod tests {
         }
     }
 
-    /// The turn of the request that is refused, from 0; nothing if none is.
-    fn refused_turn(vector: &Vector) -> Option<(u8, usize)> {
+    /// The refusal's number, the number of requests, and the turn, from 0, of the one that is refused; nothing if none is.
+    fn refused_turn(vector: &Vector) -> Option<(u8, u64, usize)> {
         let number = tally_of(vector).0.err()?;
         let requests = read_requests(many_of(vector).min(8) as usize, &vector[4]);
         let turn = requests.iter().position(|request| {
             !request.is_of_system() && (number == 20 || number == 24 || request.refusal() == Some(number))
         });
-        Some((number, turn.unwrap_or(0)))
+        Some((number, many_of(vector), turn.unwrap_or(0)))
     }
 
     #[test]
     fn every_refusal_is_there_at_every_turn() {
-        let vectors = fixed();
-        let turns: Vec<(u8, usize)> = vectors.iter().filter_map(refused_turn).collect();
+        let found: Vec<(u8, u64, usize)> = fixed().iter().filter_map(refused_turn).collect();
+        let count = |is_such: &dyn Fn(&(u8, u64, usize)) -> bool| found.iter().filter(|one| is_such(one)).count();
         for number in 20..=23 {
             for turn in 0..MOST_REQUESTS {
-                let there = turns.iter().filter(|found| **found == (number, turn)).count();
-                assert!(there >= 2, "{} at {}: {}", number, turn, there);
+                assert!(count(&|one| one.0 == number && one.2 == turn) >= 2, "{} at {}", number, turn);
             }
         }
-        for number in [24, 27] {
-            assert!(turns.iter().filter(|found| found.0 == number).count() > 50);
-        }
         for many in 1..=8 {
-            let is_24 = |vector: &&Vector| many_of(vector) == many && tally_of(vector).0 == Err(24);
-            assert!(vectors.iter().filter(is_24).count() >= 2);
+            assert!(count(&|one| one.0 == 24 && one.1 == many) >= 2, "24 with {}", many);
         }
+        assert!(count(&|one| one.0 == 27) > 50);
     }
 
+    // Every number of columns with every number of requests; each of the four outcomes, and each policy's count but 0.
     #[test]
     fn every_number_of_columns_and_requests_is_tallied() {
         let mut seen = [[0; 9]; 7];
+        let mut places = [false; GROUP];
         let mut most = 0;
         for vector in fixed().iter().chain(&some(1_000)) {
             if let (Ok(()), counts) = tally_of(vector) {
                 let columns = read_question(&vector[2]).unwrap().columns.len();
                 seen[columns][many_of(vector) as usize] += 1;
                 most = most.max(counts[..4].iter().sum());
+                (0..GROUP).filter(|place| counts[*place] != 0).for_each(|place| places[place] = true);
             }
         }
         for (columns, by_requests) in seen.iter().enumerate() {
@@ -507,17 +495,6 @@ mod tests {
             }
         }
         assert_eq!(most, 262_144);
-    }
-
-    // Each of the four outcomes, and each policy's count but 0.
-    #[test]
-    fn every_count_of_a_group_is_there() {
-        let mut seen = [false; GROUP];
-        for vector in fixed() {
-            if let (Ok(()), counts) = tally_of(&vector) {
-                (0..GROUP).filter(|place| counts[*place] != 0).for_each(|place| seen[place] = true);
-            }
-        }
-        assert!(seen.iter().all(|seen| *seen));
+        assert!(places.iter().all(|seen| *seen));
     }
 }
