@@ -8,7 +8,8 @@ use borrow.Author.Tests.{eq-eqb, ne-eqb, ltb-true, ltb-false}
 use lib.Dec.{ltb}
 use lib.ListN.{length, getD, take, drop, length-drop}
 use lib.Seq.{take-all}
-use Rattle.compiling.specs.Outcome.{mostBytes, roomFor}
+use Rattle.compiling.specs.Outcome.{roomFor}
+use Rattle.tokens.specs.Sizes.{mostTextBytes}
 use Rattle.tallies.specs.Promise.{TallyCall, TallyRefused, no-request, too-many, no-question, by-request}
 use Rattle.desk.specs.Answers.{compileSays, compileLeaves, tallySays}
 use Rattle.desk.specs.Promises.{CompileAllows}
@@ -22,9 +23,9 @@ use Rattle.ask.specs.Lines.{manyIn, countedFor}
 module _ (text table : List ℕ) (h : compileSays text table .refusal ≡ 0) where
   -- else its refusal would be 1 or 2
   room-enough : roomFor text ≤ length table
-  room-enough = go (ltb mostBytes (length text)) refl (ltb (length table) (roomFor text)) refl
+  room-enough = go (ltb mostTextBytes (length text)) refl (ltb (length table) (roomFor text)) refl
     where
-      go : (a : Bool) → ltb mostBytes (length text) ≡ a → (b : Bool) → ltb (length table) (roomFor text) ≡ b → roomFor text ≤ length table
+      go : (a : Bool) → ltb mostTextBytes (length text) ≡ a → (b : Bool) → ltb (length table) (roomFor text) ≡ b → roomFor text ≤ length table
       go true x b y = let e = refusals .too-long text table .1 (ltb-true _ _ x) in absurd (omega (arith, e, h))
       go false x true y = let e = refusals .no-room text table .1 (ltb-false _ _ x, ltb-true _ _ y) in absurd (omega (arith, e, h))
       go false x false y = ltb-false _ _ y

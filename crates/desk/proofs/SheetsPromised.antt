@@ -23,7 +23,7 @@ use Rattle.deciding.specs.Answers.{wordsIn}
 use Rattle.deciding.specs.Promise.{DecideCall, Wellformed, RequestRefused, bad-subject, bad-action, bad-resource}
 use Rattle.pages.specs.declared.Page.{Page}
 use Rattle.pages.specs.Rows.{Combination, choicesAt}
-use Rattle.pages.specs.Listing.{pageRows, rowSize, roomIn, bytesOf, PageWritten}
+use Rattle.pages.specs.Listing.{pageRows, rowSize, roomIn, rowsBytes, PageWritten}
 use Rattle.pages.specs.Pages as pages
 use Rattle.pages.specs.Pages.{Written}
 use Rattle.pages.specs.Lines.{Line, counts, linesBytes, linesFrom}
@@ -226,7 +226,7 @@ module _ (c : SheetCall) (h : Heard c) {base : Contents} {columns : List Column}
       let p = page-there (c .start) (c .sheet) (c .at) e in
       let k = page-lines of-choices ns (c .start) room (within (c .start) (c .sheet) (c .at) e) in
       let rows = pageRows (decidedAt of-choices ns) (product ns) (c .start) room in
-      let bytes = bytesOf (decidedAt of-choices ns) rows in
+      let bytes = rowsBytes (decidedAt of-choices ns) rows in
       let long : length bytes ≡ rowSize * pageFor c .written = bytes-length (decidedAt of-choices ns) rows ∙ ap (λ (n : ℕ). rowSize * n) (sym (p .written)) in
       let others = sheets-proofs.others-there (c .text) (c .table) (c .question) (c .request) (c .start) (c .sheet) (c .at) e in
       record {

@@ -18,7 +18,7 @@ use Rattle.questions.proofs.PlaceLaws.{firstOf}
 use Rattle.placing.specs.Placed.{none-left}
 use Rattle.table.specs.Entries.{policiesEntries}
 use Rattle.stored.specs.Stored.{none-left as nothing-left}
-use Rattle.stored.specs.ReadBack.{policiesIn, policiesAt}
+use Rattle.stored.specs.ReadBack.{policiesUpTo, policiesAt}
 use Rattle.stored.specs.Ready.{ReadyPolicies}
 use Rattle.views.specs.Meaning.{View, look}
 use Rattle.views.specs.Rows.{rowView, RowStands, bagOfRow, Chooses}
@@ -30,7 +30,7 @@ use Rattle.meaning.specs.declared.Decision.{Decision}
 use Rattle.meaning.specs.declared.Decision.the-variants.{System}
 use Rattle.meaning.proofs.Deciding.{numbered-few, named-rightly}
 use Rattle.meaning.proofs.WordLaws.{many-words}
-use Rattle.pages.specs.Rows.{countsOf, Combination, rowOf, choicesAt, countsBy, Few, Counted, Picked, Placed, Moved}
+use Rattle.pages.specs.Rows.{countsOf, Combination, rowOf, choicesAt, countsBy, Few, Counted, Picked, RowPlaced, Moved}
 use Rattle.kept.specs.Notes.{ChosenThere, Aims, Kept, DecidedFrom}
 use Rattle.kept.specs.declared.Walk.{Walk}
 use Rattle.kept.proofs.Noting.{zeros-say}
@@ -52,7 +52,7 @@ module _ (ends choices : List ℕ) (row : ℕ) (is : choices ≡ choicesAt (coun
       let here : i < length ends = rw (f .six) h in
       omega (arith, choice-below combines i (rw (counts-length ends) here), count-is ends i here, f .few i h)
 
-pub placed-there : {grid : List (List ℕ)} {ends choices values : List ℕ} {row : ℕ} → Few ends → Standing grid ends choices values row → Placed grid ends choices values
+pub placed-there : {grid : List (List ℕ)} {ends choices values : List ℕ} {row : ℕ} → Few ends → Standing grid ends choices values row → RowPlaced grid ends choices values
 placed-there f s = record { few = f; combines = combines _ _ _ (s .choices-are); values-are = s .values-are }
 
 -- the places of a row's choices, as they are first looked up
@@ -215,11 +215,11 @@ policy-fits text s p q ps row h = omega (arith, policy-few text s p q ps row h)
 
 -- where there are none they can all be evaluated
 pub none-ready : (text table : List ℕ) → ReadyPolicies text table 0
-unfolding policiesIn policiesEntries
+unfolding policiesUpTo policiesEntries
 none-ready text table = record { stored = record { stands = record { from = nothing-left; ends = refl; few = omega arith } }; placed = none-left; here = omega arith }
 
 pub none-many : (table : List ℕ) → _≡_ {A = ℕ} 0 (length (policiesAt table 0))
-unfolding policiesIn
+unfolding policiesUpTo
 none-many table = refl
 
 -- ---- a walk, and the same walk gone on to another column
