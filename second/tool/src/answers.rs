@@ -18,6 +18,8 @@ pub trait Answers {
     fn check(&self, text: &[u8]) -> Done<String>;
     /// What `ask decide` prints for these cases.
     fn decide(&self, text: &[u8], cases: &[Case]) -> Done<String>;
+    /// What `ask tally` prints for these three files.
+    fn tally(&self, text: &[u8], question: &[u8], requests: &[u8]) -> Done<String>;
 }
 
 /// The variable that names the program which runs the proved programs: `./desk` sets it.
@@ -75,6 +77,10 @@ impl Answers for Programs {
         let bytes: Vec<u8> = cases.iter().flat_map(Case::bytes).collect();
         self.run(&["ask", "decide"], &[("policy.txt", text), ("cases.bin", &bytes)])
     }
+
+    fn tally(&self, text: &[u8], question: &[u8], requests: &[u8]) -> Done<String> {
+        self.run(&["ask", "tally"], &[("policy.txt", text), ("question.bin", question), ("requests.bin", requests)])
+    }
 }
 
 /// A folder for one run, which is removed with its files.
@@ -114,7 +120,7 @@ pub enum Answer {
 }
 
 /// A line of numbers after a word.
-fn numbers<const N: usize>(line: &str, word: &str) -> Option<[usize; N]> {
+pub fn numbers<const N: usize>(line: &str, word: &str) -> Option<[usize; N]> {
     let rest = line.strip_prefix(word)?.strip_prefix(' ')?;
     let numbers: Option<Vec<usize>> = rest.split(' ').map(|number| number.parse().ok()).collect();
     numbers?.try_into().ok()
@@ -208,10 +214,14 @@ pub mod tests {
         fn decide(&self, text: &[u8], cases: &[Case]) -> Done<String> {
             Ok(asking::printed_decide(text, cases))
         }
+
+        fn tally(&self, text: &[u8], question: &[u8], requests: &[u8]) -> Done<String> {
+            Ok(asking::printed_tally(text, question, requests))
+        }
     }
 
     /// Answers always the same.
-    struct Wrong(&'static str);
+    pub struct Wrong(pub &'static str);
 
     impl Answers for Wrong {
         fn sheet(&self, _: &[u8], _: &[u8], _: &[u8]) -> Done<String> {
@@ -223,6 +233,10 @@ pub mod tests {
         }
 
         fn decide(&self, _: &[u8], _: &[Case]) -> Done<String> {
+            Ok(self.0.to_string())
+        }
+
+        fn tally(&self, _: &[u8], _: &[u8], _: &[u8]) -> Done<String> {
             Ok(self.0.to_string())
         }
     }
