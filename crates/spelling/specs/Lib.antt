@@ -1,4 +1,5 @@
 pub mod Spelling
+pub mod Layout
 pub mod Pieces
 pub mod Moves
 pub mod Texts
