@@ -6,3 +6,4 @@ pub mod Inner
 pub mod Pieced
 pub mod MoveLaws
 pub mod Texts
+pub mod Printed
