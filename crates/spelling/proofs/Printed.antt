@@ -1,34 +1,32 @@
 -- How words are printed, production by production of the grammar. Assumes nothing.
 use mathlib.Core.Path.{_≡_, refl, ap, _∙_, sym, subst}
-use mathlib.Core.Bool.{Bool, true, false, cond, _||_, _&&_}
+use mathlib.Core.Bool.{Bool, true, false}
 use mathlib.Core.List.{List, [], _∷_, _++_, append-assoc, append-nil}
 use mathlib.Core.Option.{Option, some}
 use Prim.Native.Nat.{ℕ, zero, suc, _+_, _-_, _≤_, _<_}
 use native.Mathlib.Omega.{arith}
-use lib.Dec.{eqb, leb}
-use lib.ListN.{length, getD, take, drop, length-append}
+use lib.ListN.{length, drop, length-append}
 use lib.Seq.{take-append-seam, drop-append-seam, drop-drop}
-use borrow.Author.Tests.{eqb-true, eq-eqb, leb-true, le-leb, ltb-true, lt-ltb}
+use borrow.Author.Tests.{eq-eqb, le-leb, lt-ltb}
 use Rattle.slices.specs.Ascii.{bytes}
-use Rattle.slices.specs.Parts.{Begins}
 use Rattle.tokens.specs.Blanks.{unblanked}
 use Rattle.tokens.specs.Kinds as kinds
-use Rattle.tokens.specs.Forms.{All, quote, Number, digits, sizeOf, mostOf}
+use Rattle.tokens.specs.Forms.{All, quote, digits}
 use Rattle.tokens.specs.declared.classes.Sort.the-variants.{Blanks}
 use Rattle.reading.specs.Lexemes.{Lexeme, is, size}
-use Rattle.reading.specs.Reads.{Reading, Chain, Chain.alone, Chain.more, Onto, Onto.onto, Before, Before.ended, After, After.begun}
+use Rattle.reading.specs.Reads.{Reading, Chain, Chain.alone, Chain.more, Onto.onto, Before, Before.ended, After, After.begun}
 use Rattle.grammar.specs.Policies.{Comparator.Equal, Comparator.NotEqual, Comparator.More, Comparator.AtLeast, Comparator.Less, Comparator.AtMost}
 use Rattle.grammar.specs.Policies.{Span, span, Root, Root.Principal, Root.Resource, Root.Env, Root.Action, Comparator, LiteralOf, Literal, text, number, attribute, literal, TreeOf, Tree}
-use Rattle.grammar.specs.Policies.{OperandOf, compare, within, both, Part, PartOf, any, pinned, Actions, ActionsOf, oneOf, PolicyOf, Policy}
+use Rattle.grammar.specs.Policies.{OperandOf, Operand, compare, within, both, PartOf, any, pinned, ActionsOf, oneOf, PolicyOf}
 use Rattle.grammar.specs.Rules.{isRoot, rootOf, isLiteral, literalOf, isComparator, comparatorOf, admitted, isEffect, spanOf, principalTypes}
-use Rattle.grammar.specs.Grammar.{sizes, Path, APath, rooted, Attribute, AnOperand, given, Element, element, Literals, Listing, Simple, comparison, held, Joined, Condition, Conjunction, Conditions}
+use Rattle.grammar.specs.Grammar.{sizes, Path, APath, rooted, Attribute, AnOperand, given, Element, element, Listing, Simple, comparison, held, Joined, Condition, Conjunction, Conditions}
 use Rattle.grammar.specs.Grammar.{Typed, ResourceRest, ActionRest, When, PolicyRest}
 use Rattle.grammar.specs.Grammar as grammar
-use Rattle.placing.specs.Placed.{bytesAt, quotedAt, pathAt, IsName}
+use Rattle.placing.specs.Placed.{bytesAt, quotedAt, pathAt}
 use Rattle.placing.specs.Said.{Word, literalWords, listWords, operandWords, treeWords, partWords, actionWords, conditionWords, policyWords, wordsOf}
 use Rattle.placing.proofs.Paths.{unblanked-append, unblanked-blanks, unblanked-name, lone-dot}
 use Rattle.spelling.specs.Layout.{Written, written, laidOut, readAs, lexemeOf, standing, WellWritten, none, one}
-use Rattle.spelling.specs.Printing.{HasAt, OfKind, PrintsAt, Prints, PrintsLiteral, PrintsList, PrintsPath, quoted, markOf, markKind, rootKind, effectKind, RootedPath, rootedWords, PrintsText}
+use Rattle.spelling.specs.Printing.{HasAt, OfKind, PrintsAt, Prints, PrintsLiteral, PrintsList, PrintsPath, quoted, markKind, rootKind, effectKind, RootedPath, rootedWords, PrintsText}
 use Rattle.spelling.specs.Printing as printing
 use Rattle.spelling.proofs.Laid.{read-fitting}
 
@@ -91,12 +89,73 @@ module _ {text : List ℕ} {at : ℕ} (x : Written) (xs : List Written) (h : Has
   unfolding laidOut
   has-behind = has-right (x .bytes) (laidOut xs) (has-right (x .blanks) (x .bytes ++ laidOut xs) h)
 
--- ---- a token before or behind what is printed
+-- ---- what is printed, alone, before or behind a token, and with another
 
-module _ {A B : Type 0} {R : Reading A} {words : List ℕ → A → B} {xs : List Written} {w : B} (p : Prints R words xs w) {k : ℕ} {x : Written} (e : OfKind k x) where
-  pub prints-before : Prints (Before k R) words (xs ++ x ∷ []) w
+-- what stands behind a token in the middle
+module _ (xs : List Written) (x : Written) (ys : List Written) where
+  -- the place behind it, and the tokens
+  abbrev pastToken : ℕ → ℕ
+  pastToken at = past at xs + length (x .blanks) + length (x .bytes)
+
+  tokens-around : (at : ℕ) (r : List Lexeme)
+      → standing at (xs ++ (x ∷ ys)) ++ r ≡ standing at xs ++ (lexemeOf (past at xs) x ∷ (standing (pastToken at) ys ++ r))
   unfolding standing
-  prints-before = record { anywhere = go }
+  tokens-around at r = standing-then at xs (x ∷ ys) r
+
+  has-last : {t : List ℕ} {at : ℕ} → HasAt t at (laidOut (xs ++ (x ∷ ys))) → HasAt t (pastToken at) (laidOut ys)
+  has-last h = has-behind x ys (has-then xs (x ∷ ys) h)
+
+module _ {A B C D : Type 0} {R : Reading A} {S : Reading C} {words : List ℕ → A → B} {wordsIn : List ℕ → C → D} (f : A → C) (g : B → D)
+    (said : (t : List ℕ) (a : A) → wordsIn t (f a) ≡ g (words t a)) {xs : List Written} {w : B} (p : Prints R words xs w) where
+  -- what R reads is read by S as f of it
+  pub prints-onto : ((i r : List Lexeme) (a : A) → R i r a → S i r (f a)) → Prints S wordsIn xs (g w)
+  prints-onto h = record { anywhere = go }
+    where
+      go : (at : ℕ) (r : List Lexeme) → PrintsAt S wordsIn xs (g w) at r
+      go at r =
+          let here = p .anywhere at r in
+          record { what = f (here .what); reads = h _ r _ (here .reads); says = λ t b. said t (here .what) ∙ ap g (here .says t b) }
+
+  -- the same behind a token of the kind k
+  pub prints-led : {k : ℕ} {x : Written} → OfKind k x → ((y : Lexeme) (i r : List Lexeme) (a : A) → y .kind ≡ k → R i r a → S (y ∷ i) r (f a))
+      → Prints S wordsIn (x ∷ xs) (g w)
+  unfolding standing
+  prints-led {k} {x} e h = record { anywhere = go }
+    where
+      go : (at : ℕ) (r : List Lexeme) → PrintsAt S wordsIn (x ∷ xs) (g w) at r
+      go at r =
+          let here = p .anywhere (at + length (x .blanks) + length (x .bytes)) r in
+          record {
+            what = f (here .what);
+            reads = h (lexemeOf at x) _ r _ (e .read-as) (here .reads);
+            says = λ t b. said t (here .what) ∙ ap g (here .says t (has-behind x xs b));
+          }
+
+-- two of them with a token of the kind k between
+pub prints-around : {A B C D E F : Type 0} {R : Reading A} {S : Reading C} {T : Reading E} {words₁ : List ℕ → A → B} {words₂ : List ℕ → C → D}
+    {words : List ℕ → E → F} (f : A → C → E) (g : B → D → F) → ((t : List ℕ) (a : A) (c : C) → words t (f a c) ≡ g (words₁ t a) (words₂ t c))
+    → {xs ys : List Written} {x : Written} {v : B} {w : D} {k : ℕ} → Prints R words₁ xs v → OfKind k x → Prints S words₂ ys w
+    → ((y : Lexeme) (i m r : List Lexeme) (a : A) (c : C) → y .kind ≡ k → R i (y ∷ m) a → S m r c → T i r (f a c))
+    → Prints T words (xs ++ (x ∷ ys)) (g v w)
+prints-around {T = T} {words = words} f g said {xs} {ys} {x} {v} {w} p e q h = record { anywhere = go }
+  where
+    go : (at : ℕ) (r : List Lexeme) → PrintsAt T words (xs ++ (x ∷ ys)) (g v w) at r
+    go at r =
+        let sign = lexemeOf (past at xs) x in
+        let right = q .anywhere (pastToken xs x ys at) r in
+        let left = p .anywhere at (sign ∷ (standing (pastToken xs x ys at) ys ++ r)) in
+        record {
+          what = f (left .what) (right .what);
+          reads = rw (tokens-around xs x ys at r) (h sign _ _ r _ _ (e .read-as) (left .reads) (right .reads));
+          says = λ t b.
+              said t (left .what) (right .what) ∙ rw (left .says t (has-first xs (x ∷ ys) b), right .says t (has-last xs x ys b));
+        }
+
+module _ {A B : Type 0} {R : Reading A} {words : List ℕ → A → B} {xs : List Written} {w : B} (p : Prints R words xs w) where
+  -- a token of the kind k behind it, or before it
+  pub prints-before : {k : ℕ} {x : Written} → OfKind k x → Prints (Before k R) words (xs ++ x ∷ []) w
+  unfolding standing
+  prints-before {k} {x} e = record { anywhere = go }
     where
       go : (at : ℕ) (r : List Lexeme) → PrintsAt (Before k R) words (xs ++ x ∷ []) w at r
       go at r =
@@ -107,14 +166,12 @@ module _ {A B : Type 0} {R : Reading A} {words : List ℕ → A → B} {xs : Lis
             says = λ t h. here .says t (has-first xs (x ∷ []) h);
           }
 
-  pub prints-after : Prints (After k R) words (x ∷ xs) w
-  unfolding standing
-  prints-after = record { anywhere = go }
-    where
-      go : (at : ℕ) (r : List Lexeme) → PrintsAt (After k R) words (x ∷ xs) w at r
-      go at r =
-          let here = p .anywhere (at + length (x .blanks) + length (x .bytes)) r in
-          record { what = here .what; reads = begun (e .read-as) (here .reads); says = λ t h. here .says t (has-behind x xs h) }
+  pub prints-after : {k : ℕ} {x : Written} → OfKind k x → Prints (After k R) words (x ∷ xs) w
+  prints-after e = prints-led (λ a. a) (λ b. b) (λ t a. refl) p e (λ y i r a. begun)
+
+  -- what R reads is what S does
+  pub prints-as : {S : Reading A} → ((i r : List Lexeme) (a : A) → R i r a → S i r a) → Prints S words xs w
+  prints-as h = prints-onto (λ a. a) (λ b. b) (λ t a. refl) p h
 
 -- ---- literals
 
@@ -282,26 +339,10 @@ prints-attribute {root} {x} {d} {b} {xs} {p} n e f k h = record { anywhere = go 
           says = λ t q. ap (λ (w : Word). (root, w)) (path-says t start k (has-behind d xs (has-behind x (d ∷ xs) q)));
         }
 
--- what is read of one sort is read of another
-pub prints-as : {A B : Type 0} {R S : Reading A} {words : List ℕ → A → B} {xs : List Written} {w : B}
-    → ((i r : List Lexeme) (a : A) → R i r a → S i r a) → Prints R words xs w → Prints S words xs w
-prints-as {R = R} {S = S} {words = words} {xs = xs} {w = w} f p = record { anywhere = go }
-  where
-    go : (at : ℕ) (r : List Lexeme) → PrintsAt S words xs w at r
-    go at r = let here = p .anywhere at r in record { what = here .what; reads = f _ _ _ (here .reads); says = here .says }
-
+-- an attribute is an operand
 pub prints-given : {xs : List Written} {root : Root} {p : Word} → Prints RootedPath rootedWords xs (root, p) → Prints (AnOperand sizes) operandWords xs (attribute root p)
 unfolding operandWords
-prints-given {xs} {root} {p} k = record { anywhere = go }
-  where
-    go : (at : ℕ) (r : List Lexeme) → PrintsAt (AnOperand sizes) operandWords xs (attribute root p) at r
-    go at r =
-        let here = k .anywhere at r in
-        record {
-          what = attribute (here .what .0) (here .what .1);
-          reads = given (here .reads);
-          says = λ t h. ap (λ (a : Root × Word). attribute (a .0) (a .1)) (here .says t h);
-        }
+prints-given k = prints-onto (λ (a : Root × Span). attribute (a .0) (a .1)) (λ (a : Root × Word). attribute (a .0) (a .1)) (λ t a. refl) k (λ i r a h. given h)
 
 -- ---- conditions that hold no other
 
@@ -315,85 +356,42 @@ mark-is AtLeast x e = (rw e, rw e)
 mark-is Less x e = (rw e, rw e)
 mark-is AtMost x e = (rw e, rw e)
 
--- what stands behind a token in the middle
-module _ (xs : List Written) (x : Written) (ys : List Written) where
-  -- the place behind it, and the tokens
-  abbrev pastToken : ℕ → ℕ
-  pastToken at = past at xs + length (x .blanks) + length (x .bytes)
-
-  tokens-around : (at : ℕ) (r : List Lexeme)
-      → standing at (xs ++ (x ∷ ys)) ++ r ≡ standing at xs ++ (lexemeOf (past at xs) x ∷ (standing (pastToken at) ys ++ r))
-  unfolding standing
-  tokens-around at r = standing-then at xs (x ∷ ys) r
-
-  has-last : {t : List ℕ} {at : ℕ} → HasAt t at (laidOut (xs ++ (x ∷ ys))) → HasAt t (pastToken at) (laidOut ys)
-  has-last h = has-behind x ys (has-then xs (x ∷ ys) h)
-
 module _ {xs ys : List Written} {x : Written} {a : OperandOf Word} (p : Prints (AnOperand sizes) operandWords xs a) where
   -- two operands with a comparator
   pub prints-comparison : {c : Comparator} {b : OperandOf Word} → OfKind (markKind c) x → Prints (AnOperand sizes) operandWords ys b
       → Prints (Simple sizes) treeWords (xs ++ (x ∷ ys)) (compare c a b)
   unfolding treeWords
-  prints-comparison {c} {b} e q = record { anywhere = go }
+  prints-comparison {c} e q = prints-around (compare c) (compare c) (λ t a b. refl) p e q reads
     where
-      go : (at : ℕ) (r : List Lexeme) → PrintsAt (Simple sizes) treeWords (xs ++ (x ∷ ys)) (compare c a b) at r
-      go at r =
-          let sign = lexemeOf (past at xs) x in
-          let is-sign = mark-is c sign (e .read-as) in
-          let right = q .anywhere (pastToken xs x ys at) r in
-          let left = p .anywhere at (sign ∷ (standing (pastToken xs x ys at) ys ++ r)) in
-          let whole = comparison (left .reads) (is-sign .0) (right .reads) in
-          record {
-            what = compare c (left .what) (right .what);
-            reads = rw (tokens-around xs x ys at r) (rw (is-sign .1) at whole);
-            says = λ t h. rw (left .says t (has-first xs (x ∷ ys) h), right .says t (has-last xs x ys h));
-          }
+      reads : (y : Lexeme) (i m r : List Lexeme) (a b : Operand) → y .kind ≡ markKind c → AnOperand sizes i (y ∷ m) a → AnOperand sizes m r b
+          → Simple sizes i r (compare c a b)
+      reads y i m r a b h j k = let sign = mark-is c y h in rw (sign .1) at (comparison j (sign .0) k)
 
   -- an operand `in` an attribute
   pub prints-within : {root : Root} {s : Word} → OfKind kinds.inWord x → Prints RootedPath rootedWords ys (root, s)
       → Prints (Simple sizes) treeWords (xs ++ (x ∷ ys)) (within a root s)
   unfolding treeWords
-  prints-within {root} {s} e q = record { anywhere = go }
-    where
-      go : (at : ℕ) (r : List Lexeme) → PrintsAt (Simple sizes) treeWords (xs ++ (x ∷ ys)) (within a root s) at r
-      go at r =
-          let right = q .anywhere (pastToken xs x ys at) r in
-          let left = p .anywhere at (lexemeOf (past at xs) x ∷ (standing (pastToken xs x ys at) ys ++ r)) in
-          record {
-            what = within (left .what) (right .what .0) (right .what .1);
-            reads = rw (tokens-around xs x ys at r) (held (left .reads) (e .read-as) (right .reads));
-            says = λ t h. rw (left .says t (has-first xs (x ∷ ys) h)) (ap (λ (d : Root × Word). within a (d .0) (d .1)) (right .says t (has-last xs x ys h)));
-          }
+  prints-within e q =
+      prints-around (λ a (d : Root × Span). within a (d .0) (d .1)) (λ a (d : Root × Word). within a (d .0) (d .1)) (λ t a d. refl) p e q
+      (λ y i m r a d h j k. held j h k)
 
 -- ---- conditions
 
 -- one that holds no other
 pub prints-simple : (d : ℕ) {xs : List Written} {c : TreeOf Word} → Prints (Simple sizes) treeWords xs c → Prints (Condition sizes d) treeWords xs c
-prints-simple zero p = prints-as (λ i r a h. grammar.ConditionOver.simple h) p
-prints-simple (suc d) p = prints-as (λ i r a h. grammar.ConditionOver.simple h) p
+prints-simple zero p = prints-as p (λ i r a h. grammar.ConditionOver.simple h)
+prints-simple (suc d) p = prints-as p (λ i r a h. grammar.ConditionOver.simple h)
 
 -- the first of a chain
 pub prints-alone : {A B : Type 0} {Sep : A → Lexeme → Bool} {First : Reading A} {Next : A → Lexeme → Reading A} {words : List ℕ → A → B}
     {xs : List Written} {w : B} → Prints First words xs w → Prints (Chain Sep First Next) words xs w
-prints-alone p = prints-as (λ i r a h. alone h) p
+prints-alone p = prints-as p (λ i r a h. alone h)
 
 -- one more, joined from the left
 pub prints-joined : {sep : ℕ} {join : Tree → Tree → Tree} (joined : TreeOf Word → TreeOf Word → TreeOf Word) {C : Reading Tree}
     {xs ys : List Written} {x : Written} {a b : TreeOf Word} → ((t : List ℕ) (c d : Tree) → treeWords t (join c d) ≡ joined (treeWords t c) (treeWords t d))
     → Prints (Joined sep join C) treeWords xs a → OfKind sep x → Prints C treeWords ys b → Prints (Joined sep join C) treeWords (xs ++ (x ∷ ys)) (joined a b)
-prints-joined {sep} {join} joined {C} {xs} {ys} {x} {a} {b} f p e q = record { anywhere = go }
-  where
-    go : (at : ℕ) (r : List Lexeme) → PrintsAt (Joined sep join C) treeWords (xs ++ (x ∷ ys)) (joined a b) at r
-    go at r =
-        let right = q .anywhere (pastToken xs x ys at) r in
-        let left = p .anywhere at (lexemeOf (past at xs) x ∷ (standing (pastToken xs x ys at) ys ++ r)) in
-        record {
-          what = join (left .what) (right .what);
-          reads = rw (tokens-around xs x ys at r) (more (left .reads) (eq-eqb _ sep (e .read-as)) (onto (right .reads)));
-          says = λ t h.
-              f t (left .what) (right .what)
-              ∙ rw (left .says t (has-first xs (x ∷ ys) h), right .says t (has-last xs x ys h));
-        }
+prints-joined {sep} {join} joined said p e q = prints-around join joined said p e q (λ y i m r a b h j k. more j (eq-eqb (y .kind) sep h) (onto k))
 
 -- joined by `&&`
 pub prints-both : {C : Reading Tree} {xs ys : List Written} {x : Written} {a b : TreeOf Word} → Prints (Conjunction C) treeWords xs a → OfKind kinds.and x
@@ -482,31 +480,13 @@ prints-pinned {x} {b} s e h = record { anywhere = go }
 pub prints-actions : {x : Written} {xs : List Written} {ls : List (LiteralOf Word)} → OfKind kinds.inWord x
     → Prints (Listing sizes (is kinds.string)) listWords xs ls → Prints (ActionRest sizes) actionWords (x ∷ xs) (oneOf ls)
 unfolding standing actionWords
-prints-actions {x} {xs} {ls} e p = record { anywhere = go }
-  where
-    go : (at : ℕ) (r : List Lexeme) → PrintsAt (ActionRest sizes) actionWords (x ∷ xs) (oneOf ls) at r
-    go at r =
-        let here = p .anywhere (at + length (x .blanks) + length (x .bytes)) r in
-        record {
-          what = oneOf (here .what);
-          reads = grammar.ActionRest.list (e .read-as) (here .reads);
-          says = λ t h. ap oneOf (here .says t (has-behind x xs h));
-        }
+prints-actions e p = prints-led oneOf oneOf (λ t a. refl) p e (λ y i r a. grammar.ActionRest.list)
 
 -- `when` and a condition in braces
 pub prints-when : {x : Written} {xs : List Written} {c : TreeOf Word} → OfKind kinds.whenWord x
     → Prints (After kinds.leftBrace (Before kinds.rightBrace (Conditions sizes))) treeWords xs c → Prints (When sizes) conditionWords (x ∷ xs) (some c)
 unfolding standing conditionWords
-prints-when {x} {xs} {c} e p = record { anywhere = go }
-  where
-    go : (at : ℕ) (r : List Lexeme) → PrintsAt (When sizes) conditionWords (x ∷ xs) (some c) at r
-    go at r =
-        let here = p .anywhere (at + length (x .blanks) + length (x .bytes)) r in
-        record {
-          what = some (here .what);
-          reads = grammar.When.braces (e .read-as) (here .reads);
-          says = λ t h. ap (λ (d : TreeOf Word). some d) (here .says t (has-behind x xs h));
-        }
+prints-when e p = prints-led (λ a. some a) (λ a. some a) (λ t a. refl) p e (λ y i r a. grammar.When.braces)
 
 -- a policy behind its effect: the three parts of its target, and its condition
 pub prints-policy : {permits : Bool} {ps os rs cs : List Written} {p s : PartOf Word} {a : ActionsOf Word} {c : Option (TreeOf Word)}
