@@ -64,6 +64,15 @@ pub read-fitting : (kind : ℕ) (p : List ℕ) → sizeOf kind p ≤ mostOf kind
 unfolding readAs
 read-fitting kind p f = rw (le-leb (sizeOf kind p) (mostOf kind) f)
 
+-- and what is read as no refusal is within its size
+pub read-sized : (kind : ℕ) (p : List ℕ) → 7 ≤ readAs kind p → sizeOf kind p ≤ mostOf kind
+unfolding readAs
+read-sized kind p = go (leb (sizeOf kind p) (mostOf kind)) refl
+  where
+    go : (t : Bool) → leb (sizeOf kind p) (mostOf kind) ≡ t → 7 ≤ cond t kind kinds.tooLong → sizeOf kind p ≤ mostOf kind
+    go true e h = leb-true (sizeOf kind p) (mostOf kind) e
+    go false e h = absurd (omega arith)
+
 -- a form behind blanks, and the list from its end on
 pub form-next : (text pre : List ℕ) {at kind : ℕ} {b p : List ℕ} (q : List ℕ) {ts : List Lexeme} → text ≡ pre ++ (b ++ (p ++ q)) → at ≡ length pre
     → All Blanks b → Longest kind p (p ++ q) → TokensOf text (at + length b + length p) ts

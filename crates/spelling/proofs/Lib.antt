@@ -6,4 +6,5 @@ pub mod Inner
 pub mod Pieced
 pub mod MoveLaws
 pub mod Texts
+pub mod Fixed
 pub mod Printed

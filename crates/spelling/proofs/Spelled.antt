@@ -1,6 +1,6 @@
 -- A text that is laid out token by token has these tokens, also one of them with single blanks between, and every text of well formed tokens can be spelled so.
 -- Assumes nothing.
-use mathlib.Core.Path.{_≡_, refl, ap, _∙_}
+use mathlib.Core.Path.{_≡_, refl, ap, _∙_, subst}
 use mathlib.Core.List.{List, [], _∷_, _++_, append-nil, map}
 use Prim.Native.Nat.{ℕ, _+_}
 use native.Mathlib.Omega.{arith}
@@ -9,11 +9,15 @@ use Rattle.tokens.specs.Bytes.{classOf}
 use Rattle.tokens.specs.Forms.{All, empty, next}
 use Rattle.tokens.specs.declared.classes.Sort.the-variants.{Blanks}
 use Rattle.reading.specs.Lexemes.{Lexeme, tokensOf, TokensOf}
-use Rattle.reading.proofs.Listed.{tokens-are}
+use Rattle.reading.proofs.Listed.{tokens-are, one-list}
+use Rattle.grammar.specs.Policies.{Policy}
+use Rattle.grammar.specs.Grammar.{RuleText, sizes, SaysPolicies}
+use Rattle.placing.specs.Placed.{Each, none-left, and-each}
 use Rattle.spelling.specs.Spelling.{Spelling, said, saidBy, calm}
-use Rattle.spelling.specs.Layout.{Written, laidOut, standing, WellWritten, none, one, singly, spelled}
+use Rattle.spelling.specs.Layout.{Written, laidOut, standing, WellWritten, none, one, Sized, singly, spelled}
 use Rattle.spelling.proofs.Apart.{form-longest, calm-apart}
-use Rattle.spelling.proofs.Laid.{Laid, Laid.blank, Laid.before, Fine, read-fitting, form-next, behind-token, laid-stand, tokens-laid}
+use Rattle.spelling.proofs.Laid.{Laid, Laid.blank, Laid.before, Fine, fine, read-fitting, read-sized, form-next, behind-token, laid-stand, tokens-laid}
+use Rattle.spelling.proofs.Pieced.{text-fine}
 
 -- ---- a text that is laid out has the tokens that it is laid out with
 
@@ -35,6 +39,19 @@ laid-out-stand {xs} w = well-stand (laidOut xs) [] refl refl w
 -- so they are what is read of it
 pub tokens-laid-out : {xs : List Written} → WellWritten xs [] → tokensOf (laidOut xs) ≡ standing 0 xs
 tokens-laid-out {xs} w = tokens-are (laidOut xs) (laid-out-stand w)
+
+-- where none of them is refused, each is within its size
+fine-sized : (at : ℕ) (xs : List Written) → Fine (standing at xs) → Each Sized xs
+unfolding standing
+fine-sized at [] f = none-left
+fine-sized at (x ∷ xs) (fine h f) =
+    and-each (record { within = read-sized (x .kind) (x .bytes) h }) (fine-sized (at + length (x .blanks) + length (x .bytes)) xs f)
+
+-- as where they are a rule text
+pub text-sized : {xs : List Written} {ps : List Policy} → WellWritten xs [] → SaysPolicies (laidOut xs) ps → Each Sized xs
+text-sized {xs} {ps} w s =
+    let same : s .tokens ≡ standing 0 xs = one-list (laidOut xs) (s .listed) (laid-out-stand w) in
+    fine-sized 0 xs (text-fine (subst (λ (l : List Lexeme). RuleText sizes l ps) same (s .belongs)))
 
 -- ---- with single blanks
 

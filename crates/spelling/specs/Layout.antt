@@ -2,7 +2,7 @@
 use mathlib.Core.Path.{_≡_}
 use mathlib.Core.Bool.{true, cond}
 use mathlib.Core.List.{List, [], _∷_, _++_}
-use Prim.Native.Nat.{ℕ, _+_}
+use Prim.Native.Nat.{ℕ, _+_, _≤_}
 use Prim.Native.Char.{code}
 use lib.Dec.{leb}
 use lib.ListN.{length, getD}
@@ -46,6 +46,10 @@ pub data WellWritten : List Written → List ℕ → Type 0 where
   none : {q : List ℕ} → WellWritten [] q
   one : {x : Written} {xs : List Written} {q : List ℕ} → All Blanks (x .blanks) → Form (x .kind) (x .bytes)
       → apart (x .bytes) (getD (laidOut xs ++ q) 0 0) ≡ true → WellWritten xs q → WellWritten (x ∷ xs) q
+
+-- a token that is within its kind's size
+pub record Sized (x : Written) : Type 0 where
+  pub within : sizeOf (x .kind) (x .bytes) ≤ mostOf (x .kind)
 
 -- tokens with single blanks between them, the first behind the blanks b
 unfoldable pub singly : List ℕ → List Spelling → List Written
