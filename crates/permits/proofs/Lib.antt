@@ -1,1 +1,3 @@
 pub mod Means
+pub mod Values
+pub mod Tests
