@@ -1,3 +1,4 @@
 pub mod Means
 pub mod Values
 pub mod Tests
+pub mod Says

@@ -195,7 +195,7 @@ test-laid (comparison {path} {n} {c} i o m) =
 -- ---- things with others between them
 
 -- each of them behind the others' mark
-pub afterEach : {A : Type 0} → List ℕ → (A → List ℕ) → List A → List ℕ
+unfoldable pub afterEach : {A : Type 0} → List ℕ → (A → List ℕ) → List A → List ℕ
 afterEach sep f [] = []
 afterEach sep f (x ∷ xs) = sep ++ (f x ++ afterEach sep f xs)
 

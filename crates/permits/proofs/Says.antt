@@ -1,0 +1,169 @@
+-- What is written of a lock is laid out of a permit's tokens, so it says this permit, unless a value or a number is beyond its size. Assumes nothing.
+use mathlib.Core.Path.{_≡_, refl, ap, _∙_, sym}
+use mathlib.Core.Bool.{true}
+use mathlib.Core.List.{List, [], _∷_, _++_, append-assoc, append-nil, map, List·Memᴰ, List·Memᴰ·head, List·Memᴰ·tail, List·Memᴰ·cases-cons, List·Memᴰ·not-nil}
+use mathlib.Core.Logic.{⊎-elim}
+use mathlib.Core.Option.{some}
+use Prim.Native.Nat.{ℕ, _+_, _*_, _≤_}
+use native.Mathlib.Omega.{arith}
+use lib.ListN.{length, getD, length-append, length-map}
+use Rattle.slices.specs.Ascii.{bytes}
+use Rattle.tokens.specs.Kinds as kinds
+use Rattle.tokens.specs.Forms.{empty, next, quote, a-string, digits}
+use Rattle.reading.specs.Lexemes.{is}
+use Rattle.reading.specs.Reads.{Before, After}
+use Rattle.grammar.specs.Policies.{Policy, LiteralOf, text, TreeOf, oneOf, pinned}
+use Rattle.grammar.specs.Grammar.{sizes, ActionRest, ResourceRest, When, SaysPolicies}
+use Rattle.placing.specs.Placed.{Each, none-left, and-each, IsPath}
+use Rattle.placing.specs.Said.{Word, partWords, actionWords, conditionWords, wordsOf}
+use Rattle.placing.proofs.EachLaws.{each-first, each-rest, each-left, each-right, each-as}
+use Rattle.spelling.specs.Spelling.{calm}
+use Rattle.spelling.specs.Layout.{Written, written, laidOut, standing, WellWritten, none, one, Sized}
+use Rattle.spelling.specs.Printing.{OfKind, Prints, PrintsList, PrintsText, effectKind}
+use Rattle.spelling.specs.Printing as printing
+use Rattle.spelling.proofs.Spelled.{laid-out-stand, text-sized}
+use Rattle.spelling.proofs.Fixed.{well-fixed, well-calm, written-opened}
+use Rattle.spelling.proofs.Printed.{laid-append, well-append, prints-string, prints-list, prints-before, prints-after, prints-alone, prints-bare, prints-pinned}
+use Rattle.spelling.proofs.Printed.{prints-actions, prints-when, prints-policy, prints-text}
+use Rattle.permits.specs.Permits.{Test, equal, member, order, quoted, between, testText, permitText, permitPolicy, testTree, joinedTo}
+use Rattle.permits.specs.Meaning.{AString, Formed, equality, membership, comparison, Fits, equal-fits, member-fits, order-fits, Made}
+use Rattle.permits.specs.Promise.{AllFit, SaysPermit, PermitSays, OnlySizes}
+use Rattle.permits.proofs.Tests.{afterEach, between-is, JoinedLaid, condition-laid}
+
+-- a blank
+abbrev space : List ℕ
+space = bytes " "
+
+-- ---- each of a list
+
+each-in : {A : Type 0} {P : A → Type 0} (l : List A) → ((x : A) → List·Memᴰ x l → P x) → Each P l
+each-in [] f = none-left
+each-in (x ∷ l) f = and-each (f x (List·Memᴰ·head refl)) (each-in l (λ y m. f y (List·Memᴰ·tail m)))
+
+each-of : {A : Type 0} {P : A → Type 0} {l : List A} → Each P l → (x : A) → List·Memᴰ x l → P x
+each-of none-left x m = absurd (List·Memᴰ·not-nil m)
+each-of {P = P} (and-each {a = a} {l = l} p h) x m = ⊎-elim (λ (e : x ≡ a). rw e p) (λ (n : List·Memᴰ x l). each-of h x n) (List·Memᴰ·cases-cons m)
+
+-- ---- the actions
+
+record ListLaid (l : List ℕ) (ls : List (LiteralOf Word)) : Type 0 where
+  tokens : List Written
+  laid : laidOut tokens ≡ l
+  well : (q : List ℕ) → calm (getD q 0 0) ≡ true → WellWritten tokens q
+  prints : PrintsList (is kinds.string) tokens ls
+
+first-action : {a : Word} → AString a → ListLaid (quoted a) (text a ∷ [])
+unfolding written-opened
+first-action {a} s = record {
+  tokens = written [] kinds.string (quoted a) ∷ [];
+  laid = append-nil (quoted a);
+  well = λ q h. well-calm none empty (a-string (s .all)) h;
+  prints = printing.PrintsList.first (prints-string a (s .size));
+}
+
+next-action : {l : List ℕ} {ls : List (LiteralOf Word)} {a : Word} → ListLaid l ls → AString a
+    → ListLaid (l ++ (bytes ", " ++ quoted a)) (ls ++ text a ∷ [])
+unfolding written-opened
+next-action {a = a} j s =
+    let ys = written [] kinds.comma (bytes ",") ∷ written (bytes " ") kinds.string (quoted a) ∷ [] in
+    record {
+      tokens = j .tokens ++ ys;
+      laid = laid-append (j .tokens) ys ∙ rw (j .laid, append-nil (a ++ quote ∷ []));
+      well = λ q h. well-append (j .well (laidOut ys ++ q) refl) (well-fixed (well-calm none (next refl empty) (a-string (s .all)) h) refl);
+      prints = printing.PrintsList.more (j .prints) (record { read-as = refl }) (prints-string a (s .size));
+    }
+
+list-as : {l k : List ℕ} {ls ks : List (LiteralOf Word)} → l ≡ k → ls ≡ ks → ListLaid l ls → ListLaid k ks
+list-as e f j = record { tokens = j .tokens; laid = j .laid ∙ e; well = j .well; prints = rw f at (j .prints) }
+
+more-actions : {l : List ℕ} {ls : List (LiteralOf Word)} → ListLaid l ls → {os : List Word} → Each AString os
+    → ListLaid (l ++ afterEach (bytes ", ") quoted os) (ls ++ map text os)
+unfolding afterEach
+more-actions {l} {ls} j none-left = list-as (sym (append-nil l)) (sym (append-nil ls)) j
+more-actions {l} {ls} j (and-each {a = a} {l = os} s h) =
+    list-as (append-assoc l (bytes ", " ++ quoted a) (afterEach (bytes ", ") quoted os)) (append-assoc ls (text a ∷ []) (map text os))
+    (more-actions (next-action j s) h)
+
+actions-laid : {actions : List Word} → 1 ≤ length actions → Each AString actions → ListLaid (between (bytes ", ") (map quoted actions)) (map text actions)
+actions-laid h none-left = absurd (omega arith)
+actions-laid h (and-each {a = a} {l = os} s k) = list-as (sym (between-is (bytes ", ") quoted a os)) refl (more-actions (first-action s) k)
+
+-- ---- the parts of the permit
+
+-- ` action in [..],`
+module _ {l : List ℕ} {ls : List (LiteralOf Word)} (list : ListLaid l ls) where
+  actionTokens : List Written
+  actionTokens =
+      written space kinds.actionWord (bytes "action")
+      ∷ ((written space kinds.inWord (bytes "in") ∷ written space kinds.leftSquare (bytes "[") ∷ (list .tokens ++ written [] kinds.rightSquare (bytes "]") ∷ []))
+      ++ written [] kinds.comma (bytes ",") ∷ [])
+
+  action-laid : laidOut actionTokens ≡ bytes " action in [" ++ (l ++ bytes "],")
+  unfolding actionTokens written-opened
+  action-laid =
+      rw (laid-append (list .tokens ++ written [] kinds.rightSquare (bytes "]") ∷ []) (written [] kinds.comma (bytes ",") ∷ []),
+        laid-append (list .tokens) (written [] kinds.rightSquare (bytes "]") ∷ []),
+        list .laid)
+      (ap (λ (m : List ℕ). bytes " action in [" ++ m) (append-assoc l (bytes "]") (bytes ",")))
+
+  action-well : (q : List ℕ) → WellWritten actionTokens q
+  unfolding actionTokens written-opened
+  action-well q =
+      well-fixed (well-fixed (well-fixed
+      (well-append (well-append (list .well (bytes "]," ++ q) refl) (well-fixed none refl)) (well-fixed none refl)) refl) refl) refl
+
+  action-prints : length ls ≤ 16 → Prints (After kinds.actionWord (Before kinds.comma (ActionRest sizes))) actionWords actionTokens (oneOf ls)
+  unfolding actionTokens written-opened
+  action-prints h =
+      prints-after (prints-before (prints-actions (record { read-as = refl })
+      (prints-list (record { read-as = refl }) (list .prints) h (record { read-as = refl }))) (record { read-as = refl })) (record { read-as = refl })
+
+-- ` resource == ".." )`
+module _ (resource : Word) (s : AString resource) where
+  resourceTokens : List Written
+  resourceTokens =
+      written space kinds.resourceWord (bytes "resource")
+      ∷ ((written space kinds.equal (bytes "==") ∷ written space kinds.string (quoted resource) ∷ []) ++ written [] kinds.rightRound (bytes ")") ∷ [])
+
+  resource-laid : laidOut resourceTokens ≡ bytes " resource == " ++ (quoted resource ++ bytes ")")
+  unfolding resourceTokens written-opened
+  resource-laid = refl
+
+  resource-well : (q : List ℕ) → WellWritten resourceTokens q
+  unfolding resourceTokens written-opened
+  resource-well q = well-fixed (well-fixed (well-calm (well-fixed none refl) (next refl empty) (a-string (s .all)) refl) refl) refl
+
+  resource-prints : Prints (After kinds.resourceWord (Before kinds.rightRound ResourceRest)) partWords resourceTokens (pinned resource)
+  unfolding resourceTokens written-opened
+  resource-prints =
+      prints-after (prints-before (prints-pinned resource (record { read-as = refl }) (s .size)) (record { read-as = refl })) (record { read-as = refl })
+
+-- ` when {.. };`
+module _ {l : List ℕ} {c : TreeOf Word} {F : Type 0} (j : JoinedLaid l c F) where
+  whenTokens : List Written
+  whenTokens =
+      (written space kinds.whenWord (bytes "when") ∷ written space kinds.leftBrace (bytes "{") ∷ (j .tokens ++ written space kinds.rightBrace (bytes "}") ∷ []))
+      ++ written [] kinds.semicolon (bytes ";") ∷ []
+
+  when-laid : laidOut whenTokens ≡ bytes " when {" ++ (l ++ bytes " };")
+  unfolding whenTokens written-opened
+  when-laid =
+      rw (laid-append (j .tokens ++ written space kinds.rightBrace (bytes "}") ∷ []) (written [] kinds.semicolon (bytes ";") ∷ []),
+        laid-append (j .tokens) (written space kinds.rightBrace (bytes "}") ∷ []),
+        j .text)
+      (ap (λ (m : List ℕ). bytes " when {" ++ m) (append-assoc l (bytes " }") (bytes ";")))
+
+  when-well : (q : List ℕ) → WellWritten whenTokens q
+  unfolding whenTokens written-opened
+  when-well q =
+      well-fixed (well-fixed (well-append (well-append (j .well (bytes " };" ++ q) refl) (well-fixed none refl)) (well-fixed none refl)) refl) refl
+
+  when-prints : F → Prints (Before kinds.semicolon (When sizes)) conditionWords whenTokens (some c)
+  unfolding whenTokens written-opened
+  when-prints f =
+      prints-before (prints-when (record { read-as = refl })
+      (prints-after (prints-before (prints-alone (j .prints f)) (record { read-as = refl })) (record { read-as = refl }))) (record { read-as = refl })
+
+  when-fits : Each Sized whenTokens → F
+  unfolding whenTokens
+  when-fits e = j .fits (each-left (j .tokens) _ (each-left (j .tokens ++ written space kinds.rightBrace (bytes "}") ∷ []) _ (each-rest (each-rest e))))
