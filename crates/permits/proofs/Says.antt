@@ -167,3 +167,53 @@ module _ {l : List ℕ} {c : TreeOf Word} {F : Type 0} (j : JoinedLaid l c F) wh
   when-fits : Each Sized whenTokens → F
   unfolding whenTokens
   when-fits e = j .fits (each-left (j .tokens) _ (each-left (j .tokens ++ written space kinds.rightBrace (bytes "}") ∷ []) _ (each-rest (each-rest e))))
+
+-- ---- the permit
+
+record PermitLaid (actions : List Word) (resource : Word) (t : Test) (ts : List Test) : Type 0 where
+  tokens : List Written
+  laid : laidOut tokens ≡ permitText actions resource (t ∷ ts)
+  well : WellWritten tokens []
+  prints : Each Fits (t ∷ ts) → PrintsText tokens (permitPolicy actions resource t ts ∷ [])
+  fits : Each Sized tokens → Each Fits (t ∷ ts)
+
+-- `permit(principal,`
+abbrev headTokens : List Written
+headTokens = (written [] kinds.leftRound (bytes "(") ∷ written [] kinds.principalWord (bytes "principal") ∷ []) ++ written [] kinds.comma (bytes ",") ∷ []
+
+abbrev permitToken : Written
+permitToken = written [] kinds.permitWord (bytes "permit")
+
+parts-text : (os rs cs : List Written) (l r k : List ℕ) → laidOut os ≡ bytes " action in [" ++ (l ++ bytes "],")
+    → laidOut rs ≡ bytes " resource == " ++ (r ++ bytes ")") → laidOut cs ≡ bytes " when {" ++ ((space ++ k) ++ bytes " };")
+    → laidOut (permitToken ∷ (headTokens ++ (os ++ (rs ++ cs))))
+      ≡ bytes "permit(principal, action in [" ++ (l ++ (bytes "], resource == " ++ (r ++ (bytes ") when { " ++ (k ++ bytes " };")))))
+unfolding written-opened
+parts-text os rs cs l r k e f g =
+    let tail = bytes " when { " ++ (k ++ bytes " };") in
+    rw (laid-append os (rs ++ cs), laid-append rs cs, e, f, g, append-assoc r (bytes ")") tail, append-assoc l (bytes "],") (bytes " resource == " ++ (r ++ (bytes ")" ++ tail))))
+
+permit-laid : {actions : List Word} {resource : Word} {t : Test} {ts : List Test} → Made actions resource (t ∷ ts) → PermitLaid actions resource t ts
+unfolding written-opened permitText permitPolicy effectKind actionTokens resourceTokens whenTokens
+permit-laid {actions} {resource} {t} {ts} m =
+    let strings = actions-laid (m .some-actions) (each-in actions (m .actions-are)) in
+    let tests = condition-laid (each-in (t ∷ ts) (m .tests-are)) in
+    let os = actionTokens strings in
+    let rs = resourceTokens resource (m .resource-is) in
+    let cs = whenTokens tests in
+    let rest = os ++ (rs ++ cs) in
+    let few : length (map text actions) ≤ 16 = rw (length-map actions (λ (w : Word). text w)) (m .few-actions) in
+    record {
+      tokens = permitToken ∷ (headTokens ++ rest);
+      laid =
+          parts-text os rs cs (between (bytes ", ") (map quoted actions)) (quoted resource) (between (bytes " && ") (map testText (t ∷ ts)))
+          (action-laid strings) (resource-laid resource (m .resource-is)) (when-laid tests);
+      well = well-fixed (well-append (well-fixed (well-fixed (well-fixed none refl) refl) refl)
+          (well-append (action-well strings (laidOut (rs ++ cs) ++ [])) (well-append (resource-well resource (m .resource-is) (laidOut cs ++ [])) (when-well tests [])))) refl;
+      prints = λ f.
+          prints-text (record { read-as = refl })
+          (prints-policy
+          (prints-after (prints-after (prints-before prints-bare (record { read-as = refl })) (record { read-as = refl })) (record { read-as = refl }))
+          (action-prints strings few) (resource-prints resource (m .resource-is)) (when-prints tests f));
+      fits = λ e. when-fits tests (each-right rs cs (each-right os (rs ++ cs) (each-right headTokens rest (each-rest e))));
+    }
