@@ -1,10 +1,11 @@
 -- What is written of a lock is laid out of a permit's tokens, so it says this permit, unless a value or a number is beyond its size. Assumes nothing.
-use mathlib.Core.Path.{_≡_, refl, ap, _∙_, sym}
+use mathlib.Core.Path.{_≡_, refl, ap, _∙_, sym, subst}
 use mathlib.Core.Bool.{true}
 use mathlib.Core.List.{List, [], _∷_, _++_, append-assoc, append-nil, map, List·Memᴰ, List·Memᴰ·head, List·Memᴰ·tail, List·Memᴰ·cases-cons, List·Memᴰ·not-nil}
 use mathlib.Core.Logic.{⊎-elim}
 use mathlib.Core.Option.{some}
 use Prim.Native.Nat.{ℕ, _+_, _*_, _≤_}
+use native.Mathlib.Nat.{suc-mul}
 use native.Mathlib.Omega.{arith}
 use lib.ListN.{length, getD, length-append, length-map}
 use Rattle.slices.specs.Ascii.{bytes}
@@ -12,11 +13,15 @@ use Rattle.tokens.specs.Kinds as kinds
 use Rattle.tokens.specs.Forms.{empty, next, quote, a-string, digits}
 use Rattle.reading.specs.Lexemes.{is}
 use Rattle.reading.specs.Reads.{Before, After}
+use Rattle.grammar.specs.Policies.{Comparator, Comparator.Equal, Comparator.NotEqual, Comparator.More, Comparator.AtLeast, Comparator.Less, Comparator.AtMost}
 use Rattle.grammar.specs.Policies.{Policy, LiteralOf, text, TreeOf, oneOf, pinned}
 use Rattle.grammar.specs.Grammar.{sizes, ActionRest, ResourceRest, When, SaysPolicies}
 use Rattle.placing.specs.Placed.{Each, none-left, and-each, IsPath}
 use Rattle.placing.specs.Said.{Word, partWords, actionWords, conditionWords, wordsOf}
 use Rattle.placing.proofs.EachLaws.{each-first, each-rest, each-left, each-right, each-as}
+use Rattle.bags.specs.Paths.{isPath}
+use Rattle.meaning.specs.Paths.{PathsAlike}
+use Rattle.meaning.proofs.Paths.{paths-alike}
 use Rattle.spelling.specs.Spelling.{calm}
 use Rattle.spelling.specs.Layout.{Written, written, laidOut, standing, WellWritten, none, one, Sized}
 use Rattle.spelling.specs.Printing.{OfKind, Prints, PrintsList, PrintsText, effectKind}
@@ -25,9 +30,10 @@ use Rattle.spelling.proofs.Spelled.{laid-out-stand, text-sized}
 use Rattle.spelling.proofs.Fixed.{well-fixed, well-calm, written-opened}
 use Rattle.spelling.proofs.Printed.{laid-append, well-append, prints-string, prints-list, prints-before, prints-after, prints-alone, prints-bare, prints-pinned}
 use Rattle.spelling.proofs.Printed.{prints-actions, prints-when, prints-policy, prints-text}
-use Rattle.permits.specs.Permits.{Test, equal, member, order, quoted, between, testText, permitText, permitPolicy, testTree, joinedTo}
+use Rattle.permits.specs.Permits.{Test, quoted, markOf, between, testText, permitText, permitPolicy, testTree, joinedTo}
 use Rattle.permits.specs.Meaning.{AString, Formed, equality, membership, comparison, Fits, equal-fits, member-fits, order-fits, Made}
 use Rattle.permits.specs.Promise.{AllFit, SaysPermit, PermitSays, OnlySizes}
+use Rattle.permits.proofs.Values.{number-long}
 use Rattle.permits.proofs.Tests.{afterEach, between-is, JoinedLaid, condition-laid}
 
 -- a blank
@@ -217,3 +223,97 @@ permit-laid {actions} {resource} {t} {ts} m =
           (action-prints strings few) (resource-prints resource (m .resource-is)) (when-prints tests f));
       fits = λ e. when-fits tests (each-right rs cs (each-right os (rs ++ cs) (each-right headTokens rest (each-rest e))));
     }
+
+-- ---- its length
+
+path-few : (p : Word) → isPath p ≡ true → length p ≤ 64
+unfolding PathsAlike
+path-few p i = paths-alike p .0 i .1
+
+mark-few : (c : Comparator) → length (markOf c) ≤ 2
+unfolding markOf
+mark-few Equal = omega arith
+mark-few NotEqual = omega arith
+mark-few More = omega arith
+mark-few AtLeast = omega arith
+mark-few Less = omega arith
+mark-few AtMost = omega arith
+
+quoted-few : (s : Word) → length s ≤ 127 → length (quoted s) ≤ 129
+quoted-few s h = omega (arith, length-append s (quote ∷ []))
+
+-- a string with a comma and a blank, and a test with `&&` and its blanks
+abbrev Short : {A : Type 0} → ℕ → (A → List ℕ) → A → Type 0
+Short n f x = length (f x) ≤ n
+
+test-few : {t : Test} → Formed t → Fits t → length (testText t) ≤ 207
+unfolding testText
+test-few (equality {path} {value} i v) (equal-fits h) =
+    omega (arith, path-few path i, quoted-few value h, length-append path (bytes " == " ++ quoted value))
+test-few (membership {path} {value} i v) (member-fits h) =
+    omega (arith, path-few path i, quoted-few value h, length-append (quoted value) (bytes " in " ++ (bytes "principal." ++ path)))
+test-few (comparison {path} {n} {c} i o m) (order-fits h) =
+    omega (arith, path-few path i, mark-few c, number-long m, length-append path (space ++ (markOf c ++ (space ++ n))), length-append (markOf c) (space ++ n))
+
+-- things of at most m bytes with others between them
+module _ {A : Type 0} (sep : List ℕ) (f : A → List ℕ) (m n : ℕ) (fits : m + length sep ≤ n) where
+  after-few : {xs : List A} → Each (Short m f) xs → length (afterEach sep f xs) ≤ length xs * n
+  unfolding afterEach
+  after-few none-left = omega arith
+  after-few (and-each {a = x} {l = xs} h hs) =
+      let rest = after-few hs in
+      omega (arith, length-append sep (f x ++ afterEach sep f xs), length-append (f x) (afterEach sep f xs), suc-mul (length xs) n)
+
+  between-few : {xs : List A} → Each (Short m f) xs → length (between sep (map f xs)) ≤ length xs * n
+  unfolding between
+  between-few none-left = omega arith
+  between-few (and-each {a = x} {l = xs} h hs) =
+      let rest = after-few hs in
+      omega (arith, ap length (between-is sep f x xs), length-append (f x) (afterEach sep f xs), suc-mul (length xs) n)
+
+each-both : {A : Type 0} {P Q R : A → Type 0} {l : List A} → ((x : A) → P x → Q x → R x) → Each P l → Each Q l → Each R l
+each-both f none-left h = none-left
+each-both f (and-each p k) h = and-each (f _ p (each-first h)) (each-both f k (each-rest h))
+
+permit-few : {actions : List Word} {resource : Word} {tests : List Test} → Made actions resource tests → Each Fits tests
+    → length (permitText actions resource tests) ≤ 8192
+unfolding permitText
+permit-few {actions} {resource} {tests} m h =
+    let strings = between-few (bytes ", ") quoted 129 131 (omega arith) (each-as (λ a s. quoted-few a (s .size)) (each-in actions (m .actions-are))) in
+    let conditions = between-few (bytes " && ") testText 207 211 (omega arith) (each-both (λ t f g. test-few f g) (each-in tests (m .tests-are)) h) in
+    let one = quoted-few resource (m .resource-is .size) in
+    let many-actions = m .few-actions in
+    let many-tests = m .few-tests in
+    let last = between (bytes " && ") (map testText tests) ++ bytes " };" in
+    let behind = bytes "], resource == " ++ (quoted resource ++ (bytes ") when { " ++ last)) in
+    omega (
+      arith,
+      length-append (between (bytes ", ") (map quoted actions)) behind,
+      length-append (quoted resource) (bytes ") when { " ++ last),
+      length-append (between (bytes " && ") (map testText tests)) (bytes " };"),
+    )
+
+-- ---- what is promised
+
+pub permit-says : PermitSays
+unfolding PermitSays
+permit-says actions resource t ts m f =
+    let fit = each-in (t ∷ ts) f in
+    let permit = permit-laid m in
+    let printed = permit .prints fit in
+    record {
+      policies = printed .policies;
+      says = record {
+        tokens = standing 0 (permit .tokens);
+        listed = rw (permit .laid) at (laid-out-stand (permit .well));
+        belongs = printed .belongs;
+      };
+      words = rw (permit .laid) at (printed .says);
+      short = permit-few m fit;
+    }
+
+pub only-sizes : OnlySizes
+unfolding OnlySizes
+only-sizes actions resource t ts ps m s =
+    let permit = permit-laid m in
+    each-of (permit .fits (text-sized (permit .well) (subst (λ (l : List ℕ). SaysPolicies l ps) (sym (permit .laid)) s)))
