@@ -2,3 +2,4 @@ pub mod Means
 pub mod Values
 pub mod Tests
 pub mod Says
+pub mod Examples

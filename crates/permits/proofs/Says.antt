@@ -18,7 +18,7 @@ use Rattle.grammar.specs.Policies.{Policy, LiteralOf, text, TreeOf, oneOf, pinn
 use Rattle.grammar.specs.Grammar.{sizes, ActionRest, ResourceRest, When, SaysPolicies}
 use Rattle.placing.specs.Placed.{Each, none-left, and-each, IsPath}
 use Rattle.placing.specs.Said.{Word, partWords, actionWords, conditionWords, wordsOf}
-use Rattle.placing.proofs.EachLaws.{each-first, each-rest, each-left, each-right, each-as}
+use Rattle.placing.proofs.EachLaws.{each-rest, each-left, each-right, each-as, each-in, each-of, each-both}
 use Rattle.bags.specs.Paths.{isPath}
 use Rattle.meaning.specs.Paths.{PathsAlike}
 use Rattle.meaning.proofs.Paths.{paths-alike}
@@ -34,21 +34,7 @@ use Rattle.permits.specs.Permits.{Test, quoted, markOf, between, testTex
 use Rattle.permits.specs.Meaning.{AString, Formed, equality, membership, comparison, Fits, equal-fits, member-fits, order-fits, Made}
 use Rattle.permits.specs.Promise.{AllFit, SaysPermit, PermitSays, OnlySizes}
 use Rattle.permits.proofs.Values.{number-long}
-use Rattle.permits.proofs.Tests.{afterEach, between-is, JoinedLaid, condition-laid}
-
--- a blank
-abbrev space : List ℕ
-space = bytes " "
-
--- ---- each of a list
-
-each-in : {A : Type 0} {P : A → Type 0} (l : List A) → ((x : A) → List·Memᴰ x l → P x) → Each P l
-each-in [] f = none-left
-each-in (x ∷ l) f = and-each (f x (List·Memᴰ·head refl)) (each-in l (λ y m. f y (List·Memᴰ·tail m)))
-
-each-of : {A : Type 0} {P : A → Type 0} {l : List A} → Each P l → (x : A) → List·Memᴰ x l → P x
-each-of none-left x m = absurd (List·Memᴰ·not-nil m)
-each-of {P = P} (and-each {a = a} {l = l} p h) x m = ⊎-elim (λ (e : x ≡ a). rw e p) (λ (n : List·Memᴰ x l). each-of h x n) (List·Memᴰ·cases-cons m)
+use Rattle.permits.proofs.Tests.{space, afterEach, between-is, JoinedLaid, condition-laid}
 
 -- ---- the actions
 
@@ -270,10 +256,6 @@ module _ {A : Type 0} (sep : List ℕ) (f : A → List ℕ) (m n : ℕ) (fits : 
   between-few (and-each {a = x} {l = xs} h hs) =
       let rest = after-few hs in
       omega (arith, ap length (between-is sep f x xs), length-append (f x) (afterEach sep f xs), suc-mul (length xs) n)
-
-each-both : {A : Type 0} {P Q R : A → Type 0} {l : List A} → ((x : A) → P x → Q x → R x) → Each P l → Each Q l → Each R l
-each-both f none-left h = none-left
-each-both f (and-each p k) h = and-each (f _ p (each-first h)) (each-both f k (each-rest h))
 
 permit-few : {actions : List Word} {resource : Word} {tests : List Test} → Made actions resource tests → Each Fits tests
     → length (permitText actions resource tests) ≤ 8192

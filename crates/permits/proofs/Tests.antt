@@ -29,14 +29,14 @@ use Rattle.spelling.specs.Layout.{Written, written, laidOut, WellWritten, none,
 use Rattle.spelling.specs.Printing.{OfKind, Prints, PrintsPath, markKind, rootKind, RootedPath, rootedWords}
 use Rattle.spelling.specs.Printing as printing
 use Rattle.spelling.proofs.Fixed.{isFixed, well-fixed, well-calm, written-opened}
-use Rattle.spelling.proofs.Printed.{laid-append, well-append, prints-string, prints-number, string-literal, prints-literal, prints-attribute, prints-given}
+use Rattle.spelling.proofs.Printed.{laid-append, well-append, prints-string, prints-number, string-literal, prints-literal, prints-attribute, prints-given, comparator-fixed, comparator-kind}
 use Rattle.spelling.proofs.Printed.{prints-comparison, prints-within, prints-simple, prints-alone, prints-both}
 use Rattle.permits.specs.Permits.{Test, equal, member, order, quoted, markOf, between, testText, testTree, joinedTo}
 use Rattle.permits.specs.Meaning.{AValue, Formed, equality, membership, comparison, Fits, equal-fits, member-fits, order-fits}
 use Rattle.permits.proofs.Values.{words-string}
 
 -- a blank
-abbrev space : List ℕ
+abbrev pub space : List ℕ
 space = bytes " "
 
 calm-word : (c : ℕ) → calm c ≡ true → is WordBytes c ≡ false
@@ -127,24 +127,6 @@ module _ (p : Word) (i : isPath p ≡ true) where
 abbrev markToken : Comparator → Written
 markToken c = written space (markKind c) (markOf c)
 
-mark-fixed : (c : Comparator) → isFixed (markToken c) 32 ≡ true
-unfolding written-opened markOf markKind
-mark-fixed Equal = refl
-mark-fixed NotEqual = refl
-mark-fixed More = refl
-mark-fixed AtLeast = refl
-mark-fixed Less = refl
-mark-fixed AtMost = refl
-
-mark-kind : (c : Comparator) → OfKind (markKind c) (markToken c)
-unfolding written-opened markOf markKind
-mark-kind Equal = record { read-as = refl }
-mark-kind NotEqual = record { read-as = refl }
-mark-kind More = record { read-as = refl }
-mark-kind AtLeast = record { read-as = refl }
-mark-kind Less = record { read-as = refl }
-mark-kind AtMost = record { read-as = refl }
-
 pub test-laid : {t : Test} → Formed t → TestLaid t
 unfolding written-opened testText testTree markOf markKind
 test-laid (equality {path} {value} i v) =
@@ -156,9 +138,9 @@ test-laid (equality {path} {value} i v) =
           ∙ rw (attribute-text path i, append-nil (value ++ quote ∷ []), append-assoc (space ++ bytes "principal.") path (bytes " == " ++ quoted value));
       well = λ q h.
           well-append (attribute-well path i (laidOut ys ++ q) refl)
-          (well-fixed (well-calm none (next refl empty) (a-string (words-string (v .all))) h) (mark-fixed Equal));
+          (well-fixed (well-calm none (next refl empty) (a-string (words-string (v .all))) h) (comparator-fixed Equal));
       prints = λ f.
-          prints-comparison (prints-given (attribute-prints path i)) (mark-kind Equal) (prints-literal (string-literal (prints-string value (equal-few f))));
+          prints-comparison (prints-given (attribute-prints path i)) (comparator-kind Equal) (prints-literal (string-literal (prints-string value (equal-few f))));
       fits = λ e. equal-fits (string-few value (each-first (each-rest (each-right (attributeTokens path i) ys e))));
     }
   where
@@ -184,8 +166,8 @@ test-laid (comparison {path} {n} {c} i o m) =
           laid-append (attributeTokens path i) ys
           ∙ rw (attribute-text path i, append-nil n, append-assoc (space ++ bytes "principal.") path (space ++ (markOf c ++ (space ++ n))));
       well = λ q h.
-          well-append (attribute-well path i (laidOut ys ++ q) refl) (well-fixed (well-calm none (next refl empty) (a-number m) h) (mark-fixed c));
-      prints = λ f. prints-comparison (prints-given (attribute-prints path i)) (mark-kind c) (prints-literal (prints-number n (order-few f)));
+          well-append (attribute-well path i (laidOut ys ++ q) refl) (well-fixed (well-calm none (next refl empty) (a-number m) h) (comparator-fixed c));
+      prints = λ f. prints-comparison (prints-given (attribute-prints path i)) (comparator-kind c) (prints-literal (prints-number n (order-few f)));
       fits = λ e. order-fits (each-first (each-rest (each-right (attributeTokens path i) ys e)) .within);
     }
   where

@@ -4,6 +4,7 @@ use mathlib.Core.Bool.{Bool, true, false}
 use mathlib.Core.List.{List, [], _∷_, _++_, append-assoc, append-nil}
 use mathlib.Core.Option.{Option, some}
 use Prim.Native.Nat.{ℕ, zero, suc, _+_, _-_, _≤_, _<_}
+use Prim.Native.Char.{code}
 use native.Mathlib.Omega.{arith}
 use lib.ListN.{length, drop, length-append}
 use lib.Seq.{take-append-seam, drop-append-seam, drop-drop}
@@ -26,9 +27,10 @@ use Rattle.placing.specs.Placed.{bytesAt, quotedAt, pathAt}
 use Rattle.placing.specs.Said.{Word, literalWords, listWords, operandWords, treeWords, partWords, actionWords, conditionWords, policyWords, wordsOf}
 use Rattle.placing.proofs.Paths.{unblanked-append, unblanked-blanks, unblanked-name, lone-dot}
 use Rattle.spelling.specs.Layout.{Written, written, laidOut, readAs, lexemeOf, standing, WellWritten, none, one}
-use Rattle.spelling.specs.Printing.{HasAt, OfKind, PrintsAt, Prints, PrintsLiteral, PrintsList, PrintsPath, quoted, markKind, rootKind, effectKind, RootedPath, rootedWords, PrintsText}
+use Rattle.spelling.specs.Printing.{HasAt, OfKind, PrintsAt, Prints, PrintsLiteral, PrintsList, PrintsPath, quoted, markOf, markKind, rootKind, effectKind, RootedPath, rootedWords, PrintsText}
 use Rattle.spelling.specs.Printing as printing
 use Rattle.spelling.proofs.Laid.{read-fitting}
+use Rattle.spelling.proofs.Fixed.{isFixed, written-opened}
 
 -- ---- tokens one behind the other
 
@@ -355,6 +357,25 @@ mark-is More x e = (rw e, rw e)
 mark-is AtLeast x e = (rw e, rw e)
 mark-is Less x e = (rw e, rw e)
 mark-is AtMost x e = (rw e, rw e)
+
+-- it is a token, before a blank, and is read as what it is
+pub comparator-fixed : (c : Comparator) → isFixed (written (bytes " ") (markKind c) (markOf c)) (code " ") ≡ true
+unfolding written-opened markOf markKind
+comparator-fixed Equal = refl
+comparator-fixed NotEqual = refl
+comparator-fixed More = refl
+comparator-fixed AtLeast = refl
+comparator-fixed Less = refl
+comparator-fixed AtMost = refl
+
+pub comparator-kind : {b : List ℕ} (c : Comparator) → OfKind (markKind c) (written b (markKind c) (markOf c))
+unfolding readAs markOf markKind
+comparator-kind Equal = record { read-as = refl }
+comparator-kind NotEqual = record { read-as = refl }
+comparator-kind More = record { read-as = refl }
+comparator-kind AtLeast = record { read-as = refl }
+comparator-kind Less = record { read-as = refl }
+comparator-kind AtMost = record { read-as = refl }
 
 module _ {xs ys : List Written} {x : Written} {a : OperandOf Word} (p : Prints (AnOperand sizes) operandWords xs a) where
   -- two operands with a comparator
