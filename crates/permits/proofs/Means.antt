@@ -25,6 +25,7 @@ use Rattle.permits.specs.Promise.{PermitMeans}
 
 -- ---- strings among strings
 
+-- the test finds what is there
 among-mem : (s : List ℕ) (l : List (List ℕ)) → some (same s) l ≡ true → List·Memᴰ s l
 unfolding some
 among-mem s [] e = absurd (never e)
@@ -50,6 +51,7 @@ some-texts s (a ∷ l) = rw (some-texts s l)
 
 -- ---- a test
 
+-- yes is told where the test passed
 told-yes : (b : Bool) → isYes (settled (told b)) ≡ b
 unfolding settled told
 told-yes true = refl

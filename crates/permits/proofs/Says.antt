@@ -1,8 +1,7 @@
 -- What is written of a lock is laid out of a permit's tokens, so it says this permit, unless a value or a number is beyond its size. Assumes nothing.
 use mathlib.Core.Path.{_≡_, refl, ap, _∙_, sym, subst}
 use mathlib.Core.Bool.{true}
-use mathlib.Core.List.{List, [], _∷_, _++_, append-assoc, append-nil, map, List·Memᴰ, List·Memᴰ·head, List·Memᴰ·tail, List·Memᴰ·cases-cons, List·Memᴰ·not-nil}
-use mathlib.Core.Logic.{⊎-elim}
+use mathlib.Core.List.{List, [], _∷_, _++_, append-assoc, append-nil, map}
 use mathlib.Core.Option.{some}
 use Prim.Native.Nat.{ℕ, _+_, _*_, _≤_}
 use native.Mathlib.Nat.{suc-mul}
@@ -10,40 +9,43 @@ use native.Mathlib.Omega.{arith}
 use lib.ListN.{length, getD, length-append, length-map}
 use Rattle.slices.specs.Ascii.{bytes}
 use Rattle.tokens.specs.Kinds as kinds
-use Rattle.tokens.specs.Forms.{empty, next, quote, a-string, digits}
+use Rattle.tokens.specs.Forms.{empty, next, quote, a-string}
 use Rattle.reading.specs.Lexemes.{is}
 use Rattle.reading.specs.Reads.{Before, After}
 use Rattle.grammar.specs.Policies.{Comparator, Comparator.Equal, Comparator.NotEqual, Comparator.More, Comparator.AtLeast, Comparator.Less, Comparator.AtMost}
-use Rattle.grammar.specs.Policies.{Policy, LiteralOf, text, TreeOf, oneOf, pinned}
+use Rattle.grammar.specs.Policies.{LiteralOf, text, TreeOf, oneOf, pinned}
 use Rattle.grammar.specs.Grammar.{sizes, ActionRest, ResourceRest, When, SaysPolicies}
-use Rattle.placing.specs.Placed.{Each, none-left, and-each, IsPath}
-use Rattle.placing.specs.Said.{Word, partWords, actionWords, conditionWords, wordsOf}
+use Rattle.placing.specs.Placed.{Each, none-left, and-each}
+use Rattle.placing.specs.Said.{Word, partWords, actionWords, conditionWords}
 use Rattle.placing.proofs.EachLaws.{each-rest, each-left, each-right, each-as, each-in, each-of, each-both}
 use Rattle.bags.specs.Paths.{isPath}
 use Rattle.meaning.specs.Paths.{PathsAlike}
 use Rattle.meaning.proofs.Paths.{paths-alike}
 use Rattle.spelling.specs.Spelling.{calm}
 use Rattle.spelling.specs.Layout.{Written, written, laidOut, standing, WellWritten, none, one, Sized}
-use Rattle.spelling.specs.Printing.{OfKind, Prints, PrintsList, PrintsText, effectKind}
+use Rattle.spelling.specs.Printing.{Prints, PrintsList, PrintsText, effectKind}
 use Rattle.spelling.specs.Printing as printing
 use Rattle.spelling.proofs.Spelled.{laid-out-stand, text-sized}
 use Rattle.spelling.proofs.Fixed.{well-fixed, well-calm, written-opened}
-use Rattle.spelling.proofs.Printed.{laid-append, well-append, prints-string, prints-list, prints-before, prints-after, prints-alone, prints-bare, prints-pinned}
-use Rattle.spelling.proofs.Printed.{prints-actions, prints-when, prints-policy, prints-text}
-use Rattle.permits.specs.Permits.{Test, quoted, markOf, between, testText, permitText, permitPolicy, testTree, joinedTo}
+use Rattle.spelling.proofs.Printing.{laid-append, well-append, prints-before, prints-after}
+use Rattle.spelling.proofs.Productions.{prints-string, prints-list, prints-alone, prints-bare, prints-pinned, prints-actions, prints-when, prints-policy}
+use Rattle.spelling.proofs.Productions.{prints-text}
+use Rattle.permits.specs.Permits.{Test, quoted, markOf, between, testText, permitText, permitPolicy}
 use Rattle.permits.specs.Meaning.{AString, Formed, equality, membership, comparison, Fits, equal-fits, member-fits, order-fits, Made}
-use Rattle.permits.specs.Promise.{AllFit, SaysPermit, PermitSays, OnlySizes}
+use Rattle.permits.specs.Promise.{PermitSays, OnlySizes}
 use Rattle.permits.proofs.Values.{number-long}
 use Rattle.permits.proofs.Tests.{space, afterEach, between-is, JoinedLaid, condition-laid}
 
 -- ---- the actions
 
+-- strings with commas between them: their tokens, before a byte that makes none longer
 record ListLaid (l : List ℕ) (ls : List (LiteralOf Word)) : Type 0 where
   tokens : List Written
   laid : laidOut tokens ≡ l
   well : (q : List ℕ) → calm (getD q 0 0) ≡ true → WellWritten tokens q
   prints : PrintsList (is kinds.string) tokens ls
 
+-- the first of them, and one more
 first-action : {a : Word} → AString a → ListLaid (quoted a) (text a ∷ [])
 unfolding written-opened
 first-action {a} s = record {
@@ -65,9 +67,11 @@ next-action {a = a} j s =
       prints = printing.PrintsList.more (j .prints) (record { read-as = refl }) (prints-string a (s .size));
     }
 
+-- the same text and the same strings
 list-as : {l k : List ℕ} {ls ks : List (LiteralOf Word)} → l ≡ k → ls ≡ ks → ListLaid l ls → ListLaid k ks
 list-as e f j = record { tokens = j .tokens; laid = j .laid ∙ e; well = j .well; prints = rw f at (j .prints) }
 
+-- all of them
 more-actions : {l : List ℕ} {ls : List (LiteralOf Word)} → ListLaid l ls → {os : List Word} → Each AString os
     → ListLaid (l ++ afterEach (bytes ", ") quoted os) (ls ++ map text os)
 unfolding afterEach
@@ -76,6 +80,7 @@ more-actions {l} {ls} j (and-each {a = a} {l = os} s h) =
     list-as (append-assoc l (bytes ", " ++ quoted a) (afterEach (bytes ", ") quoted os)) (append-assoc ls (text a ∷ []) (map text os))
     (more-actions (next-action j s) h)
 
+-- a lock's actions
 actions-laid : {actions : List Word} → 1 ≤ length actions → Each AString actions → ListLaid (between (bytes ", ") (map quoted actions)) (map text actions)
 actions-laid h none-left = absurd (omega arith)
 actions-laid h (and-each {a = a} {l = os} s k) = list-as (sym (between-is (bytes ", ") quoted a os)) refl (more-actions (first-action s) k)
@@ -93,9 +98,11 @@ module _ {l : List ℕ} {ls : List (LiteralOf Word)} (list : ListLaid l ls) wher
   action-laid : laidOut actionTokens ≡ bytes " action in [" ++ (l ++ bytes "],")
   unfolding actionTokens written-opened
   action-laid =
-      rw (laid-append (list .tokens ++ written [] kinds.rightSquare (bytes "]") ∷ []) (written [] kinds.comma (bytes ",") ∷ []),
+      rw (
+        laid-append (list .tokens ++ written [] kinds.rightSquare (bytes "]") ∷ []) (written [] kinds.comma (bytes ",") ∷ []),
         laid-append (list .tokens) (written [] kinds.rightSquare (bytes "]") ∷ []),
-        list .laid)
+        list .laid,
+      )
       (ap (λ (m : List ℕ). bytes " action in [" ++ m) (append-assoc l (bytes "]") (bytes ",")))
 
   action-well : (q : List ℕ) → WellWritten actionTokens q
@@ -110,7 +117,7 @@ module _ {l : List ℕ} {ls : List (LiteralOf Word)} (list : ListLaid l ls) wher
       prints-after (prints-before (prints-actions (record { read-as = refl })
       (prints-list (record { read-as = refl }) (list .prints) h (record { read-as = refl }))) (record { read-as = refl })) (record { read-as = refl })
 
--- ` resource == ".." )`
+-- ` resource == "..")`
 module _ (resource : Word) (s : AString resource) where
   resourceTokens : List Written
   resourceTokens =
@@ -140,9 +147,11 @@ module _ {l : List ℕ} {c : TreeOf Word} {F : Type 0} (j : JoinedLaid l c F) wh
   when-laid : laidOut whenTokens ≡ bytes " when {" ++ (l ++ bytes " };")
   unfolding whenTokens written-opened
   when-laid =
-      rw (laid-append (j .tokens ++ written space kinds.rightBrace (bytes "}") ∷ []) (written [] kinds.semicolon (bytes ";") ∷ []),
+      rw (
+        laid-append (j .tokens ++ written space kinds.rightBrace (bytes "}") ∷ []) (written [] kinds.semicolon (bytes ";") ∷ []),
         laid-append (j .tokens) (written space kinds.rightBrace (bytes "}") ∷ []),
-        j .text)
+        j .text,
+      )
       (ap (λ (m : List ℕ). bytes " when {" ++ m) (append-assoc l (bytes " }") (bytes ";")))
 
   when-well : (q : List ℕ) → WellWritten whenTokens q
@@ -162,6 +171,7 @@ module _ {l : List ℕ} {c : TreeOf Word} {F : Type 0} (j : JoinedLaid l c F) wh
 
 -- ---- the permit
 
+-- its tokens are its text, and say it unless one is beyond its size
 record PermitLaid (actions : List Word) (resource : Word) (t : Test) (ts : List Test) : Type 0 where
   tokens : List Written
   laid : laidOut tokens ≡ permitText actions resource (t ∷ ts)
@@ -176,15 +186,18 @@ headTokens = (written [] kinds.leftRound (bytes "(") ∷ written [] kinds.princi
 abbrev permitToken : Written
 permitToken = written [] kinds.permitWord (bytes "permit")
 
+-- the text of all parts
 parts-text : (os rs cs : List Written) (l r k : List ℕ) → laidOut os ≡ bytes " action in [" ++ (l ++ bytes "],")
     → laidOut rs ≡ bytes " resource == " ++ (r ++ bytes ")") → laidOut cs ≡ bytes " when {" ++ ((space ++ k) ++ bytes " };")
     → laidOut (permitToken ∷ (headTokens ++ (os ++ (rs ++ cs))))
-      ≡ bytes "permit(principal, action in [" ++ (l ++ (bytes "], resource == " ++ (r ++ (bytes ") when { " ++ (k ++ bytes " };")))))
+    ≡ bytes "permit(principal, action in [" ++ (l ++ (bytes "], resource == " ++ (r ++ (bytes ") when { " ++ (k ++ bytes " };")))))
 unfolding written-opened
 parts-text os rs cs l r k e f g =
     let tail = bytes " when { " ++ (k ++ bytes " };") in
-    rw (laid-append os (rs ++ cs), laid-append rs cs, e, f, g, append-assoc r (bytes ")") tail, append-assoc l (bytes "],") (bytes " resource == " ++ (r ++ (bytes ")" ++ tail))))
+    let resource = bytes " resource == " ++ (r ++ (bytes ")" ++ tail)) in
+    rw (laid-append os (rs ++ cs), laid-append rs cs, e, f, g, append-assoc r (bytes ")") tail, append-assoc l (bytes "],") resource)
 
+-- a lock's permit
 permit-laid : {actions : List Word} {resource : Word} {t : Test} {ts : List Test} → Made actions resource (t ∷ ts) → PermitLaid actions resource t ts
 unfolding written-opened permitText permitPolicy effectKind actionTokens resourceTokens whenTokens
 permit-laid {actions} {resource} {t} {ts} m =
@@ -212,6 +225,7 @@ permit-laid {actions} {resource} {t} {ts} m =
 
 -- ---- its length
 
+-- a path, a comparator's mark, a string with its quotes
 path-few : (p : Word) → isPath p ≡ true → length p ≤ 64
 unfolding PathsAlike
 path-few p i = paths-alike p .0 i .1
@@ -228,10 +242,11 @@ mark-few AtMost = omega arith
 quoted-few : (s : Word) → length s ≤ 127 → length (quoted s) ≤ 129
 quoted-few s h = omega (arith, length-append s (quote ∷ []))
 
--- a string with a comma and a blank, and a test with `&&` and its blanks
+-- f makes at most n bytes of it
 abbrev Short : {A : Type 0} → ℕ → (A → List ℕ) → A → Type 0
 Short n f x = length (f x) ≤ n
 
+-- a test
 test-few : {t : Test} → Formed t → Fits t → length (testText t) ≤ 207
 unfolding testText
 test-few (equality {path} {value} i v) (equal-fits h) =
@@ -243,6 +258,7 @@ test-few (comparison {path} {n} {c} i o m) (order-fits h) =
 
 -- things of at most m bytes with others between them
 module _ {A : Type 0} (sep : List ℕ) (f : A → List ℕ) (m n : ℕ) (fits : m + length sep ≤ n) where
+  -- each with one before it, and then all
   after-few : {xs : List A} → Each (Short m f) xs → length (afterEach sep f xs) ≤ length xs * n
   unfolding afterEach
   after-few none-left = omega arith
@@ -257,6 +273,7 @@ module _ {A : Type 0} (sep : List ℕ) (f : A → List ℕ) (m n : ℕ) (fits : 
       let rest = after-few hs in
       omega (arith, ap length (between-is sep f x xs), length-append (f x) (afterEach sep f xs), suc-mul (length xs) n)
 
+-- 1 to 16 strings of at most 131 bytes with what stands between, 1 to 16 tests of at most 211, and the rest: never above 8,192
 permit-few : {actions : List Word} {resource : Word} {tests : List Test} → Made actions resource tests → Each Fits tests
     → length (permitText actions resource tests) ≤ 8192
 unfolding permitText
@@ -277,6 +294,7 @@ permit-few {actions} {resource} {tests} m h =
 
 -- ---- what is promised
 
+-- it says its permit where all fits
 pub permit-says : PermitSays
 unfolding PermitSays
 permit-says actions resource t ts m f =
@@ -294,6 +312,7 @@ permit-says actions resource t ts m f =
       short = permit-few m fit;
     }
 
+-- and where it says anything, all fits
 pub only-sizes : OnlySizes
 unfolding OnlySizes
 only-sizes actions resource t ts ps m s =

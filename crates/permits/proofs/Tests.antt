@@ -1,21 +1,19 @@
 -- A path, a test and a conjunction of tests by the tokens that they are laid out of. Assumes nothing.
 use mathlib.Core.Path.{_≡_, refl, ap, _∙_, sym, subst}
-use mathlib.Core.Bool.{Bool, true, false}
+use mathlib.Core.Bool.{true, false}
 use mathlib.Core.List.{List, [], _∷_, _++_, append-assoc, append-nil, map}
 use Prim.Native.Nat.{ℕ, _+_, _≤_}
-use Prim.Native.Char.{code}
 use native.Mathlib.Omega.{arith}
 use lib.ListN.{length, getD, length-append}
 use borrow.Author.Tests.{not-true}
 use Rattle.slices.specs.Ascii.{bytes}
-use Rattle.tokens.specs.Bytes.{classOf}
 use Rattle.tokens.specs.Kinds as kinds
 use Rattle.tokens.specs.Runs.{is}
-use Rattle.tokens.specs.Forms.{All, empty, next, quote, Form, a-word, a-string, a-number, digits}
+use Rattle.tokens.specs.Forms.{empty, next, quote, Form, a-word, a-string, a-number, digits}
 use Rattle.tokens.specs.declared.classes.Sort.the-variants.{WordBytes}
 use Rattle.tokens.proofs.TokenLaws.{and-left}
-use Rattle.grammar.specs.Policies.{Root, Root.Principal, Root.Action, Comparator, Comparator.Equal, Comparator.NotEqual, Comparator.More, Comparator.AtLeast}
-use Rattle.grammar.specs.Policies.{Comparator.Less, Comparator.AtMost, TreeOf, both}
+use Rattle.grammar.specs.Policies.{Root.Principal, Root.Action, Comparator, Comparator.Equal}
+use Rattle.grammar.specs.Policies.{TreeOf, both}
 use Rattle.grammar.specs.Rules.{mostInside}
 use Rattle.grammar.specs.Grammar.{sizes, Simple, Condition, Conjunction}
 use Rattle.placing.specs.Placed.{IsName, a-name, IsPath, one-name, one-more, Each, none-left, and-each}
@@ -26,25 +24,28 @@ use Rattle.meaning.specs.Paths.{PathsAlike}
 use Rattle.meaning.proofs.Paths.{paths-alike}
 use Rattle.spelling.specs.Spelling.{apart, calm}
 use Rattle.spelling.specs.Layout.{Written, written, laidOut, WellWritten, none, one, Sized}
-use Rattle.spelling.specs.Printing.{OfKind, Prints, PrintsPath, markKind, rootKind, RootedPath, rootedWords}
+use Rattle.spelling.specs.Printing.{Prints, PrintsPath, markKind, rootKind, RootedPath, rootedWords}
 use Rattle.spelling.specs.Printing as printing
 use Rattle.spelling.proofs.Fixed.{isFixed, well-fixed, well-calm, written-opened}
-use Rattle.spelling.proofs.Printed.{laid-append, well-append, prints-string, prints-number, string-literal, prints-literal, prints-attribute, prints-given, comparator-fixed, comparator-kind}
-use Rattle.spelling.proofs.Printed.{prints-comparison, prints-within, prints-simple, prints-alone, prints-both}
+use Rattle.spelling.proofs.Printing.{laid-append, well-append}
+use Rattle.spelling.proofs.Productions.{prints-string, prints-number, string-literal, prints-literal, prints-attribute, prints-given, comparator-fixed}
+use Rattle.spelling.proofs.Productions.{comparator-kind, prints-comparison, prints-within, prints-simple, prints-alone, prints-both}
 use Rattle.permits.specs.Permits.{Test, equal, member, order, quoted, markOf, between, testText, testTree, joinedTo}
-use Rattle.permits.specs.Meaning.{AValue, Formed, equality, membership, comparison, Fits, equal-fits, member-fits, order-fits}
+use Rattle.permits.specs.Meaning.{Formed, equality, membership, comparison, Fits, equal-fits, member-fits, order-fits}
 use Rattle.permits.proofs.Values.{words-string}
 
 -- a blank
 abbrev pub space : List ℕ
 space = bytes " "
 
+-- a byte that makes no token longer is of no word
 calm-word : (c : ℕ) → calm c ≡ true → is WordBytes c ≡ false
 unfolding calm
 calm-word c h = not-true _ (and-left _ _ h)
 
 -- ---- a path
 
+-- a name is a token, and any byte that is of no word may stand behind it
 name-form : {n : Word} → IsName n → Form kinds.name n
 name-form (a-name {b} {rest} l a k) = subst (λ (i : ℕ). Form i (b ∷ rest)) k (a-word l a)
 
@@ -52,6 +53,7 @@ name-apart : {n : Word} → IsName n → (c : ℕ) → is WordBytes c ≡ false 
 unfolding apart
 name-apart (a-name l a k) c h = rw (l, h)
 
+-- its tokens, without blanks
 record PathLaid (p : Word) : Type 0 where
   tokens : List Written
   prints : PrintsPath [] tokens p
@@ -91,6 +93,7 @@ pub record TestLaid (t : Test) : Type 0 where
 abbrev stringToken : List ℕ → Word → Written
 stringToken b s = written b kinds.string (quoted s)
 
+-- one within its size
 string-few : {b : List ℕ} (s : Word) → Sized (stringToken b s) → length s ≤ 127
 string-few s h = let w = h .within in omega (arith, length-append s (quote ∷ []))
 
@@ -127,6 +130,7 @@ module _ (p : Word) (i : isPath p ≡ true) where
 abbrev markToken : Comparator → Written
 markToken c = written space (markKind c) (markOf c)
 
+-- a test that is formed rightly is laid so
 pub test-laid : {t : Test} → Formed t → TestLaid t
 unfolding written-opened testText testTree markOf markKind
 test-laid (equality {path} {value} i v) =
@@ -188,6 +192,7 @@ between-is sep f x (y ∷ ys) = ap (λ (l : List ℕ). f x ++ (sep ++ l)) (betwe
 
 -- ---- tests joined by `&&`
 
+-- their tokens, before a byte that makes none longer; F: they fit
 pub record JoinedLaid (l : List ℕ) (c : TreeOf Word) (F : Type 0) : Type 0 where
   pub tokens : List Written
   pub text : laidOut tokens ≡ l
@@ -195,6 +200,7 @@ pub record JoinedLaid (l : List ℕ) (c : TreeOf Word) (F : Type 0) : Type 0 whe
   pub prints : F → Prints (Conjunction (Condition sizes mostInside)) treeWords tokens c
   pub fits : Each Sized tokens → F
 
+-- the first of them, and one more
 first-joined : {t : Test} → TestLaid t → JoinedLaid (space ++ testText t) (testTree t) (Fits t)
 first-joined h = record {
   tokens = h .tokens;

@@ -7,4 +7,5 @@ pub mod Pieced
 pub mod MoveLaws
 pub mod Texts
 pub mod Fixed
-pub mod Printed
+pub mod Printing
+pub mod Productions

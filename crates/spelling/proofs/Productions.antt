@@ -7,7 +7,7 @@ use Prim.Native.Nat.{ℕ, zero, suc, _+_, _-_, _≤_, _<_}
 use Prim.Native.Char.{code}
 use native.Mathlib.Omega.{arith}
 use lib.ListN.{length, drop, length-append}
-use lib.Seq.{take-append-seam, drop-append-seam, drop-drop}
+use lib.Seq.{take-append-seam, drop-drop}
 use borrow.Author.Tests.{eq-eqb, le-leb, lt-ltb}
 use Rattle.slices.specs.Ascii.{bytes}
 use Rattle.tokens.specs.Blanks.{unblanked}
@@ -15,165 +15,27 @@ use Rattle.tokens.specs.Kinds as kinds
 use Rattle.tokens.specs.Forms.{All, quote, digits}
 use Rattle.tokens.specs.declared.classes.Sort.the-variants.{Blanks}
 use Rattle.reading.specs.Lexemes.{Lexeme, is, size}
-use Rattle.reading.specs.Reads.{Reading, Chain, Chain.alone, Chain.more, Onto.onto, Before, Before.ended, After, After.begun}
+use Rattle.reading.specs.Reads.{Reading, Chain, Chain.alone, Chain.more, Onto.onto, Before, After}
 use Rattle.grammar.specs.Policies.{Comparator.Equal, Comparator.NotEqual, Comparator.More, Comparator.AtLeast, Comparator.Less, Comparator.AtMost}
-use Rattle.grammar.specs.Policies.{Span, span, Root, Root.Principal, Root.Resource, Root.Env, Root.Action, Comparator, LiteralOf, Literal, text, number, attribute, literal, TreeOf, Tree}
+use Rattle.grammar.specs.Policies.{Span, span, Root, Root.Principal, Root.Resource, Root.Env, Root.Action, Comparator, LiteralOf, Literal, text, number}
+use Rattle.grammar.specs.Policies.{attribute, literal, TreeOf, Tree}
 use Rattle.grammar.specs.Policies.{OperandOf, Operand, compare, within, both, PartOf, any, pinned, ActionsOf, oneOf, PolicyOf}
 use Rattle.grammar.specs.Rules.{isRoot, rootOf, isLiteral, literalOf, isComparator, comparatorOf, admitted, isEffect, spanOf, principalTypes}
-use Rattle.grammar.specs.Grammar.{sizes, Path, APath, rooted, Attribute, AnOperand, given, Element, element, Listing, Simple, comparison, held, Joined, Condition, Conjunction, Conditions}
+use Rattle.grammar.specs.Grammar.{sizes, Path, APath, rooted, Attribute, AnOperand, given, Element, element, Listing, Simple, comparison, held, Joined}
+use Rattle.grammar.specs.Grammar.{Condition, Conjunction, Conditions}
 use Rattle.grammar.specs.Grammar.{Typed, ResourceRest, ActionRest, When, PolicyRest}
 use Rattle.grammar.specs.Grammar as grammar
 use Rattle.placing.specs.Placed.{bytesAt, quotedAt, pathAt}
 use Rattle.placing.specs.Said.{Word, literalWords, listWords, operandWords, treeWords, partWords, actionWords, conditionWords, policyWords, wordsOf}
 use Rattle.placing.proofs.Paths.{unblanked-append, unblanked-blanks, unblanked-name, lone-dot}
-use Rattle.spelling.specs.Layout.{Written, written, laidOut, readAs, lexemeOf, standing, WellWritten, none, one}
-use Rattle.spelling.specs.Printing.{HasAt, OfKind, PrintsAt, Prints, PrintsLiteral, PrintsList, PrintsPath, quoted, markOf, markKind, rootKind, effectKind, RootedPath, rootedWords, PrintsText}
+use Rattle.spelling.specs.Layout.{Written, written, laidOut, readAs, lexemeOf, standing}
+use Rattle.spelling.specs.Printing.{HasAt, OfKind, PrintsAt, Prints, PrintsLiteral, PrintsList, PrintsPath, quoted, markOf, markKind, rootKind}
+use Rattle.spelling.specs.Printing.{effectKind, RootedPath, rootedWords, PrintsText}
 use Rattle.spelling.specs.Printing as printing
 use Rattle.spelling.proofs.Laid.{read-fitting}
 use Rattle.spelling.proofs.Fixed.{isFixed, written-opened}
-
--- ---- tokens one behind the other
-
-pub laid-append : (xs ys : List Written) → laidOut (xs ++ ys) ≡ laidOut xs ++ laidOut ys
-unfolding laidOut
-laid-append [] ys = refl
-laid-append (x ∷ xs) ys = rw (laid-append xs ys) (simp append-assoc)
-
--- the place behind some tokens
-abbrev past : ℕ → List Written → ℕ
-past at xs = at + length (laidOut xs)
-
-pub standing-append : (at : ℕ) (xs ys : List Written) → standing at (xs ++ ys) ≡ standing at xs ++ standing (past at xs) ys
-unfolding standing laidOut
-standing-append at [] ys = let e : at ≡ at + 0 = omega arith in ap (λ (n : ℕ). standing n ys) e
-standing-append at (x ∷ xs) ys =
-    let here = at + length (x .blanks) + length (x .bytes) in
-    let e : here + length (laidOut xs) ≡ at + length (x .blanks ++ (x .bytes ++ laidOut xs)) =
-    omega (arith, length-append (x .blanks) (x .bytes ++ laidOut xs), length-append (x .bytes) (laidOut xs)) in
-    ap (λ (l : List Lexeme). lexemeOf at x ∷ l) (standing-append here xs ys ∙ ap (λ (n : ℕ). standing here xs ++ standing n ys) e)
-
--- with tokens r behind them
-standing-then : (at : ℕ) (xs ys : List Written) (r : List Lexeme) → standing at (xs ++ ys) ++ r ≡ standing at xs ++ (standing (past at xs) ys ++ r)
-standing-then at xs ys r = ap (λ (l : List Lexeme). l ++ r) (standing-append at xs ys) ∙ append-assoc (standing at xs) (standing (past at xs) ys) r
-
-pub well-append : {xs ys : List Written} {q : List ℕ} → WellWritten xs (laidOut ys ++ q) → WellWritten ys q → WellWritten (xs ++ ys) q
-well-append none w = w
-well-append {ys = ys} {q = q} (one {xs = xs} a f n v) w =
-    let e : laidOut (xs ++ ys) ++ q ≡ laidOut xs ++ (laidOut ys ++ q) = ap (λ (l : List ℕ). l ++ q) (laid-append xs ys) ∙ append-assoc (laidOut xs) (laidOut ys) q in
-    one {xs = xs ++ ys} {q = q} a f (rw e n) (well-append v w)
-
--- ---- what a text has from a place on
-
-module _ {text : List ℕ} {at : ℕ} where
-  has-left : (a b : List ℕ) → HasAt text at (a ++ b) → HasAt text at a
-  has-left a b h = record { rest = b ++ h .rest; is = h .is ∙ append-assoc a b (h .rest) }
-
-  has-right : (a b : List ℕ) → HasAt text at (a ++ b) → HasAt text (at + length a) b
-  has-right a b h = record {
-    rest = h .rest;
-    is = sym (drop-drop (length a) at text) ∙ (ap (drop (length a)) (h .is ∙ append-assoc a b (h .rest)) ∙ drop-append-seam a (b ++ h .rest));
-  }
-
-  -- of tokens one behind the other
-  has-first : (xs ys : List Written) → HasAt text at (laidOut (xs ++ ys)) → HasAt text at (laidOut xs)
-  has-first xs ys h = has-left (laidOut xs) (laidOut ys) (subst (HasAt text at) (laid-append xs ys) h)
-
-  has-then : (xs ys : List Written) → HasAt text at (laidOut (xs ++ ys)) → HasAt text (past at xs) (laidOut ys)
-  has-then xs ys h = has-right (laidOut xs) (laidOut ys) (subst (HasAt text at) (laid-append xs ys) h)
-
-module _ {text : List ℕ} {at : ℕ} (x : Written) (xs : List Written) (h : HasAt text at (laidOut (x ∷ xs))) where
-  -- a token's bytes, and what is behind it
-  has-token : HasAt text (at + length (x .blanks)) (x .bytes)
-  unfolding laidOut
-  has-token = has-left (x .bytes) (laidOut xs) (has-right (x .blanks) (x .bytes ++ laidOut xs) h)
-
-  has-behind : HasAt text (at + length (x .blanks) + length (x .bytes)) (laidOut xs)
-  unfolding laidOut
-  has-behind = has-right (x .bytes) (laidOut xs) (has-right (x .blanks) (x .bytes ++ laidOut xs) h)
-
--- ---- what is printed, alone, before or behind a token, and with another
-
--- what stands behind a token in the middle
-module _ (xs : List Written) (x : Written) (ys : List Written) where
-  -- the place behind it, and the tokens
-  abbrev pastToken : ℕ → ℕ
-  pastToken at = past at xs + length (x .blanks) + length (x .bytes)
-
-  tokens-around : (at : ℕ) (r : List Lexeme)
-      → standing at (xs ++ (x ∷ ys)) ++ r ≡ standing at xs ++ (lexemeOf (past at xs) x ∷ (standing (pastToken at) ys ++ r))
-  unfolding standing
-  tokens-around at r = standing-then at xs (x ∷ ys) r
-
-  has-last : {t : List ℕ} {at : ℕ} → HasAt t at (laidOut (xs ++ (x ∷ ys))) → HasAt t (pastToken at) (laidOut ys)
-  has-last h = has-behind x ys (has-then xs (x ∷ ys) h)
-
-module _ {A B C D : Type 0} {R : Reading A} {S : Reading C} {words : List ℕ → A → B} {wordsIn : List ℕ → C → D} (f : A → C) (g : B → D)
-    (said : (t : List ℕ) (a : A) → wordsIn t (f a) ≡ g (words t a)) {xs : List Written} {w : B} (p : Prints R words xs w) where
-  -- what R reads is read by S as f of it
-  pub prints-onto : ((i r : List Lexeme) (a : A) → R i r a → S i r (f a)) → Prints S wordsIn xs (g w)
-  prints-onto h = record { anywhere = go }
-    where
-      go : (at : ℕ) (r : List Lexeme) → PrintsAt S wordsIn xs (g w) at r
-      go at r =
-          let here = p .anywhere at r in
-          record { what = f (here .what); reads = h _ r _ (here .reads); says = λ t b. said t (here .what) ∙ ap g (here .says t b) }
-
-  -- the same behind a token of the kind k
-  pub prints-led : {k : ℕ} {x : Written} → OfKind k x → ((y : Lexeme) (i r : List Lexeme) (a : A) → y .kind ≡ k → R i r a → S (y ∷ i) r (f a))
-      → Prints S wordsIn (x ∷ xs) (g w)
-  unfolding standing
-  prints-led {k} {x} e h = record { anywhere = go }
-    where
-      go : (at : ℕ) (r : List Lexeme) → PrintsAt S wordsIn (x ∷ xs) (g w) at r
-      go at r =
-          let here = p .anywhere (at + length (x .blanks) + length (x .bytes)) r in
-          record {
-            what = f (here .what);
-            reads = h (lexemeOf at x) _ r _ (e .read-as) (here .reads);
-            says = λ t b. said t (here .what) ∙ ap g (here .says t (has-behind x xs b));
-          }
-
--- two of them with a token of the kind k between
-pub prints-around : {A B C D E F : Type 0} {R : Reading A} {S : Reading C} {T : Reading E} {words₁ : List ℕ → A → B} {words₂ : List ℕ → C → D}
-    {words : List ℕ → E → F} (f : A → C → E) (g : B → D → F) → ((t : List ℕ) (a : A) (c : C) → words t (f a c) ≡ g (words₁ t a) (words₂ t c))
-    → {xs ys : List Written} {x : Written} {v : B} {w : D} {k : ℕ} → Prints R words₁ xs v → OfKind k x → Prints S words₂ ys w
-    → ((y : Lexeme) (i m r : List Lexeme) (a : A) (c : C) → y .kind ≡ k → R i (y ∷ m) a → S m r c → T i r (f a c))
-    → Prints T words (xs ++ (x ∷ ys)) (g v w)
-prints-around {T = T} {words = words} f g said {xs} {ys} {x} {v} {w} p e q h = record { anywhere = go }
-  where
-    go : (at : ℕ) (r : List Lexeme) → PrintsAt T words (xs ++ (x ∷ ys)) (g v w) at r
-    go at r =
-        let sign = lexemeOf (past at xs) x in
-        let right = q .anywhere (pastToken xs x ys at) r in
-        let left = p .anywhere at (sign ∷ (standing (pastToken xs x ys at) ys ++ r)) in
-        record {
-          what = f (left .what) (right .what);
-          reads = rw (tokens-around xs x ys at r) (h sign _ _ r _ _ (e .read-as) (left .reads) (right .reads));
-          says = λ t b.
-              said t (left .what) (right .what) ∙ rw (left .says t (has-first xs (x ∷ ys) b), right .says t (has-last xs x ys b));
-        }
-
-module _ {A B : Type 0} {R : Reading A} {words : List ℕ → A → B} {xs : List Written} {w : B} (p : Prints R words xs w) where
-  -- a token of the kind k behind it, or before it
-  pub prints-before : {k : ℕ} {x : Written} → OfKind k x → Prints (Before k R) words (xs ++ x ∷ []) w
-  unfolding standing
-  prints-before {k} {x} e = record { anywhere = go }
-    where
-      go : (at : ℕ) (r : List Lexeme) → PrintsAt (Before k R) words (xs ++ x ∷ []) w at r
-      go at r =
-          let here = p .anywhere at (lexemeOf (past at xs) x ∷ r) in
-          record {
-            what = here .what;
-            reads = rw (standing-then at xs (x ∷ []) r) (ended (here .reads) (e .read-as));
-            says = λ t h. here .says t (has-first xs (x ∷ []) h);
-          }
-
-  pub prints-after : {k : ℕ} {x : Written} → OfKind k x → Prints (After k R) words (x ∷ xs) w
-  prints-after e = prints-led (λ a. a) (λ b. b) (λ t a. refl) p e (λ y i r a. begun)
-
-  -- what R reads is what S does
-  pub prints-as : {S : Reading A} → ((i r : List Lexeme) (a : A) → R i r a → S i r a) → Prints S words xs w
-  prints-as h = prints-onto (λ a. a) (λ b. b) (λ t a. refl) p h
+use Rattle.spelling.proofs.Printing.{past, standing-then, has-right, has-first, has-then, has-token, has-behind, pastToken, tokens-around, has-last}
+use Rattle.spelling.proofs.Printing.{laid-append, prints-onto, prints-led, prints-around, prints-before, prints-after, prints-as}
 
 -- ---- literals
 
@@ -185,12 +47,15 @@ string-bytes t start s h =
     sym (drop-drop 1 start t) ∙ (ap (drop 1) (h .is) ∙ append-assoc s (quote ∷ []) (h .rest)) in
     rw (size, here) (take-append-seam s (quote ∷ h .rest))
 
+-- the bytes of a token
 own-bytes : (t : List ℕ) (start : ℕ) (p : List ℕ) → HasAt t start p → bytesAt t (span start (start + length p)) ≡ p
 own-bytes t start p h = let size : start + length p - start ≡ length p = omega arith in rw (size, h .is) (take-append-seam p (h .rest))
 
+-- a string within its size
 string-fits : (s : List ℕ) → length s ≤ 127 → readAs kinds.string (quoted s) ≡ kinds.string
 string-fits s h = read-fitting kinds.string (quoted s) (omega (arith, length-append s (quote ∷ [])))
 
+-- a string, and a number
 pub prints-string : {b : List ℕ} (s : List ℕ) → length s ≤ 127 → PrintsLiteral (is kinds.string) (written b kinds.string (quoted s)) (text s)
 unfolding literalOf literalWords
 prints-string {b} s h = record {
@@ -210,6 +75,7 @@ string-literal p = record { of-sort = λ at. rw (p .of-sort at); says = p .says 
 
 -- ---- operands
 
+-- a literal
 pub prints-literal : {x : Written} {l : LiteralOf Word} → PrintsLiteral isLiteral x l → Prints (AnOperand sizes) operandWords (x ∷ []) (literal l)
 unfolding standing operandWords
 prints-literal {x} {l} p = record { anywhere = go }
@@ -243,6 +109,7 @@ paths-same : (start : ℕ) {end end′ used used′ : ℕ} → end ≡ end′ �
 paths-same start e u = rw (e, u)
 
 module _ {root : Root} (n : root ≡ Action → ⊥) {b : List ℕ} where
+  -- the path is read so
   path-read : {xs : List Written} {p : Word} → PrintsPath b xs p → length p ≤ 64 → (at : ℕ) (r : List Lexeme)
       → APath sizes root (standing at xs ++ r) r (pathFrom at b xs p)
   unfolding standing laidOut readAs
@@ -262,7 +129,14 @@ module _ {root : Root} (n : root ≡ Action → ⊥) {b : List ℕ} where
       let x = lexemeOf next z in
       let many = length-append p (kinds.dot ∷ m) in
       let end : next + length d + length m ≡ past at (xs ++ ys) =
-      omega (arith, ap length (laid-append xs ys), length-append (laidOut xs) (laidOut ys), length-append c (46 ∷ (d ++ (m ++ []))), length-append d (m ++ []), length-append m []) in
+      omega (
+        arith,
+        ap length (laid-append xs ys),
+        length-append (laidOut xs) (laidOut ys),
+        length-append c (46 ∷ (d ++ (m ++ []))),
+        length-append d (m ++ []),
+        length-append m [],
+      ) in
       let before : APath sizes root (standing at xs ++ (dot ∷ x ∷ r)) (dot ∷ x ∷ r) (pathFrom at b xs p) = path-read k (omega arith) at (dot ∷ x ∷ r) in
       rw (standing-then at xs ys r)
       (subst (APath sizes root (standing at xs ++ (dot ∷ x ∷ r)) r)
@@ -297,6 +171,7 @@ path-bytes (printing.PrintsPath.more {xs = xs} {p = p} {n = m} {c = c} {d = d} k
     ) in
     rw (laid-append xs ys, unblanked-append (laidOut xs) (laidOut ys), last, path-bytes k)
 
+-- so they are in every text that has them
 path-says : {b : List ℕ} {xs : List Written} {p : Word} (t : List ℕ) (at : ℕ) → PrintsPath b xs p → HasAt t at (laidOut xs)
     → pathAt t (span (at + length b) (past at xs)) ≡ p
 path-says {b} {xs} t at k h =
@@ -342,9 +217,11 @@ prints-attribute {root} {x} {d} {b} {xs} {p} n e f k h = record { anywhere = go 
         }
 
 -- an attribute is an operand
-pub prints-given : {xs : List Written} {root : Root} {p : Word} → Prints RootedPath rootedWords xs (root, p) → Prints (AnOperand sizes) operandWords xs (attribute root p)
+pub prints-given : {xs : List Written} {root : Root} {p : Word} → Prints RootedPath rootedWords xs (root, p)
+    → Prints (AnOperand sizes) operandWords xs (attribute root p)
 unfolding operandWords
-prints-given k = prints-onto (λ (a : Root × Span). attribute (a .0) (a .1)) (λ (a : Root × Word). attribute (a .0) (a .1)) (λ t a. refl) k (λ i r a h. given h)
+prints-given k =
+    prints-onto (λ (a : Root × Span). attribute (a .0) (a .1)) (λ (a : Root × Word). attribute (a .0) (a .1)) (λ t a. refl) k (λ i r a h. given h)
 
 -- ---- conditions that hold no other
 
@@ -422,6 +299,7 @@ prints-both p e q = prints-joined both (λ t c d. refl) p e q
 
 -- ---- lists
 
+-- words of literals one behind the other
 list-words : (t : List ℕ) (ls ks : List Literal) → listWords t (ls ++ ks) ≡ listWords t ls ++ listWords t ks
 unfolding listWords
 list-words t [] ks = refl
@@ -431,6 +309,7 @@ list-words t (l ∷ ls) ks = ap (λ (m : List (LiteralOf Word)). literalWords t 
 abbrev Elements : (Lexeme → Bool) → Reading (List Literal)
 Elements sort = Chain (λ ls. is kinds.comma) (Element sizes sort []) (λ ls comma. Element sizes sort ls)
 
+-- what is read of them, as many as there are
 record ListRead (sort : Lexeme → Bool) (xs : List Written) (ls : List (LiteralOf Word)) (at : ℕ) (r : List Lexeme) : Type 0 where
   printed : PrintsAt (Elements sort) listWords xs ls at r
   many : length (printed .what) ≡ length ls
@@ -516,7 +395,7 @@ pub prints-policy : {permits : Bool} {ps os rs cs : List Written} {p s : PartOf 
     → Prints (After kinds.resourceWord (Before kinds.rightRound ResourceRest)) partWords rs s
     → Prints (Before kinds.semicolon (When sizes)) conditionWords cs c
     → Prints (PolicyRest sizes permits) policyWords (ps ++ (os ++ (rs ++ cs)))
-      (record { permits = permits; principal = p; action = a; resource = s; condition = c })
+    (record { permits = permits; principal = p; action = a; resource = s; condition = c })
 prints-policy {permits} {ps} {os} {rs} {cs} {p} {s} {a} {c} k₁ k₂ k₃ k₄ = record { anywhere = go }
   where
     policy : PolicyOf Word
