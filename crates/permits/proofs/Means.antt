@@ -185,5 +185,6 @@ permit-means view q actions resource t ts = (then-holds, holds-then)
         let first : acts ≡ true = some-texts (q .action) actions ∙ mem-among (q .action) actions (h .action-among) in
         let second : here ≡ true = same-decides (q .resource) resource .complete (h .resource-is) in
         let third : true-there ≡ true =
-        hold-joined view (q .action) (testTree t) ts (holds-test view (q .action) (h .every-test t (List·Memᴰ·head refl))) (λ u m. h .every-test u (List·Memᴰ·tail m)) in
+        hold-joined view (q .action) (testTree t) ts (holds-test view (q .action) (h .every-test t (List·Memᴰ·head refl)))
+        (λ u m. h .every-test u (List·Memᴰ·tail m)) in
         rw (first, second, third)

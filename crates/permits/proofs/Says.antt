@@ -214,7 +214,8 @@ permit-laid {actions} {resource} {t} {ts} m =
           parts-text os rs cs (between (bytes ", ") (map quoted actions)) (quoted resource) (between (bytes " && ") (map testText (t ∷ ts)))
           (action-laid strings) (resource-laid resource (m .resource-is)) (when-laid tests);
       well = well-fixed (well-append (well-fixed (well-fixed (well-fixed none refl) refl) refl)
-          (well-append (action-well strings (laidOut (rs ++ cs) ++ [])) (well-append (resource-well resource (m .resource-is) (laidOut cs ++ [])) (when-well tests [])))) refl;
+          (well-append (action-well strings (laidOut (rs ++ cs) ++ []))
+          (well-append (resource-well resource (m .resource-is) (laidOut cs ++ [])) (when-well tests [])))) refl;
       prints = λ f.
           prints-text (record { read-as = refl })
           (prints-policy

@@ -144,7 +144,8 @@ test-laid (equality {path} {value} i v) =
           well-append (attribute-well path i (laidOut ys ++ q) refl)
           (well-fixed (well-calm none (next refl empty) (a-string (words-string (v .all))) h) (comparator-fixed Equal));
       prints = λ f.
-          prints-comparison (prints-given (attribute-prints path i)) (comparator-kind Equal) (prints-literal (string-literal (prints-string value (equal-few f))));
+          prints-comparison (prints-given (attribute-prints path i)) (comparator-kind Equal)
+          (prints-literal (string-literal (prints-string value (equal-few f))));
       fits = λ e. equal-fits (string-few value (each-first (each-rest (each-right (attributeTokens path i) ys e))));
     }
   where
@@ -155,7 +156,9 @@ test-laid (membership {path} {value} i v) =
     record {
       tokens = stringToken space value ∷ word ∷ attributeTokens path i;
       text = rw (attribute-text path i);
-      well = λ q h. well-calm (well-fixed (attribute-well path i q (calm-word (getD q 0 0) h)) (in-fixed path i q)) (next refl empty) (a-string (words-string (v .all))) refl;
+      well = λ q h.
+          well-calm (well-fixed (attribute-well path i q (calm-word (getD q 0 0) h)) (in-fixed path i q)) (next refl empty)
+          (a-string (words-string (v .all))) refl;
       prints = λ f. prints-within (prints-literal (string-literal (prints-string value (member-few f)))) (record { read-as = refl }) (attribute-prints path i);
       fits = λ e. member-fits (string-few value (each-first e));
     }

@@ -8,10 +8,10 @@ use Rattle.grammar.specs.Policies.{Root.Principal, Comparator, Comparator.Equal
 use Rattle.grammar.specs.Policies.{text, number, attribute, literal, TreeOf, compare, within, both, any, pinned, oneOf, PolicyOf}
 use Rattle.placing.specs.Said.{Word}
 -- a string with its quotes, and a comparator's mark
-pub use Rattle.spelling.specs.Printing.{quoted}
-unfoldable pub use Rattle.spelling.specs.Printing.{markOf}
+pub use Rattle.spelling.specs.Marks.{quoted}
+unfoldable pub use Rattle.spelling.specs.Marks.{markOf}
 
--- A test of the principal's attribute with this path: it is that string; it is a list of strings that has that one; it is a number that compares so with that one.
+-- A test of the principal's attribute with this path: it is that string, a list of strings that has that one, or a number that compares so with that one.
 pub data Test : Type 0 where
   equal : Word → Word → Test
   member : Word → Word → Test

@@ -29,9 +29,10 @@ use Rattle.placing.specs.Placed.{bytesAt, quotedAt, pathAt}
 use Rattle.placing.specs.Said.{Word, literalWords, listWords, operandWords, treeWords, partWords, actionWords, conditionWords, policyWords, wordsOf}
 use Rattle.placing.proofs.Paths.{unblanked-append, unblanked-blanks, unblanked-name, lone-dot}
 use Rattle.spelling.specs.Layout.{Written, written, laidOut, readAs, lexemeOf, standing}
-use Rattle.spelling.specs.Printing.{HasAt, OfKind, PrintsAt, Prints, PrintsLiteral, PrintsList, PrintsPath, quoted, markOf, markKind, rootKind}
+use Rattle.spelling.specs.Printing.{HasAt, OfKind, PrintsAt, Prints, PrintsLiteral, PrintsList, PrintsPath, markKind, rootKind}
 use Rattle.spelling.specs.Printing.{effectKind, RootedPath, rootedWords, PrintsText}
 use Rattle.spelling.specs.Printing as printing
+use Rattle.spelling.specs.Marks.{quoted, markOf}
 use Rattle.spelling.proofs.Laid.{read-fitting}
 use Rattle.spelling.proofs.Fixed.{isFixed, written-opened}
 use Rattle.spelling.proofs.Printing.{past, standing-then, has-right, has-first, has-then, has-token, has-behind, pastToken, tokens-around, has-last}
@@ -446,5 +447,5 @@ prints-text {permits} {x} {xs} {p} e k =
     record {
       policies = here .what ∷ [];
       belongs = grammar.Policies.policy (is-effect .0) refl rest grammar.Policies.end;
-      says = ap (λ (w : PolicyOf Word). w ∷ []) (here .says (laidOut (x ∷ xs)) (has-behind x xs (record { rest = []; is = sym (append-nil (laidOut (x ∷ xs))) })));
+      says = let all = laidOut (x ∷ xs) in ap (λ (w : PolicyOf Word). w ∷ []) (here .says all (has-behind x xs (record { rest = []; is = sym (append-nil all) })));
     }

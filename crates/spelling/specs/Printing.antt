@@ -5,7 +5,7 @@ use mathlib.Core.List.{List, [], _∷_, _++_}
 use Prim.Native.Nat.{ℕ, _+_}
 use lib.ListN.{length, drop}
 use Rattle.slices.specs.Ascii.{bytes}
-use Rattle.tokens.specs.Forms.{All, quote}
+use Rattle.tokens.specs.Forms.{All}
 use Rattle.tokens.specs.Kinds as kinds
 use Rattle.tokens.specs.declared.classes.Sort.the-variants.{Blanks}
 use Rattle.reading.specs.Lexemes.{Lexeme}
@@ -54,19 +54,7 @@ pub data PrintsPath (b : List ℕ) : List Written → Word → Type 0 where
   more : {xs : List Written} {p n : Word} {c d : List ℕ} → PrintsPath b xs p → All Blanks c → All Blanks d → IsName n
       → PrintsPath b (xs ++ (written c kinds.dot (bytes ".") ∷ written d kinds.name n ∷ [])) (p ++ kinds.dot ∷ n)
 
--- a string with its quotes
-abbrev pub quoted : Word → List ℕ
-quoted s = quote ∷ (s ++ quote ∷ [])
-
--- a comparator's mark, and its kind
-unfoldable pub markOf : Comparator → List ℕ
-markOf Equal = bytes "=="
-markOf NotEqual = bytes "!="
-markOf More = bytes ">"
-markOf AtLeast = bytes ">="
-markOf Less = bytes "<"
-markOf AtMost = bytes "<="
-
+-- the kind of a comparator's mark
 unfoldable pub markKind : Comparator → ℕ
 markKind Equal = kinds.equal
 markKind NotEqual = kinds.notEqual
