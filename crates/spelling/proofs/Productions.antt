@@ -84,7 +84,7 @@ prints-literal {x} {l} p = record { anywhere = go }
     go : (at : ℕ) (r : List Lexeme) → PrintsAt (AnOperand sizes) operandWords (x ∷ []) (literal l) at r
     go at r = record {
       what = literal (literalOf (lexemeOf at x));
-      reads = grammar.AnOperand.plain (p .of-sort at);
+      reads = grammar.AnOperand.literally (p .of-sort at);
       says = λ t h. ap literal (p .says at t (has-token x [] h));
     }
 
