@@ -112,6 +112,9 @@ fn one_if(b: bool) -> u8
     if b { 1 } else { 0 }
 }
 
+// Where the third part of what is found of each policy begins: whether its target matches.
+pub const AIMS: usize = 2 * MOST_POLICIES;
+
 // What each policy looks at, in three parts of 64 bytes: the last column that its condition names, its own, from 0 on; the last but that, from 1 on; and
 // whether its target matches the request.
 pub fn looks(
@@ -148,7 +151,7 @@ pub fn looks(
         let aimed = target_matches(text, table, end, x, subject, action, resource, types);
         found[i] = from_zero(own);
         found[MOST_POLICIES + i] = other;
-        found[2 * MOST_POLICIES + i] = one_if(aimed);
+        found[AIMS + i] = one_if(aimed);
         end = x.first;
         number = i;
     }

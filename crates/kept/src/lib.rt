@@ -16,6 +16,7 @@ ghost use Rattle.meaning.specs.Values.{withAction};
 ghost use Rattle.meaning.specs.Targets.{Request};
 ghost use Rattle.meaning.specs.Decisions.{conditionHolds};
 ghost use Rattle.kept.specs.Notes.{Depths, RowSays, ChosenThere, Met, Kept, DecidedFrom, notesSize};
+use crate::depths::AIMS;
 use bags::sections::Sections;
 use deciding::row::by_numbers;
 use deciding::row::condition_holds;
@@ -195,7 +196,7 @@ pub fn decision_from<'a>(
         let column = wide(looks[i]);
         let choice = choices[column];
         let other = wide(looks[MOST_POLICIES + i]);
-        let aim = looks[2 * MOST_POLICIES + i];
+        let aim = looks[AIMS + i];
         let note = Note {
             i: i,
             choice: choice,
