@@ -7,6 +7,7 @@ mod compile_vectors;
 mod decide_vectors;
 mod explain;
 mod folders;
+mod lock_vectors;
 mod number_vectors;
 mod packing;
 mod pattern_vectors;
@@ -36,8 +37,8 @@ const USAGE: &str = "usage:
   second decide DIR                          decide policy.txt, bag.bin and request.txt in DIR
   second ask check DIR                       print what `ask check` prints for policy.txt in DIR
   second ask decide DIR                      print what `ask decide` prints for policy.txt and cases.bin in DIR
-SORT is tokens, number, like, compile, begins, bag, question, view, decide or sheet; README.md says what the input of
-each is";
+SORT is tokens, number, like, compile, begins, bag, question, view, decide, sheet or lock; README.md says what the
+input of each is";
 
 /// The bytes of the sheets that `second sheet` lends.
 const PAGE_BYTES: usize = 6_000;
