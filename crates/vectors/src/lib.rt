@@ -86,6 +86,15 @@ pub fn sum_of(bytes: &[u8]) -> u64
     sum
 }
 
+// Room before it is lent: byte n is n mod 251.
+pub fn fill(room: &mut [u8]) {
+    let mut i = 0;
+    while i < room.len() {
+        room[i] = (i % 251) as u8;
+        i += 1;
+    }
+}
+
 // The length of the next part.
 fn part_size() -> usize
     ensures { λ r. ⌜ r < 65536 ⌝ }

@@ -146,6 +146,15 @@ pub fn write_permit(lent: Lent, room: &mut [u8]) -> Result<usize, u8> {
     Ok(text.len())
 }
 
+/// What the program `caretaker` prints for a room of so many bytes: the permit, or the refusal, and a line feed.
+pub fn printed(lent: Lent, room: usize) -> Vec<u8> {
+    let mut room = vec![0; room];
+    match write_permit(lent, &mut room) {
+        Ok(length) => [&room[..length], b"\n"].concat(),
+        Err(number) => format!("refused {} 0 0\n", number).into_bytes(),
+    }
+}
+
 /// The bytes that are lent.
 #[derive(Clone, Copy)]
 pub struct Lent<'a> {
@@ -784,6 +793,9 @@ mod tests {
         }
         let bad = Lent { lock: b"firm", ..lent };
         assert_eq!(write_permit(bad, &mut []), Err(NO_LOCK));
+        assert_eq!(printed(lent, 300), [&text[..], b"\n"].concat());
+        assert_eq!(printed(lent, 10), b"refused 29 0 0\n");
+        assert_eq!(printed(bad, 300), b"refused 28 0 0\n");
     }
 
     // Each test's truth, worked by hand, and as its permit is decided.
