@@ -1,18 +1,27 @@
 // The action list: strings one after the other, each behind its length byte.
+ghost use mathlib.Core.Path.{_≡_};
+ghost use Rattle.tokens.specs.Table.{classTable};
+ghost use Rattle.permits.specs.Permits.{quoted};
+ghost use Rattle.locks.specs.Reading.{noPiece, isString, actionAt, ActionIs, actionsOf, comma, sizeOf, SizeIs};
 use crate::Piece;
 use crate::Size;
 use tokens::classes::Sort;
 use tokens::runs::run_end;
 
 // The most actions of a list.
-const ACTIONS: usize = 16;
+pub const ACTIONS: usize = 16;
 
 // Whether bytes are a string of document 01.
-pub fn is_string(classes: &[u8; 256], s: &[u8]) -> bool {
+pub fn is_string(classes: &[u8; 256], s: &[u8]) -> bool
+    requires { ⌜ now classes ≡ classTable ⌝ }
+    ensures { λ r. ⌜ r ≡ isString (now (s .entry)) ⌝ }
+{
     (s.len() <= 127) & (run_end(classes, s, 0, Sort::StringBytes) == s.len())
 }
 
-fn no_piece() -> Piece {
+fn no_piece() -> Piece
+    ensures { λ r. ⌜ r ≡ noPiece ⌝ }
+{
     Piece {
         good: false,
         start: 0,
@@ -21,7 +30,10 @@ fn no_piece() -> Piece {
 }
 
 // The string behind the length byte at a place.
-pub fn action_at(classes: &[u8; 256], actions: &[u8], at: usize) -> Piece {
+pub fn action_at(classes: &[u8; 256], actions: &[u8], at: usize) -> Piece
+    requires { ⌜ now classes ≡ classTable ⌝ }
+    ensures { λ r. ⌜ ActionIs (now (actions .entry)) r (actionAt (now (actions .entry)) at) ⌝ }
+{
     if actions.len() <= at {
         return no_piece();
     }
@@ -43,7 +55,10 @@ pub fn action_at(classes: &[u8; 256], actions: &[u8], at: usize) -> Piece {
 }
 
 // How many bytes the list has in a permit: each string with its quotes, and two bytes between two.
-pub fn actions_size(classes: &[u8; 256], actions: &[u8]) -> Size {
+pub fn actions_size(classes: &[u8; 256], actions: &[u8]) -> Size
+    requires { ⌜ now classes ≡ classTable ⌝ }
+    ensures { λ r. ⌜ SizeIs r (sizeOf 0 comma quoted (actionsOf (now (actions .entry)))) 2096 ⌝ }
+{
     let mut left = ACTIONS;
     let mut at = 0;
     let mut size = 0;

@@ -4,6 +4,9 @@ pub mod tests;
 pub mod vocabulary;
 pub mod writing;
 
+ghost use mathlib.Core.Path.{_≡_};
+ghost use Rattle.tokens.specs.Table.{classTable};
+ghost use Rattle.locks.specs.Answers.{readOf, sizeFor, Locked};
 use actions::actions_size;
 use actions::is_string;
 use tests::tests_size;
@@ -45,7 +48,10 @@ fn permit_size(
     lock: &[u8],
     actions: &[u8],
     resource: &[u8],
-) -> Size {
+) -> Size
+    requires { ⌜ now classes ≡ classTable ⌝ }
+    ensures { λ r. ⌜ r ≡ sizeFor (now (resource .entry)) (readOf (now (vocabulary .entry)) (now (lock .entry)) (now (actions .entry)) (now (resource .entry))) ⌝ }
+{
     if !is_vocabulary(classes, vocabulary) {
         return Size::Bad;
     }
@@ -68,7 +74,9 @@ pub fn lock(
     actions: &[u8],
     resource: &[u8],
     room: &mut [u8],
-) -> Answer {
+) -> Answer
+    ensures { λ r. ⌜ Locked (now (vocabulary .entry)) (now (lock .entry)) (now (actions .entry)) (now (resource .entry)) (now (room .entry)) r (now (room .exit)) ⌝ }
+{
     let classes = class_table();
     match permit_size(&classes, vocabulary, lock, actions, resource) {
         Size::Bad => Answer::Refused(NO_LOCK),

@@ -1,4 +1,7 @@
 // The vocabulary: entries one after the other, each a word, a path and a sort. The table of the classes is made once and lent to every call.
+ghost use mathlib.Core.Path.{_≡_};
+ghost use Rattle.tokens.specs.Table.{classTable};
+ghost use Rattle.locks.specs.Reading.{noEntry, entryAt, findFrom, most, isShortWord, isEntry, isVocabulary, Lies, EntryIs};
 use bags::paths::is_path;
 use slices::same;
 use tokens::classes::Sort;
@@ -15,29 +18,33 @@ pub const NUMBER: u8 = 3;
 // The most words of a vocabulary.
 const WORDS: usize = 16;
 
-// Where the word and the path of an entry lie, its sort, and the place behind it; all 0 where no whole entry is.
-pub struct Entry {
+// An entry's sort, its word from `word` up to `stop`, its path from `path` up to `end`, and the place behind it; all 0 where no whole entry is.
+pub struct EntryPlaces {
     pub sort: u8,
     pub word: usize,
-    pub word_end: usize,
+    pub stop: usize,
     pub path: usize,
-    pub path_end: usize,
+    pub end: usize,
     pub next: usize,
 }
 
-fn no_entry() -> Entry {
-    Entry {
+fn no_entry() -> EntryPlaces
+    ensures { λ r. ⌜ r ≡ noEntry ⌝ }
+{
+    EntryPlaces {
         sort: 0,
         word: 0,
-        word_end: 0,
+        stop: 0,
         path: 0,
-        path_end: 0,
+        end: 0,
         next: 0,
     }
 }
 
 // The entry at a place: a length byte, the word, a length byte, the path, a byte for the sort.
-fn entry_at(vocabulary: &[u8], at: usize) -> Entry {
+fn entry_at(vocabulary: &[u8], at: usize) -> EntryPlaces
+    ensures { λ r. ⌜ EntryIs (now (vocabulary .entry)) r (entryAt (now (vocabulary .entry)) at) ⌝ }
+{
     if vocabulary.len() <= at {
         return no_entry();
     }
@@ -46,25 +53,27 @@ fn entry_at(vocabulary: &[u8], at: usize) -> Entry {
     if vocabulary.len() - word <= n {
         return no_entry();
     }
-    let word_end = word + n;
-    let path = word_end + 1;
-    let m = vocabulary[word_end] as usize;
+    let stop = word + n;
+    let path = stop + 1;
+    let m = vocabulary[stop] as usize;
     if vocabulary.len() - path <= m {
         return no_entry();
     }
-    let path_end = path + m;
-    Entry {
-        sort: vocabulary[path_end],
+    let end = path + m;
+    EntryPlaces {
+        sort: vocabulary[end],
         word,
-        word_end,
+        stop,
         path,
-        path_end,
-        next: path_end + 1,
+        end,
+        next: end + 1,
     }
 }
 
 // The first entry from a place on that has the word; sort 0 where none has.
-pub fn find(vocabulary: &[u8], from: usize, word: &[u8]) -> Entry {
+pub fn find(vocabulary: &[u8], from: usize, word: &[u8]) -> EntryPlaces
+    ensures { λ r. ⌜ EntryIs (now (vocabulary .entry)) r (findFrom most (now (vocabulary .entry)) from (now (word .entry))) ⌝ }
+{
     let mut left = WORDS;
     let mut at = from;
     while 0 < left {
@@ -73,8 +82,8 @@ pub fn find(vocabulary: &[u8], from: usize, word: &[u8]) -> Entry {
             return no_entry();
         }
         let start = e.word;
-        let end = e.word_end;
-        if same(&vocabulary[start..end], word) {
+        let stop = e.stop;
+        if same(&vocabulary[start..stop], word) {
             return e;
         }
         at = e.next;
@@ -84,7 +93,10 @@ pub fn find(vocabulary: &[u8], from: usize, word: &[u8]) -> Entry {
 }
 
 // Whether bytes are a word of document 01.
-fn is_word(classes: &[u8; 256], word: &[u8]) -> bool {
+fn is_word(classes: &[u8; 256], word: &[u8]) -> bool
+    requires { ⌜ now classes ≡ classTable ⌝ }
+    ensures { λ r. ⌜ r ≡ isShortWord (now (word .entry)) ⌝ }
+{
     if word.len() == 0 {
         return false;
     }
@@ -96,23 +108,30 @@ fn is_word(classes: &[u8; 256], word: &[u8]) -> bool {
 }
 
 // Whether an entry is one of a vocabulary, and no later one has its word.
-fn is_entry(classes: &[u8; 256], vocabulary: &[u8], e: Entry) -> bool {
+fn is_entry(classes: &[u8; 256], vocabulary: &[u8], e: EntryPlaces) -> bool
+    requires { ⌜ now classes ≡ classTable ⌝ }
+    requires { ⌜ Lies (now vocabulary) e ⌝ }
+    ensures { λ r. ⌜ r ≡ isEntry (now (vocabulary .entry)) e ⌝ }
+{
     let word = e.word;
-    let word_end = e.word_end;
+    let stop = e.stop;
     let path = e.path;
-    let path_end = e.path_end;
+    let end = e.end;
     let next = e.next;
     if (e.sort == 0) | (NUMBER < e.sort) {
         return false;
     }
-    let later = find(vocabulary, next, &vocabulary[word..word_end]);
-    is_word(classes, &vocabulary[word..word_end])
-        & is_path(classes, &vocabulary[path..path_end])
+    let later = find(vocabulary, next, &vocabulary[word..stop]);
+    is_word(classes, &vocabulary[word..stop])
+        & is_path(classes, &vocabulary[path..end])
         & (later.sort == 0)
 }
 
 // Whether bytes are a vocabulary.
-pub fn is_vocabulary(classes: &[u8; 256], vocabulary: &[u8]) -> bool {
+pub fn is_vocabulary(classes: &[u8; 256], vocabulary: &[u8]) -> bool
+    requires { ⌜ now classes ≡ classTable ⌝ }
+    ensures { λ r. ⌜ r ≡ isVocabulary (now (vocabulary .entry)) ⌝ }
+{
     let mut left = WORDS;
     let mut at = 0;
     while at < vocabulary.len() {

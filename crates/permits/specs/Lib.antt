@@ -1,2 +1,3 @@
 pub mod Permits
 pub mod Meaning
+pub mod Promise

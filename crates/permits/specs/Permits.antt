@@ -4,10 +4,12 @@ use mathlib.Core.List.{List, [], _∷_, _++_, map}
 use mathlib.Core.Option.{some}
 use Prim.Native.Nat.{ℕ}
 use Rattle.slices.specs.Ascii.{bytes}
-use Rattle.tokens.specs.Forms.{quote}
-use Rattle.grammar.specs.Policies.{Root.Principal, Comparator, Comparator.Equal, Comparator.NotEqual, Comparator.More, Comparator.AtLeast, Comparator.Less, Comparator.AtMost}
+use Rattle.grammar.specs.Policies.{Root.Principal, Comparator, Comparator.Equal}
 use Rattle.grammar.specs.Policies.{text, number, attribute, literal, TreeOf, compare, within, both, any, pinned, oneOf, PolicyOf}
 use Rattle.placing.specs.Said.{Word}
+-- a string with its quotes, and a comparator's mark
+pub use Rattle.spelling.specs.Printing.{quoted}
+unfoldable pub use Rattle.spelling.specs.Printing.{markOf}
 
 -- A test of the principal's attribute with this path: it is that string; it is a list of strings that has that one; it is a number that compares so with that one.
 pub data Test : Type 0 where
@@ -16,10 +18,6 @@ pub data Test : Type 0 where
   order : Word → Comparator → Word → Test
 
 -- ---- the spelling
-
--- a string with its quotes
-abbrev pub quoted : Word → List ℕ
-quoted s = quote ∷ (s ++ quote ∷ [])
 
 -- some byte strings, with another between each two
 unfoldable pub between : List ℕ → List (List ℕ) → List ℕ
@@ -30,15 +28,6 @@ between sep (x ∷ y ∷ xs) = x ++ (sep ++ between sep (y ∷ xs))
 -- the attribute of the principal with this path
 abbrev pub ofPrincipal : Word → List ℕ
 ofPrincipal path = bytes "principal." ++ path
-
--- a comparator's mark
-unfoldable pub markOf : Comparator → List ℕ
-markOf Equal = bytes "=="
-markOf NotEqual = bytes "!="
-markOf More = bytes ">"
-markOf AtLeast = bytes ">="
-markOf Less = bytes "<"
-markOf AtMost = bytes "<="
 
 -- a test as a condition
 unfoldable pub testText : Test → List ℕ

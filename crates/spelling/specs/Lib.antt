@@ -1,4 +1,6 @@
 pub mod Spelling
+pub mod Layout
+pub mod Printing
 pub mod Pieces
 pub mod Moves
 pub mod Texts
