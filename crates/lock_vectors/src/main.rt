@@ -30,7 +30,7 @@ fn report_decision(answer: DeskDecision) {
 }
 
 // The permit, compiled, decides; the bag and the request's subject, action and resource lie in the memory from a place on.
-fn decide(permit: &[u8], memory: &[u8], at: usize)
+fn decide<'a>(permit: &'a [u8], memory: &'a [u8], at: usize)
     requires { ⌜ at ≤ length (now memory) ⌝ }
 {
     let bag = packed::part_start(memory, at);
