@@ -1,5 +1,4 @@
 // Writes one lock's permit again and again, so that the instructions can be counted. The input: how often, in 4 bytes, and as parts the vocabulary, the lock, the actions and the resource.
-ghost use mathlib.Core.Path.{_≡_};
 ghost use lib.ListN.{length};
 ghost use Prim.Native.Nat.{_<_, _≤_};
 use locks::Answer;
@@ -15,7 +14,7 @@ fn told(answer: Answer) -> u64
     }
 }
 
-// The sum goes into the byte behind the lock before each call, so the compiler can neither drop a call nor take one for all.
+// The lock is the first `size` bytes; the last one is past it.
 fn write_once(
     vocabulary: &[u8],
     bytes: &mut [u8],
@@ -25,10 +24,10 @@ fn write_once(
     room: &mut [u8],
     sum: u64,
 ) -> u64
-    requires { ⌜ (size < length (now bytes)) × (sum < 1000003) ⌝ }
+    requires { ⌜ (size ≤ length (now bytes)) × (sum < 1000003) ⌝ }
     ensures { λ r. ⌜ r < 1000003 ⌝ }
 {
-    bytes[size] = (sum % 256) as u8;
+    vectors::stamp(bytes, sum);
     let answer = lock(vocabulary, &bytes[..size], actions, resource, room);
     (sum + told(answer)) % 1000003
 }
@@ -42,7 +41,7 @@ fn write_often(
     resource: &[u8],
     room: &mut [u8],
 ) -> u64
-    requires { ⌜ size < length (now bytes) ⌝ }
+    requires { ⌜ size ≤ length (now bytes) ⌝ }
 {
     let mut sum: u64 = 0;
     let mut left = times;
@@ -53,16 +52,15 @@ fn write_often(
     sum
 }
 
-// The buffer of the lock has a byte more than is read.
 fn main() {
     let mut vocabulary = [0u8; 4096];
-    let mut bytes = [0u8; 8193];
+    let mut bytes = [0u8; 8192];
     let mut actions = [0u8; 4096];
     let mut resource = [0u8; 128];
     let mut room = [0u8; 8192];
     let times = vectors::vector_count();
     let v = vectors::read_part(&mut vocabulary);
-    let n = vectors::read_part(&mut bytes[..8192]);
+    let n = vectors::read_part(&mut bytes);
     let a = vectors::read_part(&mut actions);
     let r = vectors::read_part(&mut resource);
     let sum = write_often(
