@@ -13,9 +13,9 @@ extern "C" {
 #define DESK_LAID_OUT _Static_assert
 #endif
 
-#define DESK_VERSION "1.0"
+#define DESK_VERSION "1.1"
 #define DESK_VERSION_MAJOR 1
-#define DESK_VERSION_MINOR 0
+#define DESK_VERSION_MINOR 1
 
 /* Outcomes of a decision and of a listed row. Yes is ALLOWED or SYSTEM. */
 #define DESK_ALLOWED 1u
@@ -87,6 +87,20 @@ extern "C" {
 #define DESK_MOST_REQUEST_PART 100u
 #define DESK_ROW_BYTES 6u
 
+/* Refusals of a lock. */
+#define DESK_REFUSED_LOCK 28u
+#define DESK_REFUSED_PERMIT_ROOM 29u
+
+/* A lock: the words of its vocabulary, its tests; the longest permit. */
+#define DESK_MOST_LOCK_WORDS 16u
+#define DESK_MOST_TESTS 16u
+#define DESK_MOST_PERMIT 5651u
+
+/* Sorts of a vocabulary's words. */
+#define DESK_SORT_EQUALITY 1u
+#define DESK_SORT_MEMBERSHIP 2u
+#define DESK_SORT_NUMBER 3u
+
 /* What compiling answers: the refusal with its line and column, or the policies and the bytes of the table that they use. */
 typedef struct {
     uint32_t refusal;
@@ -149,6 +163,16 @@ DeskPage desk_sheet(const uint8_t *text, size_t text_length, const uint8_t *tabl
 
 /* How many rows a question has, and 0 where the bytes are none. */
 size_t desk_rows(const uint8_t *question, size_t question_length);
+
+/* What writing a lock's permit answers: the permit's length. */
+typedef struct {
+    uint32_t refusal;
+    size_t length;
+} DeskLock;
+DESK_LAID_OUT(sizeof(DeskLock) == 16 && offsetof(DeskLock, refusal) == 0 && offsetof(DeskLock, length) == 8, "DeskLock");
+
+/* Writes the permit that a lock says over the start of the room. The bytes past it stay, and a refusal changes nothing. */
+DeskLock desk_lock(const uint8_t *vocabulary, size_t vocabulary_length, const uint8_t *lock, size_t lock_length, const uint8_t *actions, size_t actions_length, const uint8_t *resource, size_t resource_length, uint8_t *room, size_t room_length);
 
 #undef DESK_LAID_OUT
 #ifdef __cplusplus

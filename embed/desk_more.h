@@ -1,5 +1,5 @@
-/* What stands beside the archive and is optional: a sentence for each refusal (desk_messages.c), a writer of bags and a reader of lists (desk_bags.c). Like the desk they need no
-   heap, no globals and of a C library memcpy alone. They are ordinary C, not proved; embed/run tests them. */
+/* What stands beside the archive and is optional: a sentence for each refusal (desk_messages.c), a writer of bags and a reader of lists (desk_bags.c), a writer of
+   the vocabularies and action lists of locks (desk_locks.c). Like the desk they need no heap, no globals and of a C library memcpy alone. They are ordinary C, not proved; embed/run tests them. */
 #ifndef DESK_MORE_H
 #define DESK_MORE_H
 #include "desk_slices.h"
@@ -26,8 +26,8 @@ typedef enum {
     DESK_WROTE,
     DESK_WROTE_NO_ROOM, /* the lent bytes, or the most that a bag may have, are used up */
     DESK_WROTE_MANY,    /* the section has as many entries as it may, or the list as many strings */
-    DESK_WROTE_TWICE,   /* the section has this path already; for a list, has it with no list */
-    DESK_WROTE_PATH,    /* no root, or no path of a bag: a name that is none, a reserved word, too long */
+    DESK_WROTE_TWICE,   /* the section has this path already; for a list, has it with no list; the vocabulary has this word already */
+    DESK_WROTE_PATH,    /* no root, or no path of a bag: a name that is none, a reserved word, too long; a word or a path of a vocabulary that is empty or too long */
     DESK_WROTE_VALUE    /* a string that is too long, or a number that is not finite */
 } DeskWrote;
 
@@ -51,6 +51,29 @@ size_t desk_list_length(DeskBag bag, uint8_t root, DeskPath path);
 
 /* Where a string of an attribute's list lies in the bag, the first at index 0; 0 and 0 where there is none. */
 DeskString desk_list_string(DeskBag bag, uint8_t root, DeskPath path, size_t index);
+
+/* ---- desk_locks.c */
+
+/* A vocabulary or an action list that is being written into memory that the caller lends. Between two calls, bytes and length are one, of so many words or actions. */
+typedef struct {
+    uint8_t *bytes;
+    size_t room;
+    size_t length;
+    size_t many;
+} DeskLockWriter;
+
+/* No word and no action yet. So many bytes are enough for every vocabulary, and for every action list. */
+#define DESK_VOCABULARY_ROOM (DESK_MOST_LOCK_WORDS * (3 + DESK_MOST_WORD + DESK_MOST_PATH))
+#define DESK_ACTIONS_ROOM (DESK_MOST_LITERALS * (1 + DESK_MOST_TEXT_STRING))
+void desk_lock_begin(DeskLockWriter *w, void *bytes, size_t room);
+
+/* A word more, with its path and sort; an action more. Lengths, numbers and repeated words are looked at here, all else by desk_lock. */
+DeskWrote desk_lock_word(DeskLockWriter *w, const void *word, size_t length, DeskPath path, uint8_t sort);
+DeskWrote desk_lock_action(DeskLockWriter *w, const void *action, size_t length);
+
+/* What was written. */
+static inline DeskVocabulary desk_vocabulary_written(const DeskLockWriter *w) { return desk_vocabulary(w->bytes, w->length); }
+static inline DeskActions desk_actions_written(const DeskLockWriter *w) { return desk_actions(w->bytes, w->length); }
 
 #ifdef __cplusplus
 }

@@ -33,4 +33,9 @@ fn main() {
         start = p.next;
     }
     println!("allowed {} ({} pages)", listed, pages);
+
+    let mut permit = [0u8; desk::MOST_PERMIT];
+    let l = desk::lock(b"\x04firm\x04firm\x01\x05grade\x05grade\x03", b"firm:own & grade>=3", b"\x05teach", b"shaft:A", &mut permit);
+    assert_eq!(l.refusal, 0);
+    println!("{}", String::from_utf8_lossy(&permit[..l.length]));
 }

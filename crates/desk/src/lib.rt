@@ -220,3 +220,31 @@ pub extern "C" fn desk_rows(question: &[u8]) -> usize
 {
     sheets::row_count(question)
 }
+
+// What writing a lock's permit answers: the permit's length.
+#[repr(C)]
+pub struct DeskLock {
+    pub refusal: u32,
+    pub length: usize,
+}
+
+// Writes the permit that a lock says over the start of the room. The bytes past it stay, and a refusal changes nothing.
+#[no_mangle]
+pub extern "C" fn desk_lock(
+    vocabulary: &[u8],
+    lock: &[u8],
+    actions: &[u8],
+    resource: &[u8],
+    room: &mut [u8],
+) -> DeskLock {
+    match locks::lock(vocabulary, lock, actions, resource, room) {
+        locks::Answer::Written(length) => DeskLock {
+            refusal: 0,
+            length: length,
+        },
+        locks::Answer::Refused(number) => DeskLock {
+            refusal: number as u32,
+            length: 0,
+        },
+    }
+}

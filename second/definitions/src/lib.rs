@@ -4,6 +4,7 @@ pub mod asking;
 pub mod bags;
 pub mod compile;
 pub mod deciding;
+pub mod locks;
 pub mod numbers;
 pub mod patterns;
 pub mod plans;

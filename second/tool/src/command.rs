@@ -44,6 +44,7 @@ pub struct Words {
     pub rules: Option<String>,
     pub html: Option<String>,
     pub row: Option<usize>,
+    pub room: Option<usize>,
     pub table: bool,
     pub forbidden: bool,
     pub missing_is_empty: bool,
@@ -75,6 +76,10 @@ impl Words {
                 "--html" => match value() {
                     Some(name) => read.html = Some(name),
                     None => return usage("--html needs the name of the file to write".to_string()),
+                },
+                "--room" => match value().map(|number| number.parse::<u16>()) {
+                    Some(Ok(number)) => read.room = Some(usize::from(number)),
+                    _ => return usage("--room needs a number of bytes, at most 65,535".to_string()),
                 },
                 _ => match value().map(|number| number.parse()) {
                     Some(Ok(number)) => read.row = Some(number),

@@ -11,6 +11,7 @@ use crate::begins_vectors;
 use crate::compile_vectors;
 use crate::decide_vectors;
 use crate::explain;
+use crate::lock_vectors;
 use crate::number_vectors;
 use crate::packing::{Packer, Unpacker};
 use crate::pattern_vectors;
@@ -48,7 +49,7 @@ pub struct Sort {
 }
 
 /// All sorts of vectors.
-pub static SORTS: [Sort; 10] = [
+pub static SORTS: [Sort; 11] = [
     Sort {
         name: "tokens",
         explain_word: "tokens",
@@ -168,6 +169,18 @@ pub static SORTS: [Sort; 10] = [
         answer: sheet_vectors::answer,
         read_typed: explain::read_sheet,
         explain: explain::sheet,
+    },
+    Sort {
+        name: "lock",
+        explain_word: "lock",
+        parts: 9,
+        packed: true,
+        count: 20_000,
+        fixed: lock_vectors::fixed,
+        random: lock_vectors::random,
+        answer: lock_vectors::answer,
+        read_typed: explain::read_lock,
+        explain: explain::lock,
     },
 ];
 
