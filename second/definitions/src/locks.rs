@@ -164,6 +164,22 @@ pub struct Lent<'a> {
     pub resource: &'a [u8],
 }
 
+/// The same bytes, kept.
+#[derive(Clone, Debug)]
+pub struct LentBytes {
+    pub vocabulary: Vec<u8>,
+    pub lock: Vec<u8>,
+    pub actions: Vec<u8>,
+    pub resource: Vec<u8>,
+}
+
+impl LentBytes {
+    pub fn lent(&self) -> Lent<'_> {
+        let LentBytes { vocabulary, lock, actions, resource } = self;
+        Lent { vocabulary, lock, actions, resource }
+    }
+}
+
 /// What the permit is made of, or a reason of 28: the first in vocabulary, lock, actions, resource.
 pub fn permit_of(lent: Lent) -> Result<Permit, Flaw> {
     let words = words_of(lent.vocabulary)?;

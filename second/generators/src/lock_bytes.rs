@@ -1,7 +1,7 @@
 //! Random locks with their vocabularies, actions and resources: valid ones, ones that break one rule, and damaged ones; and requests and bags in
 //! which their tests hold, or nearly do.
 
-use definitions::locks::{action_bytes, vocabulary_bytes, Asks, Lent, Permit};
+use definitions::locks::{action_bytes, vocabulary_bytes, Asks, LentBytes, Permit};
 use definitions::numbers::value_of;
 use definitions::plans::{list_value, number_value, string_value, Entry, Plan};
 use definitions::tokens::RESERVED_WORDS;
@@ -18,21 +18,6 @@ pub struct LockPlan {
     pub pieces: Vec<Vec<u8>>,
     pub actions: Vec<Vec<u8>>,
     pub resource: Vec<u8>,
-}
-
-/// The bytes that are lent.
-#[derive(Clone)]
-pub struct LentBytes {
-    pub vocabulary: Vec<u8>,
-    pub lock: Vec<u8>,
-    pub actions: Vec<u8>,
-    pub resource: Vec<u8>,
-}
-
-impl LentBytes {
-    pub fn lent(&self) -> Lent<'_> {
-        Lent { vocabulary: &self.vocabulary, lock: &self.lock, actions: &self.actions, resource: &self.resource }
-    }
 }
 
 const WORDS: [&str; 14] = [

@@ -1,10 +1,10 @@
 //! The reasons of refusal 28, each as a sentence that says what is wrong and what to write (docs/LOCKS.md), and refusal 29.
 
-use definitions::locks::{Flaw, Part, Reason, Sort};
+use definitions::locks::{Flaw, LentBytes, Part, Reason, Sort};
 
 use crate::doubts::nearest;
 use crate::expected::reserved_words;
-use crate::locking::{LentBytes, LockFile, LockLine};
+use crate::locking::{LockFile, LockLine};
 use crate::words::{count_of, grouped};
 use crate::writing::shown;
 

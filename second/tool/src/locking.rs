@@ -1,6 +1,6 @@
 //! Locks as text: the words of a vocabulary, actions, resources and locks of a file (docs/LOCKS.md), and the bytes that the proved program is lent.
 
-use definitions::locks::{action_bytes, vocabulary_bytes, Flaw, Lent, Part, Sort};
+use definitions::locks::{action_bytes, vocabulary_bytes, Flaw, LentBytes, Part, Sort};
 
 use crate::reading::{is_word_byte, wrong, Read, Reader};
 
@@ -46,21 +46,6 @@ pub struct LockLine {
 pub struct LockFile {
     pub words: Vec<WordLine>,
     pub locks: Vec<LockLine>,
-}
-
-/// What is lent to the desk for one lock.
-pub struct LentBytes {
-    pub vocabulary: Vec<u8>,
-    pub lock: Vec<u8>,
-    pub actions: Vec<u8>,
-    pub resource: Vec<u8>,
-}
-
-impl LentBytes {
-    pub fn lent(&self) -> Lent<'_> {
-        let LentBytes { vocabulary, lock, actions, resource } = self;
-        Lent { vocabulary, lock, actions, resource }
-    }
 }
 
 impl LockFile {

@@ -1,9 +1,9 @@
 //! The lock vectors: vocabulary, lock, actions, resource and the room's length; a bag and a request. The answer: the permit's length, or the
 //! refusal's number; a sum of the whole room; and of a permit what it decides, by what the lock means.
 
-use definitions::locks::{action_bytes, permit_of, vocabulary_bytes, write_permit, Lent};
+use definitions::locks::{action_bytes, permit_of, vocabulary_bytes, write_permit, Lent, LentBytes};
 use definitions::tokens::RESERVED_WORDS;
-use generators::lock_bytes::{break_a_rule, bytes_of, case, damage, plan, LentBytes, BLANKS};
+use generators::lock_bytes::{break_a_rule, bytes_of, case, damage, plan, BLANKS};
 use generators::random::Random;
 use generators::rich_bags::bag_of;
 
