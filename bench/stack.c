@@ -130,13 +130,16 @@ static volatile bool wrong;       // an answer without a refusal that is not rig
 #define BASE "\4\1" "f" "\3\1\1" "l" "\4\2\1" "x" "\5" "abcde" "\1" "n" "\2\0\0\0\0\0\0\xF0\x3F\1" "s" "\1\5" "abcde"
 static const char bag[] = BASE "\1\1" "c" "\1\5" "abcde" "\0";
 static const char question[] = BASE "\0\0\2" "\2\1" "c" "\2\0\1\5" "abcde" "\3\1" "d" "\2\0\2\0\0\0\0\0\0\xF0\x3F";
+static const char requests[] = "\10person:a\5teach\7shaft:A";
 static uint8_t sheet[24];
+static uint32_t counts[DESK_TALLY_COUNTS];
 
 static void nothing(void) {}
 static void compile(void) { refusal = desk_compile(TEXT).refusal; }
 static void begins(void) { refusal = desk_begins(TEXT) ? 0 : 20; }
 static void decide(void) { refusal = desk_decide(TEXT, LENT(bag), REQUEST).refusal; }
 static void page(void) { refusal = desk_sheet(TEXT, LENT(question), REQUEST, 0, sheet, sizeof sheet, 0).refusal; }
+static void tally(void) { refusal = desk_tally(TEXT, LENT(question), 1, LENT(requests), counts); }
 static void lookup(void) { wrong |= desk_lookup(LENT(bag), 2, LENT("c")).kind != 1; }
 static void string(void) { wrong |= desk_string(LENT(bag), 2, LENT("c")).length != 5; }
 static void rows(void) { wrong |= desk_rows(LENT(question)) != 4; }
@@ -162,8 +165,8 @@ static struct call {
     void (*call)(void);
     size_t limit, most;
     struct nesting deepest;
-} calls[] = {{"compile", compile, 14500, 0, {0}}, {"begins", begins, 14500, 0, {0}}, {"decide", decide, 16000, 0, {0}}, {"sheet", page, 17500, 0, {0}}, {"lookup", lookup, 1000, 0, {0}}, {"string", string, 1000, 0, {0}}, {"rows", rows, 1000, 0, {0}}, {"lock", lock, 3000, 0, {0}}};
-enum { WITH_TEXT = 4, CALLS = COUNT(calls) };
+} calls[] = {{"compile", compile, 14500, 0, {0}}, {"begins", begins, 14500, 0, {0}}, {"decide", decide, 16000, 0, {0}}, {"tally", tally, 17500, 0, {0}}, {"sheet", page, 17500, 0, {0}}, {"lookup", lookup, 1000, 0, {0}}, {"string", string, 1000, 0, {0}}, {"rows", rows, 1000, 0, {0}}, {"lock", lock, 3000, 0, {0}}};
+enum { WITH_TEXT = 5, CALLS = COUNT(calls) };
 static size_t most_of_sort[WITH_TEXT][SORTS];   // the most with leaves of each sort, and with which leaf
 static int leaf_of_sort[WITH_TEXT][SORTS];
 static size_t most_of_row[STEPS + 2][WITH_TEXT]; // with each level repeated, without levels, and of the chain

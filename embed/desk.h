@@ -1,6 +1,6 @@
 /* The desk for C: made by embed/header. docs/EMBEDDING.md says what each answer means and which sizes to reserve.
-   A slice is two arguments: where it starts and how many bytes it has. No proof reaches a caller in C. It owes: each pointer leads to so many bytes, which stay until the
-   call returns (with 0 bytes any pointer will do, NULL too); what is lent without const overlaps nothing else that is lent to the same call. */
+   A slice is two arguments: where it starts and how many bytes it has; an array is where it starts. No proof reaches a caller in C. It owes: each pointer leads to so many bytes or
+   numbers, which stay until the call returns (with 0 bytes any pointer will do, NULL too); what is lent without const overlaps nothing else that is lent to the same call. */
 #ifndef DESK_H
 #define DESK_H
 #include <stdbool.h>
@@ -13,9 +13,9 @@ extern "C" {
 #define DESK_LAID_OUT _Static_assert
 #endif
 
-#define DESK_VERSION "1.1"
+#define DESK_VERSION "1.2"
 #define DESK_VERSION_MAJOR 1
-#define DESK_VERSION_MINOR 1
+#define DESK_VERSION_MINOR 2
 
 /* Outcomes of a decision and of a listed row. Yes is ALLOWED or SYSTEM. */
 #define DESK_ALLOWED 1u
@@ -61,6 +61,7 @@ extern "C" {
 #define DESK_REFUSED_BAG 24u
 #define DESK_REFUSED_SHEET_ROOM 25u
 #define DESK_REFUSED_START 26u
+#define DESK_REFUSED_REQUESTS 27u
 
 /* Sizes: a text and its table, */
 #define DESK_MOST_TEXT 8192u
@@ -86,6 +87,13 @@ extern "C" {
 /* a request and a listed row. */
 #define DESK_MOST_REQUEST_PART 100u
 #define DESK_ROW_BYTES 6u
+
+/* A tally: its requests; the counts of a group, those of the outcomes first; the number of the group that has the sums; all its counts. */
+#define DESK_MOST_REQUESTS 8u
+#define DESK_TALLY_OUTCOMES 4u
+#define DESK_TALLY_GROUP 68u
+#define DESK_TALLY_SUMS 8u
+#define DESK_TALLY_COUNTS 612u
 
 /* Refusals of a lock. */
 #define DESK_REFUSED_LOCK 28u
@@ -163,6 +171,9 @@ DeskPage desk_sheet(const uint8_t *text, size_t text_length, const uint8_t *tabl
 
 /* How many rows a question has, and 0 where the bytes are none. */
 size_t desk_rows(const uint8_t *question, size_t question_length);
+
+/* The tally of so many requests over one question. `requests` has subject, action and resource of each, each behind a length byte. `counts` has nine groups of 68 numbers, one for each of eight requests and the sums: the rows of outcome 1 to 4, then those that policy 1 to 64 decides. Answers the refusal's number, 0 where nothing is refused; a refusal changes nothing. */
+uint32_t desk_tally(const uint8_t *text, size_t text_length, const uint8_t *table, size_t table_length, const uint8_t *question, size_t question_length, size_t many, const uint8_t *requests, size_t requests_length, uint32_t counts[612]);
 
 /* What writing a lock's permit answers: the permit's length. */
 typedef struct {

@@ -2,7 +2,7 @@
 //! lend is as the desk asks for it. Link with libdesk.a.
 #![allow(dead_code)]
 
-pub const VERSION: &str = "1.1";
+pub const VERSION: &str = "1.2";
 
 // Outcomes of a decision and of a listed row. Yes is ALLOWED or SYSTEM.
 pub const ALLOWED: u32 = 1;
@@ -48,6 +48,7 @@ pub const REFUSED_RESOURCE: u32 = 23;
 pub const REFUSED_BAG: u32 = 24;
 pub const REFUSED_SHEET_ROOM: u32 = 25;
 pub const REFUSED_START: u32 = 26;
+pub const REFUSED_REQUESTS: u32 = 27;
 
 // Sizes: a text and its table,
 pub const MOST_TEXT: usize = 8192;
@@ -73,6 +74,13 @@ pub const MOST_CANDIDATES: usize = 8;
 // a request and a listed row.
 pub const MOST_REQUEST_PART: usize = 100;
 pub const ROW_BYTES: usize = 6;
+
+// A tally: its requests; the counts of a group, those of the outcomes first; the number of the group that has the sums; all its counts.
+pub const MOST_REQUESTS: usize = 8;
+pub const TALLY_OUTCOMES: usize = 4;
+pub const TALLY_GROUP: usize = 68;
+pub const TALLY_SUMS: usize = 8;
+pub const TALLY_COUNTS: usize = 612;
 
 // Refusals of a lock.
 pub const REFUSED_LOCK: u32 = 28;
@@ -151,6 +159,7 @@ extern "C" {
     fn desk_string(bag: *const u8, bag_length: usize, root: u8, path: *const u8, path_length: usize) -> DeskString;
     fn desk_sheet(text: *const u8, text_length: usize, table: *const u8, table_length: usize, question: *const u8, question_length: usize, subject: *const u8, subject_length: usize, action: *const u8, action_length: usize, resource: *const u8, resource_length: usize, start: usize, sheet: *mut u8, sheet_length: usize, at: usize) -> DeskPage;
     fn desk_rows(question: *const u8, question_length: usize) -> usize;
+    fn desk_tally(text: *const u8, text_length: usize, table: *const u8, table_length: usize, question: *const u8, question_length: usize, many: usize, requests: *const u8, requests_length: usize, counts: *mut u32) -> u32;
     fn desk_lock(vocabulary: *const u8, vocabulary_length: usize, lock: *const u8, lock_length: usize, actions: *const u8, actions_length: usize, resource: *const u8, resource_length: usize, room: *mut u8, room_length: usize) -> DeskLock;
 }
 
@@ -187,6 +196,11 @@ pub fn sheet(text: &[u8], table: &[u8], question: &[u8], subject: &[u8], action:
 /// How many rows a question has, and 0 where the bytes are none.
 pub fn rows(question: &[u8]) -> usize {
     unsafe { desk_rows(question.as_ptr(), question.len()) }
+}
+
+/// The tally of so many requests over one question. `requests` has subject, action and resource of each, each behind a length byte. `counts` has nine groups of 68 numbers, one for each of eight requests and the sums: the rows of outcome 1 to 4, then those that policy 1 to 64 decides. Answers the refusal's number, 0 where nothing is refused; a refusal changes nothing.
+pub fn tally(text: &[u8], table: &[u8], question: &[u8], many: usize, requests: &[u8], counts: &mut [u32; 612]) -> u32 {
+    unsafe { desk_tally(text.as_ptr(), text.len(), table.as_ptr(), table.len(), question.as_ptr(), question.len(), many, requests.as_ptr(), requests.len(), counts.as_mut_ptr()) }
 }
 
 /// Writes the permit that a lock says over the start of the room. The bytes past it stay, and a refusal changes nothing.

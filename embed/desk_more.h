@@ -1,5 +1,6 @@
-/* What stands beside the archive and is optional: a sentence for each refusal (desk_messages.c), a writer of bags and a reader of lists (desk_bags.c), a writer of
-   the vocabularies and action lists of locks (desk_locks.c). Like the desk they need no heap, no globals and of a C library memcpy alone. They are ordinary C, not proved; embed/run tests them. */
+/* What stands beside the archive and is optional: a sentence for each refusal (desk_messages.c), a writer of bags and a reader of lists (desk_bags.c), a writer of the requests of
+   a tally and readers of its counts (desk_tallies.c), a writer of the vocabularies and action lists of locks (desk_locks.c). Like the desk they need no heap, no globals and of a C
+   library memcpy alone. They are ordinary C, not proved; embed/run tests them. */
 #ifndef DESK_MORE_H
 #define DESK_MORE_H
 #include "desk_slices.h"
@@ -21,14 +22,14 @@ typedef struct {
     size_t length;
 } DeskBagWriter;
 
-/* What a call of the writer answers. Where it is not DESK_WROTE, the bag is as it was before. */
+/* What a call of a writer answers. Where it is not DESK_WROTE, the bag or the requests are as they were before. */
 typedef enum {
     DESK_WROTE,
     DESK_WROTE_NO_ROOM, /* the lent bytes, or the most that a bag may have, are used up */
-    DESK_WROTE_MANY,    /* the section has as many entries as it may, or the list as many strings */
+    DESK_WROTE_MANY,    /* the section has as many entries as it may, the list as many strings, or the tally as many requests */
     DESK_WROTE_TWICE,   /* the section has this path already; for a list, has it with no list; the vocabulary has this word already */
     DESK_WROTE_PATH,    /* no root, or no path of a bag: a name that is none, a reserved word, too long; a word or a path of a vocabulary that is empty or too long */
-    DESK_WROTE_VALUE    /* a string that is too long, or a number that is not finite */
+    DESK_WROTE_VALUE    /* a string that is too long, a number that is not finite, or a part of a request that is too long */
 } DeskWrote;
 
 /* An empty bag, in at least 3 bytes. */
@@ -51,6 +52,30 @@ size_t desk_list_length(DeskBag bag, uint8_t root, DeskPath path);
 
 /* Where a string of an attribute's list lies in the bag, the first at index 0; 0 and 0 where there is none. */
 DeskString desk_list_string(DeskBag bag, uint8_t root, DeskPath path, size_t index);
+
+/* ---- desk_tallies.c */
+
+/* Requests that are being written into memory that the caller lends, as a tally takes them. Between two calls, bytes and length are so many requests. */
+typedef struct {
+    uint8_t *bytes;
+    size_t room;
+    size_t length;
+    size_t many;
+} DeskRequestsWriter;
+
+/* No requests yet. DESK_REQUESTS_ROOM is enough for all that a tally takes. */
+#define DESK_REQUESTS_ROOM (DESK_MOST_REQUESTS * 3 * (1 + DESK_MOST_REQUEST_PART))
+void desk_requests_begin(DeskRequestsWriter *w, void *bytes, size_t room);
+
+/* A request more. That its parts are no longer than they may be is asked here, all else by the tally. */
+DeskWrote desk_requests_add(DeskRequestsWriter *w, DeskSubject subject, DeskAction action, DeskResource resource);
+
+/* The requests that were written; beside them the tally is told how many they are. */
+static inline DeskRequests desk_requests_written(const DeskRequestsWriter *w) { return desk_requests(w->bytes, w->length); }
+
+/* How many rows have an outcome, and how many a policy decides: of a request, the first at group 0, or of all at group DESK_TALLY_SUMS. 0 where there is no such group, outcome or policy. */
+uint32_t desk_tally_outcome(const DeskCounts *counts, size_t group, uint32_t outcome);
+uint32_t desk_tally_policy(const DeskCounts *counts, size_t group, size_t policy);
 
 /* ---- desk_locks.c */
 

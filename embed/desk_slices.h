@@ -100,6 +100,19 @@ static inline DeskSheetRoom desk_sheet_room(void *bytes, size_t length) {
 typedef struct {
     const uint8_t *bytes;
     size_t length;
+} DeskRequests;
+static inline DeskRequests desk_requests(const void *bytes, size_t length) {
+    DeskRequests s = {(const uint8_t *)bytes, length};
+    return s;
+}
+
+typedef struct {
+    uint32_t at[612];
+} DeskCounts;
+
+typedef struct {
+    const uint8_t *bytes;
+    size_t length;
 } DeskVocabulary;
 static inline DeskVocabulary desk_vocabulary(const void *bytes, size_t length) {
     DeskVocabulary s = {(const uint8_t *)bytes, length};
@@ -140,5 +153,6 @@ static inline DeskValue desk_lookup_of(DeskBag bag, uint8_t root, DeskPath path)
 static inline DeskString desk_string_of(DeskBag bag, uint8_t root, DeskPath path) { return desk_string(bag.bytes, bag.length, root, path.bytes, path.length); }
 static inline DeskPage desk_sheet_of(DeskText text, DeskTable table, DeskQuestion question, DeskSubject subject, DeskAction action, DeskResource resource, size_t start, DeskSheetRoom sheet, size_t at) { return desk_sheet(text.bytes, text.length, table.bytes, table.length, question.bytes, question.length, subject.bytes, subject.length, action.bytes, action.length, resource.bytes, resource.length, start, sheet.bytes, sheet.length, at); }
 static inline size_t desk_rows_of(DeskQuestion question) { return desk_rows(question.bytes, question.length); }
+static inline uint32_t desk_tally_of(DeskText text, DeskTable table, DeskQuestion question, size_t many, DeskRequests requests, DeskCounts *counts) { return desk_tally(text.bytes, text.length, table.bytes, table.length, question.bytes, question.length, many, requests.bytes, requests.length, counts->at); }
 static inline DeskLock desk_lock_of(DeskVocabulary vocabulary, DeskLockText lock, DeskActions actions, DeskResource resource, DeskRoom room) { return desk_lock(vocabulary.bytes, vocabulary.length, lock.bytes, lock.length, actions.bytes, actions.length, resource.bytes, resource.length, room.bytes, room.length); }
 #endif

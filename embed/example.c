@@ -1,6 +1,7 @@
-// The desk in a C program: document 01's example. It compiles the rules, decides one request, looks attributes up, prints the sheet page by page, and a lock's permit. It reads
-// nothing from outside and needs no heap: all memory is the arrays below, lent to the calls. example.out has what it prints. Every thing that is lent has a type of its own (desk_slices.h), so
-// that the compiler finds swapped arguments; the bag is written with desk_bags.c, and desk_messages.c has the sentences of refusals.
+// The desk in a C program: document 01's example. It compiles the rules, decides one request, looks attributes up, prints the sheet page by page, tallies it
+// for two requests, and prints a lock's permit. It reads nothing from outside and needs no heap: all memory is the arrays below, lent to the calls. example.out has what it
+// prints. Every thing that is lent has a type of its own (desk_slices.h), so that the compiler finds swapped arguments; the bag is written with desk_bags.c, the requests of the
+// tally with desk_tallies.c, the words and actions of the lock with desk_locks.c, and desk_messages.c has the sentences of refusals.
 #include "desk_more.h"
 #include <stdio.h>
 
@@ -18,6 +19,8 @@ static const char asked[] = "\x00" "\x00" "\x00" "\x02"
 static uint8_t table[DESK_TABLE_FOR_A_BYTE * sizeof rules];
 static uint8_t attributes[100];      // of the bag
 static uint8_t page[DESK_ROW_BYTES]; // one row at a time: the smallest page there is
+static uint8_t lent[DESK_REQUESTS_ROOM]; // the requests of the tally
+static DeskCounts counts;
 
 static unsigned number4(const uint8_t *p) { return p[0] | p[1] << 8 | p[2] << 16 | (unsigned)p[3] << 24; }
 
@@ -38,6 +41,24 @@ static int print_sheet(DeskText text, DeskTable compiled, DeskSubject who, DeskA
         start = p.next;
     }
     printf("allowed %zu (%zu pages)\n", listed, pages);
+    return 0;
+}
+
+static void print_group(const char *whose, size_t group, size_t policies) {
+    printf("%s: allowed %u, forbidden %u, neither %u, system %u;", whose, desk_tally_outcome(&counts, group, DESK_ALLOWED), desk_tally_outcome(&counts, group, DESK_FORBIDDEN), desk_tally_outcome(&counts, group, DESK_NOTHING_SATISFIED), desk_tally_outcome(&counts, group, DESK_SYSTEM));
+    for (size_t n = 1; n <= policies; n++) printf(" policy %zu decides %u%s", n, desk_tally_policy(&counts, group, n), n < policies ? "," : "\n");
+}
+
+// The person's request, and the same of a tool.
+static int print_tally(DeskText text, DeskTable compiled, size_t policies, DeskSubject who, DeskAction what, DeskResource which) {
+    DeskRequestsWriter writer;
+    desk_requests_begin(&writer, lent, sizeof lent);
+    if (desk_requests_add(&writer, who, what, which) != DESK_WROTE || desk_requests_add(&writer, desk_subject(DESK_WORDS("tool:T1")), what, which) != DESK_WROTE) return 1;
+    uint32_t refusal = desk_tally_of(text, compiled, desk_question(DESK_WORDS(asked)), writer.many, desk_requests_written(&writer), &counts);
+    if (refusal != 0) return refused(refusal);
+    print_group("person:K7", 0, policies);
+    print_group("tool:T1", 1, policies);
+    print_group("both", DESK_TALLY_SUMS, policies);
     return 0;
 }
 
@@ -79,6 +100,5 @@ int main(void) {
     DeskString s = desk_string_of(bag, DESK_ROOT_PRINCIPAL, hired);
     printf("principal.hired: \"%.*s\"\n", (int)s.length, (const char *)bag.bytes + s.start);
 
-    if (print_sheet(text, compiled, who, what, which) != 0) return 1;
-    return print_permit();
+    return print_sheet(text, compiled, who, what, which) || print_tally(text, compiled, c.policies, who, what, which) || print_permit();
 }

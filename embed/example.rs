@@ -3,6 +3,7 @@ mod desk;
 
 const RULES: &[u8] = b"permit(principal is person, action, resource is shaft)\n  when { principal.grade >= 3 };\nforbid(principal, action in [\"teach\"], resource)\n  when { principal.hired != \"own\" };\n";
 const BAG: &[u8] = b"\x02\x05grade\x02\0\0\0\0\0\0\x08\x40\x05hired\x01\x03own\0\0";
+const REQUESTS: &[u8] = b"\x09person:K7\x05teach\x07shaft:A\x07tool:T1\x05teach\x07shaft:A";
 const QUESTION: &[u8] = b"\0\0\0\x02\x01\x05grade\x03\0\x02\0\0\0\0\0\0\x08\x40\x02\0\0\0\0\0\0\x04\x40\x01\x05hired\x03\0\x01\x03own\x01\x04loan";
 
 fn main() {
@@ -33,6 +34,14 @@ fn main() {
         start = p.next;
     }
     println!("allowed {} ({} pages)", listed, pages);
+
+    let mut counts = [0u32; desk::TALLY_COUNTS];
+    assert_eq!(desk::tally(RULES, table, QUESTION, 2, REQUESTS, &mut counts), 0);
+    for (whose, group) in [("person:K7", 0), ("tool:T1", 1), ("both", desk::TALLY_SUMS)] {
+        let (outcomes, policies) = counts[desk::TALLY_GROUP * group..][..desk::TALLY_GROUP].split_at(desk::TALLY_OUTCOMES);
+        print!("{}: allowed {}, forbidden {}, neither {}, system {};", whose, outcomes[0], outcomes[1], outcomes[2], outcomes[3]);
+        println!(" policy 1 decides {}, policy 2 decides {}", policies[0], policies[1]);
+    }
 
     let mut permit = [0u8; desk::MOST_PERMIT];
     let l = desk::lock(b"\x04firm\x04firm\x01\x05grade\x05grade\x03", b"firm:own & grade>=3", b"\x05teach", b"shaft:A", &mut permit);

@@ -1,4 +1,4 @@
-// What stands beside the archive, tried: the writer of bags, the reader of lists, the writer of vocabularies and action lists, the sentences. Prints how many checks were made; a check that fails is printed and ends it with
+// What stands beside the archive, tried: the writer of bags, the reader of lists, the writer of requests and the readers of counts, the writer of vocabularies and action lists, the sentences. Prints how many checks were made; a check that fails is printed and ends it with
 // status 1. embed/run builds it also with the compiler's checks for memory and arithmetic.
 #include "desk_more.h"
 #include <stdio.h>
@@ -97,6 +97,46 @@ static void filled(void) {
     CHECK(w.length == DESK_MOST_BAG && desk_lookup_of(desk_bag_written(&w), DESK_ROOT_RESOURCE, PATH("aa")).kind == DESK_KIND_STRING);
 }
 
+// Requests up to the eighth, what the writer refuses, and that they stay as they were then; the tally of them, read count by count.
+static void tallies(void) {
+    static uint8_t bytes[DESK_REQUESTS_ROOM];
+    static const char long_part[DESK_MOST_REQUEST_PART + 1], most[DESK_MOST_REQUEST_PART];
+    static DeskCounts counts;
+    DeskRequestsWriter r;
+    DeskSubject system = desk_subject(DESK_WORDS("system")), tool = desk_subject(DESK_WORDS("tool:T1"));
+    DeskAction teach = desk_action(DESK_WORDS("teach")), none = desk_action(NULL, 0);
+    DeskResource shaft = desk_resource(DESK_WORDS("shaft:A"));
+    desk_requests_begin(&r, bytes, 31);
+    CHECK(desk_requests_add(&r, desk_subject(long_part, sizeof long_part), teach, shaft) == DESK_WROTE_VALUE);
+    CHECK(desk_requests_add(&r, tool, desk_action(long_part, sizeof long_part), shaft) == DESK_WROTE_VALUE);
+    CHECK(desk_requests_add(&r, tool, teach, desk_resource(long_part, sizeof long_part)) == DESK_WROTE_VALUE);
+    CHECK(desk_requests_add(&r, tool, teach, shaft) == DESK_WROTE);
+    CHECK(desk_requests_add(&r, desk_subject(DESK_WORDS("system:")), none, desk_resource(NULL, 0)) == DESK_WROTE_NO_ROOM);
+    CHECK(r.many == 1 && r.length == 22);
+    CHECK(desk_requests_add(&r, system, none, desk_resource(NULL, 0)) == DESK_WROTE);
+    CHECK(r.many == 2 && r.length == 31 && memcmp(bytes, "\7tool:T1\5teach\7shaft:A\6system\0\0", 31) == 0);
+    desk_requests_begin(&r, bytes, sizeof bytes);
+    for (size_t i = 0; i < DESK_MOST_REQUESTS; i++) CHECK(desk_requests_add(&r, desk_subject(most, sizeof most), desk_action(most, sizeof most), desk_resource(most, sizeof most)) == DESK_WROTE);
+    CHECK(r.length == sizeof bytes && desk_requests_add(&r, system, none, shaft) == DESK_WROTE_MANY);
+    // A question with the column env.a (absent, true): policy 2 permits where it is true.
+    static const char rules[] = "forbid(principal is person,action,resource);permit(principal,action,resource)when{env.a==true};";
+    static uint8_t table[DESK_TABLE_FOR_A_BYTE * sizeof rules];
+    DeskText text = desk_text(DESK_WORDS(rules));
+    DeskTable compiled = desk_table(table, desk_compile_of(text, desk_table_room(table, sizeof table)).bytes);
+    desk_requests_begin(&r, bytes, sizeof bytes);
+    desk_requests_add(&r, tool, teach, shaft), desk_requests_add(&r, system, none, shaft), desk_requests_add(&r, desk_subject(DESK_WORDS("person:K7")), teach, shaft);
+    CHECK(desk_tally_of(text, compiled, desk_question(DESK_WORDS("\0\0\0\1\3\1" "a" "\2\0\3\1")), r.many, desk_requests_written(&r), &counts) == 0);
+    static const uint32_t outcomes[4][4] = {{1, 0, 1, 0}, {0, 0, 0, 2}, {0, 2, 0, 0}, {1, 2, 1, 2}}, policies[4][3] = {{0, 1, 0}, {0, 0, 0}, {2, 0, 0}, {2, 1, 0}};
+    for (size_t i = 0; i < 4; i++) {
+        size_t group = i < 3 ? i : DESK_TALLY_SUMS;
+        for (uint32_t o = 1; o <= 4; o++) CHECK(desk_tally_outcome(&counts, group, o) == outcomes[i][o - 1]);
+        for (size_t n = 1; n <= 3; n++) CHECK(desk_tally_policy(&counts, group, n) == policies[i][n - 1]);
+    }
+    CHECK(desk_tally_outcome(&counts, 3, DESK_SYSTEM) == 0);
+    CHECK(desk_tally_outcome(&counts, DESK_TALLY_SUMS + 1, DESK_SYSTEM) == 0 && desk_tally_policy(&counts, SIZE_MAX, 1) == 0);
+    CHECK(desk_tally_outcome(&counts, 1, 0) == 0 && desk_tally_outcome(&counts, 1, 5) == 0 && desk_tally_policy(&counts, 1, 0) == 0 && desk_tally_policy(&counts, DESK_TALLY_SUMS, 65) == 0);
+}
+
 // The writer of vocabularies and action lists: docs/LOCKS.md has these bytes.
 static void locks(void) {
     static uint8_t bytes[DESK_VOCABULARY_ROOM + 1];
@@ -143,12 +183,12 @@ static void locks(void) {
 static void sentences(void) {
     int different = 0, there = 0;
     for (unsigned r = DESK_REFUSED_LONG_TEXT; r <= DESK_REFUSED_PERMIT_ROOM; r++) {
-        bool is = r <= DESK_REFUSED_LONG_PATH || (r >= DESK_REFUSED_OTHER_TABLE && r <= DESK_REFUSED_START) || r >= DESK_REFUSED_LOCK;
+        bool is = r <= DESK_REFUSED_LONG_PATH || r >= DESK_REFUSED_OTHER_TABLE;
         there += is == (strcmp(desk_message(r), desk_message(99)) != 0);
         for (unsigned s = DESK_REFUSED_LONG_TEXT; s < r; s++) different += strcmp(desk_message(r), desk_message(s)) != 0;
     }
     CHECK(there == 29);
-    CHECK(different == 29 * 28 / 2 - 6); // 17, 18, 19 and 27 are no refusals
+    CHECK(different == 29 * 28 / 2 - 3); // 17, 18 and 19 are no refusals
     CHECK(strcmp(desk_message(DESK_REFUSED_COLON), "A colon stands outside a string.") == 0);
 }
 
@@ -157,6 +197,7 @@ int main(void) {
     lists();
     refused();
     filled();
+    tallies();
     locks();
     sentences();
     printf("%d checks, %d failed\n", made, failed);

@@ -1,5 +1,5 @@
-// Each call refused, and that a refusal gives its number, zeros elsewhere and changes nothing lent: the table, the sheet and the room of a permit are compared with copies, bytes
-// before and behind them too. Then slices of no bytes, as NULL. Prints how many checks were made; a check that fails is printed and ends it with status 1.
+// Each call refused, and that a refusal gives its number, zeros elsewhere and changes nothing lent: the table, the sheet, the counts and the room of a permit are compared with
+// copies, what is before and behind them too. Then slices of no bytes, as NULL. Prints how many checks were made; a check that fails is printed and ends it with status 1.
 #include "desk.h"
 #include <stdio.h>
 #include <string.h>
@@ -13,10 +13,11 @@
 
 static int made, failed;
 static uint8_t lent[1000], copy[1000];
+static uint32_t numbers[DESK_TALLY_COUNTS + 20], same[DESK_TALLY_COUNTS + 20]; // the counts from number 10 on
 
 static void check(int holds, const char *what) {
     made++;
-    if (!holds || memcmp(lent, copy, sizeof lent) != 0) {
+    if (!holds || memcmp(lent, copy, sizeof lent) != 0 || memcmp(numbers, same, sizeof numbers) != 0) {
         printf("FAILED: %s\n", what);
         failed++;
     }
@@ -68,6 +69,32 @@ static void refusals(void) {
     CHECK(desk_rows(LENT("\0\0\0")) == 0);
 }
 
+// A request as it is lent: its parts behind their length bytes.
+#define GOOD "\11person:K7\5teach\7shaft:A"
+#define SYSTEM "\6system\0\0"
+
+// tally: 27, 24, and then for each request in turn, but for the system, 21, 22, 23, 20
+static void tallies(void) {
+    uint8_t *table = lent + 100;
+    uint32_t *counts = numbers + 10;
+    CHECK(desk_tally(NONE, NONE, NONE, 0, NONE, counts) == DESK_REFUSED_REQUESTS);
+    CHECK(desk_tally(NONE, NONE, NONE, DESK_MOST_REQUESTS + 1, NONE, counts) == DESK_REFUSED_REQUESTS);
+    CHECK(desk_tally(NONE, NONE, QUESTION, SIZE_MAX, LENT(GOOD), counts) == DESK_REFUSED_REQUESTS);
+    CHECK(desk_tally(NONE, NONE, NONE, 1, NONE, counts) == DESK_REFUSED_BAG);
+    CHECK(desk_tally(NONE, NONE, LENT("\0\0\0"), 1, LENT(SYSTEM), counts) == DESK_REFUSED_BAG);
+    CHECK(desk_tally(NONE, NONE, QUESTION, 1, NONE, counts) == DESK_REFUSED_SUBJECT);
+    CHECK(desk_tally(NONE, NONE, QUESTION, 1, LENT("\11person:K"), counts) == DESK_REFUSED_SUBJECT);
+    CHECK(desk_tally(NONE, NONE, QUESTION, 1, LENT("\11person:K7"), counts) == DESK_REFUSED_ACTION);
+    CHECK(desk_tally(NONE, NONE, QUESTION, 1, LENT("\11person:K7\5teach\7shaft:"), counts) == DESK_REFUSED_RESOURCE);
+    CHECK(desk_tally(TEXT, table, 400, QUESTION, 1, LENT(GOOD), counts) == DESK_REFUSED_OTHER_TABLE);
+    CHECK(desk_tally(NONE, NONE, QUESTION, 2, LENT(GOOD), counts) == DESK_REFUSED_SUBJECT);
+    CHECK(desk_tally(NONE, NONE, QUESTION, 2, LENT(GOOD "\6tool:A\0\7shaft:A"), counts) == DESK_REFUSED_ACTION);
+    CHECK(desk_tally(NONE, NONE, QUESTION, 3, LENT(SYSTEM GOOD "\6tool:A\1x\4lift"), counts) == DESK_REFUSED_RESOURCE);
+    CHECK(desk_tally(TEXT, table, 400, QUESTION, 2, LENT(GOOD "\0\0\0"), counts) == DESK_REFUSED_OTHER_TABLE);
+    CHECK(desk_tally(TEXT, table, 400, QUESTION, 2, LENT(SYSTEM "\0\0\0"), counts) == DESK_REFUSED_SUBJECT);
+    CHECK(desk_tally(TEXT, table, 400, QUESTION, 2, LENT(SYSTEM GOOD), counts) == DESK_REFUSED_OTHER_TABLE);
+}
+
 #define WORDS LENT("\4firm\1f\1\5grade\1g\3")
 #define ACTIONS LENT("\5teach")
 static int no_permit(DeskLock l, unsigned refusal) { return l.refusal == refusal && l.length == 0; }
@@ -110,12 +137,17 @@ static void nulls(void) {
     CHECK(listed(desk_sheet(NONE, NONE, NONE, NONE, NONE, NONE, 0, NONE, 0), DESK_REFUSED_SHEET_ROOM, 0));
     CHECK(listed(desk_sheet(NONE, NONE, QUESTION, REQUEST, 0, lent, sizeof lent, 0), 0, 1));
     CHECK(desk_rows(NONE) == 0);
+    CHECK(desk_tally(NONE, NONE, NONE, 1, NONE, numbers + 10) == DESK_REFUSED_BAG);
+    CHECK(desk_tally(NONE, NONE, QUESTION, 8, NONE, numbers + 10) == DESK_REFUSED_SUBJECT);
 }
 
 int main(void) {
     memset(lent, 0xAA, sizeof lent);
     memcpy(copy, lent, sizeof lent);
+    memset(numbers, 0xAA, sizeof numbers);
+    memcpy(same, numbers, sizeof numbers);
     refusals();
+    tallies();
     locks();
     nulls();
     printf("%d checks, %d failed\n", made, failed);

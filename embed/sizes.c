@@ -195,6 +195,33 @@ static void answers(void) {
     CHECK(desk_sheet(NULL, 0, NULL, 0, LENT("\0\0\0\0"), LENT("system"), NULL, 0, NULL, 0, 0, sheet, DESK_ROW_BYTES - 1, 0).refusal == DESK_REFUSED_SHEET_ROOM);
 }
 
+// ---- tallies
+
+static uint32_t counts[DESK_TALLY_COUNTS];
+
+// Of so many requests of the system, over one row.
+static unsigned tallied(size_t many) {
+    begin();
+    for (size_t i = 0; i < many; i++) put("\6system"), byte(0), byte(0);
+    return desk_tally(NULL, 0, NULL, 0, LENT("\0\0\0\0"), many, built, length, counts);
+}
+
+static void tallies(void) {
+    CHECK(tallied(1) == 0 && counts[DESK_SYSTEM - 1] == 1 && counts[DESK_TALLY_GROUP + DESK_SYSTEM - 1] == 0);
+    CHECK(tallied(DESK_MOST_REQUESTS + 1) == DESK_REFUSED_REQUESTS && counts[DESK_SYSTEM - 1] == 1);
+    CHECK(tallied(DESK_MOST_REQUESTS) == 0);
+    for (size_t i = 0; i < DESK_MOST_REQUESTS; i++) CHECK(counts[DESK_TALLY_GROUP * i + DESK_SYSTEM - 1] == 1);
+    CHECK(counts[DESK_TALLY_GROUP * DESK_TALLY_SUMS + DESK_SYSTEM - 1] == DESK_MOST_REQUESTS);
+    // The last policy's is the last count of a group, and its sum the last of all.
+    begin();
+    times(DESK_MOST_POLICIES - 1, "permit(principal is person,action,resource);");
+    put(P ";");
+    CHECK(compiled() == 0);
+    CHECK(desk_tally(built, length, table, sizeof table, LENT("\0\0\0\0"), 2, LENT("\10person:A\1x\7shaft:A\6tool:A\1x\7shaft:A"), counts) == 0);
+    CHECK(counts[DESK_ALLOWED - 1] == 1 && counts[DESK_TALLY_OUTCOMES] == 1 && counts[DESK_TALLY_GROUP - 1] == 0);
+    CHECK(counts[2 * DESK_TALLY_GROUP - 1] == 1 && counts[DESK_TALLY_COUNTS - 1] == 1 && counts[DESK_TALLY_GROUP * DESK_TALLY_SUMS] == 2);
+}
+
 // ---- locks
 
 // A lock of so many tests of a value of so many bytes, over so many words and paths of so many bytes, with so many actions of so many bytes; the room has so many.
@@ -244,6 +271,7 @@ int main(void) {
     texts();
     bags();
     answers();
+    tallies();
     locks();
     printf("%d checks, %d failed\n", made, failed);
     return failed != 0;

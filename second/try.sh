@@ -70,6 +70,17 @@ tried 0 'Not permitted: no policy is satisfied' "$desk" explain "$root/examples/
 tried 0 ', 0 failed' "$desk" test "$root/examples/worked/tests.txt"
 tried 0 '1 closed, 0 decided by another policy, 8 as before' "$desk" diff "$root/examples/worked/policy.txt" "$root/examples/worked/closed.txt" "$root/examples/worked"
 tried 0 'Allowed by policy 1 in line 1' "$desk" decide "$root/examples/worked/k7.txt"
+tried 0 'usage: ./desk tally WHERE' "$desk" tally --help
+tried 0 'rows 9 request 1 outcome 1 2 outcome 2 3 outcome 3 4 outcome 4 0 policy 1 2 policy 2 3 sums outcome 1 2 ' "$desk" tally "$root/examples/worked" --lines
+tried 0 '      2          3              4       0 ' "$desk" tally "$root/examples/worked"
+tried 0 '      2          3              4       0 ' "$desk" sheet "$root/examples/worked" --table
+tried 0 'The rows of this sheet are those of request 2' "$desk" sheet "$root/examples/crew/shift" --request 2 --html /dev/stdout
+tried 0 '' "$desk" tally "$root/examples/crew/shift" --html "$work/tally.html"
+tried 0 '6 requests, each over 162 rows, by outcome and by the policy that decides.' cat "$work/tally.html"
+"$desk" tally "$root/examples/crew/shift" >"$work/tally" || true
+tried 0 '' cmp "$work/tally" "$root/examples/crew/shift/tally.txt"
+"$desk" tally "$root/examples/crew/shift" --lines >"$work/counts" 2>/dev/null || true
+tried 0 '' cmp "$work/counts" "$root/examples/crew/shift/counts.txt"
 
 # The words of the command.
 tried 2 'which command?' "$desk"
@@ -78,6 +89,8 @@ tried 2 'a name is missing' "$desk" sheet
 tried 2 'unknown option --tabel' "$desk" sheet "$root/examples/worked" --tabel
 tried 2 'there is no row 9' "$desk" explain "$root/examples/worked" --row 9
 tried 2 'has 9 rows: ./desk sheet shows them all' "$desk" decide "$root/examples/worked"
+tried 2 'has 6 requests: --request 1 to 6 takes one of them, ./desk tally' "$desk" sheet "$root/examples/crew/shift"
+tried 2 'there is no request 7' "$desk" explain "$root/examples/crew/shift" --request 7
 
 # Files that are missing, no files, or stale.
 asked "$rules" "$request$columns"
@@ -155,6 +168,52 @@ asked "$rules" "${request/person:K7/dog:1}$columns"
 tried 1 'The subject is not as it must be' "$desk" sheet "$work/f" --table
 asked "$rules" "${request/shaft:A/shaft}"
 tried 1 'Refused, number 23.' "$desk" decide "$work/f"
+
+# Tallies that are refused: which request it is, and what to do. Eight requests are counted, nine are not.
+asked "$rules" "$request$columns
+request
+request
+subject = \"system\"
+request
+subject = \"dog:1\"
+request
+resource = \"shaft\""
+tried 1 'Refused, number 21. Request 3 of 4 is refused, and with it the whole tally.' "$desk" tally "$work/f"
+tried 1 'Mend it in' "$desk" tally "$work/f"
+tried 1 'desk: refused: Request 3 of 4 is refused' "$desk" tally "$work/f" --lines
+tried 1 '' "$desk" tally "$work/f" --html "$work/page.html"
+tried 0 'Request 3 of 4 is refused' cat "$work/page.html"
+tried 0 'allowed 2' "$desk" sheet "$work/f" --request 1
+asked "$rules" "$request$columns$(printf '\nrequest%.0s' 1 2 3 4 5 6 7 8)"
+tried 0 'sums outcome 1 16 outcome 2 24 outcome 3 32 outcome 4 0 policy 1 16 policy 2 24' "$desk" tally "$work/f" --lines
+asked "$rules" "$request$columns$(printf '\nrequest%.0s' 1 2 3 4 5 6 7 8 9)"
+tried 1 'Refused, number 27. A tally takes one to eight requests, and here are 9: put 1 of them into another question.' "$desk" tally "$work/f"
+asked "$rules" "$request
+request
+principal.grade = 3"
+tried 2 'question.txt:6:1: expected subject, action, resource or request: attributes and columns stand before the first request' "$desk" tally "$work/f"
+asked "${rules/when/wen}" "$request$columns"
+tried 1 'Refused, number 10.' "$desk" tally "$work/f"
+
+# What ask prints where there is no request, too many, no question, or a part that is not wholly there.
+# printed WORDS REQUESTS QUESTION: what ask tally prints in a folder with these bytes.
+printed() {
+    rm -rf "$work/g"
+    mkdir "$work/g"
+    printf '%s' "$rules" >"$work/g/policy.txt"
+    printf '%b' "$2" >"$work/g/requests.bin"
+    printf '%b' "$3" >"$work/g/question.bin"
+    tried 0 "$1" env -C "$work/g" "$DESK_PROVED" ask tally
+}
+printed 'refused 27 0 0' '' '\0\0\0\0'
+printed 'refused 27 0 0' '\0' ''
+printed 'refused 27 0 0' '\011' ''
+printed 'refused 24 0 0' '\01\06system' ''
+printed 'rows 1 request 1 outcome 1 0 outcome 2 0 outcome 3 0 outcome 4 1 ' '\01\06system' '\0\0\0\0'
+printed 'refused 21 0 0' '\01\011person:K' '\0\0\0\0'
+printed 'refused 22 0 0' '\01\010person:K' '\0\0\0\0'
+printed 'refused 23 0 0' '\01\010person:K\01a\06shaft:' '\0\0\0\0'
+printed 'rows 1 request 1 outcome 1 0 outcome 2 0 outcome 3 1 outcome 4 0 ' '\01\010person:K\01a\07shaft:Aand more' '\0\0\0\0'
 
 # Tests that fail, and tests that are none.
 printf '%stest "own"\nprincipal.hired = "own"\nexpect forbidden\n' "$request" >"$work/tests.txt"

@@ -1,16 +1,16 @@
--- What the ask program prints: a line for a text, and a line for each case. Definitions only.
+-- What the ask program prints: a line for a text, a line for each case, and a tally or its refusal. Definitions only.
 use mathlib.Core.Path.{_≡_}
 use mathlib.Core.Bool.{cond}
 use mathlib.Core.List.{List, [], _∷_, _++_}
 use Prim.Native.Nat.{ℕ, _+_, _≤_, _<_}
 use Prim.Native.Char.{code}
 use lib.Dec.{eqb}
-use lib.ListN.{length, take, drop}
+use lib.ListN.{length, getD, take, drop}
 use Rattle.targets.specs.Matching.{request}
 use Rattle.folder.specs.Added.{Added}
 use Rattle.folder.specs.Cases.{Case, caseOf, pastCase, casesOf}
 use Rattle.folder.specs.Decimals.{numbersLine, refusedLine}
-use Rattle.desk.specs.Answers.{compileSays, decideSays}
+use Rattle.desk.specs.Answers.{compileSays, compileLeaves, decideSays, tallySays}
 use Rattle.desk.specs.declared.DeskCompiled.{DeskCompiled}
 use Rattle.desk.specs.declared.DeskDecision.{DeskDecision}
 use Rattle.ask.specs.declared.Step.{Step}
@@ -68,3 +68,12 @@ pub record CasesAnswered (text table s : List ℕ) (at : ℕ) (new : List ℕ) (
 -- how many cases are answered: all; none where the text is refused
 unfoldable pub answeredFor : List ℕ → List ℕ → List ℕ → ℕ
 answeredFor text table s = cond (eqb (compileSays text table .refusal) 0) (casesFrom s 0) 0
+
+-- how many requests the bytes of requests.bin have: their first byte says it, and the requests stand behind it
+abbrev pub manyIn : List ℕ → ℕ
+manyIn s = getD s 0 0
+
+-- the refusal's number for a text, a question and the bytes of requests.bin, and 0 where the tally is printed
+unfoldable pub countedFor : List ℕ → List ℕ → List ℕ → List ℕ → ℕ
+countedFor text table question s =
+    cond (eqb (compileSays text table .refusal) 0) (tallySays text (compileLeaves text table) question (manyIn s) (drop 1 s)) (compileSays text table .refusal)

@@ -1,14 +1,17 @@
-// The ask program, run in a folder with one word. `check`: whether policy.txt compiles. `decide`: what the desk answers to each case of cases.bin. All it says is what the desk's calls say.
+// The ask program, run in a folder with one word. `check`: whether policy.txt compiles. `decide`: what the desk answers to each case of cases.bin. `tally`: what it counts over
+// question.bin for the requests of requests.bin. All it says is what the desk's calls say.
 ghost use mathlib.Core.Bool.{true};
 ghost use mathlib.Core.Path.{_≡_};
 ghost use Prim.Native.Nat.{_+_, _≤_, _<_};
 ghost use lib.ListN.{length, take};
-ghost use Rattle.desk.specs.Answers.{compileSays, beginsSays};
+ghost use Rattle.desk.specs.Answers.{compileSays, beginsSays, tallySays};
 ghost use Rattle.folder.specs.Added.{Added};
-ghost use Rattle.ask.specs.Lines.{compiledLine, decidedLine, casesFrom, answeredFor, CaseAnswered, CasesAnswered};
+ghost use Rattle.ask.specs.Lines.{compiledLine, decidedLine, casesFrom, answeredFor, CaseAnswered, CasesAnswered, countedFor};
 use desk::DeskCompiled;
 use desk::DeskDecision;
 use folder::cases::part_at;
+use folder::cases::wide;
+use folder::counts::put_tally;
 use folder::lines::put_refusal;
 use folder::lines::put_two;
 use folder::read_file;
@@ -157,6 +160,72 @@ fn print_answers<'a>(text: &'a [u8], table: &mut [u8], cases: &'a [u8]) -> usize
     print_cases(text, table, cases)
 }
 
+// Prints the lines of a tally.
+fn print_counts(counts: &[u32; 612], rows: usize, many: usize, policies: usize)
+    requires { ⌜ (many ≤ 8) × (policies ≤ 64) ⌝ }
+{
+    let mut out = [0u8; 30863]; // 50 bytes for each of nine groups of 68 counts, and the lines of rows, requests and sums
+    let n = put_tally(&mut out, counts, rows, many, policies);
+    io::write_all(STDOUT_FILENO, &out[..n]);
+}
+
+// Prints the line of a refusal that has no place.
+fn print_refusal(number: u32) {
+    let mut out = [0u8; 71];
+    let n = put_refusal(&mut out, 0, number, 0, 0);
+    io::write_all(STDOUT_FILENO, &out[..n]);
+}
+
+// Prints the tally of so many requests over rules with so many policies, or its refusal, and gives the refusal's number.
+fn print_tally<'a>(
+    text: &'a [u8],
+    table: &[u8],
+    policies: usize,
+    question: &'a [u8],
+    many: usize,
+    requests: &'a [u8],
+) -> u32
+    requires { ⌜ policies ≤ 64 ⌝ }
+    ensures { λ r. ⌜ r ≡ tallySays (now (text .entry)) (now (table .entry)) (now (question .entry)) many (now (requests .entry)) ⌝ }
+{
+    let mut counts = [0u32; 612];
+    let refusal = desk::desk_tally(text, table, question, many, requests, &mut counts);
+    if 0 < refusal {
+        print_refusal(refusal);
+        return refusal;
+    }
+    print_counts(&counts, desk::desk_rows(question), many, policies);
+    0
+}
+
+// What is printed for a text, a question and requests, which stand behind their number in one byte: the tally; or the refusal's line. Gives the refusal's number.
+fn print_counted<'a>(
+    text: &'a [u8],
+    table: &mut [u8],
+    question: &'a [u8],
+    requests: &'a [u8],
+) -> u32
+    ensures { λ r. ⌜ r ≡ countedFor (now (text .entry)) (now (table .entry)) (now (question .entry)) (now (requests .entry)) ⌝ }
+{
+    let c = desk::desk_compile(text, table);
+    if 0 < c.refusal {
+        print_compiled(c);
+        return c.refusal;
+    }
+    let n = requests.len();
+    if n < 1 {
+        return print_tally(text, table, c.policies, question, 0, requests);
+    }
+    print_tally(
+        text,
+        table,
+        c.policies,
+        question,
+        wide(requests[0]),
+        &requests[1..n],
+    )
+}
+
 // A file is read with room for one byte more than its limit, so that what is too long is refused and not cut.
 fn check() {
     let mut text = [0u8; 8193];
@@ -179,6 +248,18 @@ fn decide() {
     print_answers(&text[..n], &mut table, &cases[..m]);
 }
 
+// Eight requests have 6,145 bytes at most; what lies behind them is not looked at.
+fn tally() {
+    let mut text = [0u8; 8193];
+    let mut table = [0u8; 65544];
+    let mut question = [0u8; 4097];
+    let mut requests = [0u8; 6145];
+    let n = read_file(b"policy.txt", &mut text);
+    let q = read_file(b"question.bin", &mut question);
+    let r = read_file(b"requests.bin", &mut requests);
+    print_counted(&text[..n], &mut table, &question[..q], &requests[..r]);
+}
+
 fn main() {
     let mut word = [0u8; 8];
     let n = os::arg(1, &mut word);
@@ -187,7 +268,9 @@ fn main() {
         check();
     } else if single & slices::same(&word[..n], b"decide") {
         decide();
+    } else if single & slices::same(&word[..n], b"tally") {
+        tally();
     } else {
-        io::write_all(STDOUT_FILENO, b"usage check decide\n");
+        io::write_all(STDOUT_FILENO, b"usage check decide tally\n");
     }
 }

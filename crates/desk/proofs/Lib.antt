@@ -7,3 +7,4 @@ pub mod Promised
 pub mod Cases
 pub mod Grounded
 pub mod Worked
+pub mod TalliesPromised

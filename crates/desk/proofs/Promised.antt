@@ -9,11 +9,12 @@ use Rattle.pages.specs.Rows.{choicesAt}
 use Rattle.pages.proofs.Combinations.{row-below, choices-of-row, choices-combine, row-of-choices}
 use Rattle.pages.proofs.LineLaws.{sooner-row, row-sooner, row-read}
 use Rattle.desk.specs.Answers.{lookupSays}
-use Rattle.desk.specs.Promises.{DemandOne, DemandTwo, DemandThree, Means, LookUps, Refusals, OneResult}
+use Rattle.desk.specs.Promises.{DemandOne, DemandTwo, DemandThree, TheTallies, Means, LookUps, Refusals, OneResult}
 use Rattle.desk.proofs.TextsPromised as texts
 use Rattle.desk.proofs.RequestsPromised as requests
 use Rattle.desk.proofs.LookUpsPromised as look-ups-desk
 use Rattle.desk.proofs.SheetsPromised as sheets-desk
+use Rattle.desk.proofs.TalliesPromised as tallies-desk
 
 pub demand-one : DemandOne
 demand-one = record {
@@ -21,10 +22,12 @@ demand-one = record {
   decide-refusals = requests.decide-refusals;
   lookup-refusals = requests.lookup-refusals;
   sheet-refusals = sheets-desk.sheet-refusals;
+  tally-refusals = tallies-desk.tally-refusals;
   placed = texts.placed;
   no-place = texts.no-place;
   table-stays = texts.table-stays;
   sheet-stays = sheets-desk.sheet-stays;
+  tally-stays = tallies-desk.tally-stays;
 }
 
 pub demand-two : DemandTwo
@@ -61,6 +64,9 @@ demand-three = record {
   words-list = sheets-desk.words-list;
 }
 
+pub the-tallies : TheTallies
+the-tallies = record { the-tally = tallies-desk.the-tally; one-lent = tallies-desk.lent-one; one-tally = tallies-desk.one-tally }
+
 pub look-ups : LookUps
 look-ups = record {
   looked-rightly = λ bag contents root path w.
@@ -85,6 +91,7 @@ refusals = record {
   decide-exactly = requests.decide-exactly;
   lookup-exactly = requests.lookup-exactly;
   sheet-exactly = sheets-desk.sheet-exactly;
+  tally-exactly = tallies-desk.tally-exactly;
   rows-exactly = sheets-desk.rows-exactly;
   begins-exactly = begins-exactly;
   compile-zeros = texts.compile-zeros;
@@ -102,5 +109,6 @@ one-result = record {
   of-string = λ bag root path r r′ a b. let p = one-part a b in (p .0, λ i. (p .1 i, p .2 i));
   of-string-place = λ bag root path r r′ a b. a ∙ sym b;
   of-sheet = λ c after after′ r r′ a b. (a .answered ∙ sym (b .answered), a .sheet ∙ sym (b .sheet));
+  of-tally = λ c after after′ r r′ a b. (a .answered ∙ sym (b .answered), a .counts ∙ sym (b .counts));
   of-rows = λ question r r′ a b. a ∙ sym b;
 }

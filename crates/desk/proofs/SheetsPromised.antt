@@ -105,7 +105,7 @@ module _ (c : SheetCall) where
   -- ---- a call that is not refused
 
   -- whose it is: the system's, or one for which the text says its policies
-  data Heard : Type 0 where
+  pub data Heard : Type 0 where
     of-the-system : Wellasked c → isSystem (c .request .subject) ≡ true → Heard
     of-another : Wellasked c → Wellformed (c .request) → Begun (c .text) (c .table) → Heard
 
@@ -126,7 +126,7 @@ module _ (c : SheetCall) where
   well-asked (of-another w f b) = w
 
   -- what is decided over any attributes
-  outcome-there : Heard → (view : View) → OutcomeIs (c .text) view (c .request) (outcomeOf (decidedOver (c .text) view (c .request))) (policyOf (decidedOver (c .text) view (c .request)))
+  pub outcome-there : Heard → (view : View) → OutcomeIs (c .text) view (c .request) (outcomeOf (decidedOver (c .text) view (c .request))) (policyOf (decidedOver (c .text) view (c .request)))
   outcome-there (of-the-system w s) view = system-over (c .text) view (c .request) s
   outcome-there (of-another w f b) view = outcome-over (c .text) view (c .request) (b .value) (begun-says b)
 
@@ -139,17 +139,17 @@ module _ (c : SheetCall) where
 
 module _ (c : SheetCall) (h : Heard c) {base : Contents} {columns : List Column} (w : QuestionBytes (c .question) base columns) where
   -- what is decided of a combination
-  abbrev of-choices : List ℕ → Decision
+  abbrev pub of-choices : List ℕ → Decision
   of-choices choices = decisionBy (c .question) (sectionsIn (c .question)) (c .request) (wordsIn (c .text)) choices
 
-  abbrev ns : List ℕ
+  abbrev pub ns : List ℕ
   ns = counts columns
 
-  abbrev lines : List Line
+  abbrev pub lines : List Line
   lines = linesOf of-choices ns
 
   -- over its attributes
-  over-attributes : {choices : List ℕ} → Combination ns choices → of-choices choices ≡ decidedOver (c .text) (attributes base columns choices) (c .request)
+  pub over-attributes : {choices : List ℕ} → Combination ns choices → of-choices choices ≡ decidedOver (c .text) (attributes base columns choices) (c .request)
   over-attributes ok = decision-asked w ok (c .request) (wordsIn (c .text))
 
   listed-line : (l : Line) → Combination ns (l .choices) → l ≡ lineOf of-choices ns (l .choices) → isAllowed (of-choices (l .choices)) ≡ true
@@ -178,13 +178,13 @@ module _ (c : SheetCall) (h : Heard c) {base : Contents} {columns : List Column}
     in-order = lines-ordered of-choices ns;
   }
 
-  no-other : (others : List Line) → Sheet (c .text) base columns (c .request) others → others ≡ lines
+  pub no-other : (others : List Line) → Sheet (c .text) base columns (c .request) others → others ≡ lines
   no-other others s =
       one-list others lines (s .in-order) (is-sheet .in-order) (λ l i. is-sheet .lists l .1 (s .lists l .0 i)) (λ l i. s .lists l .1 (is-sheet .lists l .0 i))
 
   -- ---- its pages
 
-  decisions-are : decisions (c .text) (c .question) (c .request) ≡ decidedAt of-choices ns
+  pub decisions-are : decisions (c .text) (c .question) (c .request) ≡ decidedAt of-choices ns
   decisions-are = ap {B = ℕ → Decision} (λ ks row. of-choices (choicesAt ks row)) (counts-asked w)
 
   -- what a call for a page of it writes

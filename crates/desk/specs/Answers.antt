@@ -11,6 +11,8 @@ use Rattle.lookups.specs.Lookups as lookups
 use Rattle.questions.specs.Questions.{isQuestion}
 use Rattle.sheets.specs.Sheets as sheets
 use Rattle.sheets.specs.Promise.{SheetCall}
+use Rattle.tallies.specs.Tallies as tallies
+use Rattle.tallies.specs.Promise.{TallyCall}
 use Rattle.desk.specs.declared.DeskCompiled.{DeskCompiled}
 use Rattle.desk.specs.declared.DeskDecision.{DeskDecision}
 use Rattle.desk.specs.declared.DeskValue.{DeskValue}
@@ -85,6 +87,23 @@ pageFor c = sheetSays (c .text) (c .table) (c .question) (c .request) (c .start)
 
 abbrev pub sheetFor : SheetCall → List ℕ
 sheetFor c = sheetLeaves (c .text) (c .table) (c .question) (c .request) (c .start) (c .sheet) (c .at)
+
+-- ---- tally(text, table, question, many, requests, counts)
+
+-- the refusal's number, 0 where nothing is refused
+unfoldable pub tallySays : List ℕ → List ℕ → List ℕ → ℕ → List ℕ → ℕ
+tallySays text table question many requests = tallies.tallyRefusal text table question many requests
+
+-- the counts afterwards
+abbrev pub tallyLeaves : List ℕ → List ℕ → List ℕ → ℕ → List ℕ → List ℕ → List ℕ
+tallyLeaves text table question many requests counts = tallies.countsAfter text table question many requests counts
+
+-- the same, of what travels together
+abbrev pub refusalFor : TallyCall → ℕ
+refusalFor c = tallySays (c .text) (c .table) (c .question) (c .many) (c .requests)
+
+abbrev pub countsFor : TallyCall → List ℕ
+countsFor c = tallyLeaves (c .text) (c .table) (c .question) (c .many) (c .requests) (c .counts)
 
 -- ---- rows(question): how many it has, and 0 where the bytes are no question
 

@@ -1,14 +1,14 @@
--- The desk's promises on one page: the three demands, what a look-up finds, when each refusal is given, and that every call has one result.
+-- The desk's promises on one page: the three demands, the tally, what a look-up finds, when each refusal is given, and that every call has one result.
 -- proofs/Promised.antt proves each record. Definitions only.
--- `compileSays`, `decisionFor`, `lookupSays` and `pageFor` are what the calls answer, `compileLeaves` and `sheetFor` what they leave in the table and the sheet
--- (Answers.antt; src/lib.rt has the contracts). That every call ends and reads nothing outside what it is lent is what the prover shows of every function; no
--- call has a `requires`, so this holds for arbitrary bytes.
+-- `compileSays`, `decisionFor`, `lookupSays`, `pageFor` and `refusalFor` are what the calls answer, `compileLeaves`, `sheetFor` and `countsFor` what they leave
+-- in the table, the sheet and the counts (Answers.antt; src/lib.rt has the contracts). That every call ends and reads nothing outside what it is lent is what the
+-- prover shows of every function; no call has a `requires`, so this holds for arbitrary bytes.
 use mathlib.Core.Path.{_≡_}
 use mathlib.Core.Logic.{_⊎_, _↔_}
 use mathlib.Core.Bool.{Bool, true, false}
 use mathlib.Core.List.{List, [], _∷_, _++_, List·Memᴰ}
-use Prim.Native.Nat.{ℕ, suc, _+_, _*_, _≤_, _<_}
-use lib.ListN.{length, take, drop}
+use Prim.Native.Nat.{ℕ, suc, _+_, _-_, _*_, _≤_, _<_}
+use lib.ListN.{length, getD, take, drop}
 use denote.Ref.{RefT, now}
 use Rattle.slices.specs.Parts.{IsPart, part}
 use Rattle.tokens.specs.Sizes.{mostTextBytes, mostPolicies}
@@ -32,16 +32,19 @@ use Rattle.views.specs.Values.{stringAt, listAt}
 use Rattle.views.specs.Rows.{pickedAll}
 use Rattle.placing.specs.Said.{wordsOf}
 use Rattle.meaning.specs.Targets.{Request, isSystem}
-use Rattle.meaning.specs.Decisions.{SomeSatisfied, LowestSatisfied}
+use Rattle.meaning.specs.Decisions.{Numbered, SomeSatisfied, LowestSatisfied}
 use Rattle.deciding.specs.Promise.{DecideCall, DecideRefused}
 use Rattle.lookups.specs.Lookups.{lookupOf, startOf, lengthOf}
 use Rattle.lookups.specs.Values.{nought, unit}
 use Rattle.pages.specs.Rows.{Combination, rowOf, choicesAt}
 use Rattle.pages.specs.Listing.{rowSize, roomIn, sixBytes}
 use Rattle.pages.specs.Lines.{Line, Sooner, InOrder, counts, linesBytes, littleEndian, linesFrom, firstRow}
+use Rattle.pages.specs.Tally.{SoMany, sumOf, fromOn, groupSize}
 use Rattle.sheets.specs.Promise.{SheetCall, SheetRefused}
+use Rattle.tallies.specs.Tallies.{groupCount}
+use Rattle.tallies.specs.Promise.{TallyCall, Lent, TallyRefused}
 use Rattle.desk.specs.Answers.{compileSays, compileLeaves, beginsSays, decideSays, decisionFor, lookupSays, stringSays}
-use Rattle.desk.specs.Answers.{sheetSays, sheetLeaves, pageFor, sheetFor, rowsSay}
+use Rattle.desk.specs.Answers.{sheetSays, sheetLeaves, pageFor, sheetFor, tallySays, tallyLeaves, refusalFor, countsFor, rowsSay}
 use Rattle.desk.specs.declared.DeskCompiled.{DeskCompiled}
 use Rattle.desk.specs.declared.DeskDecision.{DeskDecision}
 use Rattle.desk.specs.declared.DeskValue.{DeskValue}
@@ -57,6 +60,7 @@ pub record DemandOne : Type 0 where
   pub decide-refusals : (c : DecideCall) → List·Memᴰ (decisionFor c .refusal) (0 ∷ 20 ∷ 21 ∷ 22 ∷ 23 ∷ 24 ∷ [])
   pub lookup-refusals : (bag : List ℕ) (root : ℕ) (path : List ℕ) → List·Memᴰ (lookupSays bag root path .refusal) (0 ∷ 24 ∷ [])
   pub sheet-refusals : (c : SheetCall) → List·Memᴰ (pageFor c .refusal) (0 ∷ 20 ∷ 21 ∷ 22 ∷ 23 ∷ 24 ∷ 25 ∷ 26 ∷ [])
+  pub tally-refusals : (c : TallyCall) → List·Memᴰ (refusalFor c) (0 ∷ 20 ∷ 21 ∷ 22 ∷ 23 ∷ 24 ∷ 27 ∷ [])
   -- refusals 3 to 16 stand at the one token before which nothing is broken and at which a rule is, with its line and column; 1 and 2 have the place 0, 0
   pub placed : (text table : List ℕ) → 2 < compileSays text table .refusal
       → RefusedThere text (compileSays text table .refusal) (spot (compileSays text table .line) (compileSays text table .column))
@@ -64,6 +68,7 @@ pub record DemandOne : Type 0 where
   -- a refused call changes nothing
   pub table-stays : (text table : List ℕ) → (compileSays text table .refusal ≡ 0 → ⊥) → compileLeaves text table ≡ table
   pub sheet-stays : (c : SheetCall) → (pageFor c .refusal ≡ 0 → ⊥) → sheetFor c ≡ c .sheet
+  pub tally-stays : (c : TallyCall) → (refusalFor c ≡ 0 → ⊥) → countsFor c ≡ c .counts
 
 -- ---- Demand 2. A rule text lent table enough is accepted exactly when it belongs to the drafts' grammar under document 01's limits and rulings.
 
@@ -245,6 +250,53 @@ pub record DemandThree : Type 0 where
       → (sheetSays text table question q start sheet at ≡ sheetSays text′ table′ question q start sheet at)
       × (sheetLeaves text table question q start sheet at ≡ sheetLeaves text′ table′ question q start sheet at)
 
+-- ---- The tally (document 02, request 1). How many rows have each outcome, and for each policy how many rows it decides, each a count of its own over the rows;
+-- for one to eight requests over one question, with their sums.
+
+-- the counts are nine groups of 68 numbers; this is group k, from 0 on
+abbrev pub groupIn : List ℕ → ℕ → List ℕ
+groupIn counts k = take groupSize (drop (groupSize * k) counts)
+
+-- a group's count of an outcome, 1 to 4; and behind these, of a policy, 1 to 64
+abbrev pub ofOutcome : List ℕ → ℕ → ℕ
+ofOutcome group outcome = getD group (outcome - 1) 0
+
+abbrev pub ofPolicy : List ℕ → ℕ → ℕ
+ofPolicy group policy = getD group (policy + 3) 0
+
+-- what a group of counts says of a request: so many combinations have the outcome, and so many the policy decides
+pub record TallyOf (text : List ℕ) (base : Contents) (columns : List Column) (q : Request) (group : List ℕ) : Type 0 where
+  pub outcomes : (o : ℕ) → 1 ≤ o → o ≤ 4
+      → SoMany (counts columns) (λ choices. (policy : ℕ) × OutcomeIs text (attributes base columns choices) q o policy) (ofOutcome group o)
+  pub policies : (n : ℕ) → 1 ≤ n → n ≤ 64
+      → SoMany (counts columns) (λ choices. (outcome : ℕ) × OutcomeIs text (attributes base columns choices) q outcome n) (ofPolicy group n)
+  -- the four add up to the number of rows, and the policies to outcomes 1 and 2 together
+  pub rows-add-up : sumOf (take 4 group) ≡ product (counts columns)
+  pub policies-add-up : sumOf (drop 4 group) ≡ ofOutcome group 1 + ofOutcome group 2
+  -- the sheet of the same request lists the rows of outcomes 1 and 4
+  pub listed : (lines : List Line) → Sheet text base columns q lines → length lines ≡ ofOutcome group 1 + ofOutcome group 4
+
+-- what a call that is not refused leaves: a group for each request that was lent, zeros for those that were not, and as the ninth group the sums of the eight
+pub record TheTally (c : TallyCall) : Type 0 where
+  pub base : Contents
+  pub columns : List Column
+  pub question-says : QuestionBytes (c .question) base columns
+  pub requests : List Request
+  pub lent : Lent (c .many) (c .requests) requests
+  pub counted : (k : ℕ) (q : Request) → Numbered (suc k) q requests → TallyOf (c .text) base columns q (groupIn (countsFor c) k)
+  pub others-none : (k i : ℕ) → c .many ≤ k → k < groupCount → i < groupSize → getD (groupIn (countsFor c) k) i 0 ≡ 0
+  pub summed : (i : ℕ) → i < groupSize
+      → getD (groupIn (countsFor c) groupCount) i 0 ≡ sumOf (fromOn (λ k. getD (groupIn (countsFor c) k) i 0) 0 groupCount)
+  pub no-more : length (countsFor c) ≡ groupSize * suc groupCount
+
+pub record TheTallies : Type 0 where
+  pub the-tally : (c : TallyCall) → refusalFor c ≡ 0 → TheTally c
+  -- bytes lend one list of so many requests
+  pub one-lent : (n : ℕ) (bytes : List ℕ) → (qs : List Request) × Lent n bytes qs × ((others : List Request) → Lent n bytes others → others ≡ qs)
+  -- a request has one tally
+  pub one-tally : (text : List ℕ) (base : Contents) (columns : List Column) (q : Request) (group group′ : List ℕ)
+      → TallyOf text base columns q group → TallyOf text base columns q group′ → (k : ℕ) → k < groupSize → getD group k 0 ≡ getD group′ k 0
+
 -- ---- Look-ups. What is found in a bag is the attribute that deciding sees.
 
 -- the kind, number and place that stand for an attribute: a flag counts 0 or 1, a string and a list 0, and an absent one has zeros
@@ -325,6 +377,7 @@ pub record Refusals : Type 0 where
   pub decide-exactly : (c : DecideCall) (number : ℕ) → (decisionFor c .refusal ≡ number) ↔ DecideRefused c number
   pub lookup-exactly : (bag : List ℕ) (root : ℕ) (path : List ℕ) → (lookupSays bag root path .refusal ≡ 24) ↔ NoBag bag
   pub sheet-exactly : (c : SheetCall) (number : ℕ) → (pageFor c .refusal ≡ number) ↔ SheetRefused c number
+  pub tally-exactly : (c : TallyCall) (number : ℕ) → (refusalFor c ≡ number) ↔ TallyRefused c number
   -- the number of rows is 0 exactly where the bytes are no question
   pub rows-exactly : (question : List ℕ) → (rowsSay question ≡ 0) ↔ NoQuestion question
   -- a table begins right exactly when the text belongs to the grammar and the table begins with its compiled bytes
@@ -352,6 +405,15 @@ pub record SheetAllows (text table question : List ℕ) (q : Request) (start : �
 abbrev pub PageAllows : SheetCall → List ℕ → DeskPage → Type 0
 PageAllows c after r = SheetAllows (c .text) (c .table) (c .question) (c .request) (c .start) (c .sheet) (c .at) after r
 
+-- what the contract of the tally allows: the answer, and the counts afterwards
+pub record TallyAllows (text table question : List ℕ) (many : ℕ) (requests before after : List ℕ) (r : ℕ) : Type 0 where
+  pub answered : r ≡ tallySays text table question many requests
+  pub counts : after ≡ tallyLeaves text table question many requests before
+
+-- the same, of what travels together
+abbrev pub CountsAllow : TallyCall → List ℕ → ℕ → Type 0
+CountsAllow c after r = TallyAllows (c .text) (c .table) (c .question) (c .many) (c .requests) (c .counts) after r
+
 -- two results that a contract allows are the same
 pub record OneResult : Type 0 where
   pub of-compile : (text before after after′ : List ℕ) (r r′ : DeskCompiled) → CompileAllows text before after r → CompileAllows text before after′ r′
@@ -364,4 +426,5 @@ pub record OneResult : Type 0 where
   pub of-string-place : (bag : List ℕ) (root : ℕ) (path : List ℕ) (r r′ : DeskString) → r ≡ stringSays bag root path → r′ ≡ stringSays bag root path
       → r ≡ r′
   pub of-sheet : (c : SheetCall) (after after′ : List ℕ) (r r′ : DeskPage) → PageAllows c after r → PageAllows c after′ r′ → (r ≡ r′) × (after ≡ after′)
+  pub of-tally : (c : TallyCall) (after after′ : List ℕ) (r r′ : ℕ) → CountsAllow c after r → CountsAllow c after′ r′ → (r ≡ r′) × (after ≡ after′)
   pub of-rows : (question : List ℕ) (r r′ : ℕ) → r ≡ rowsSay question → r′ ≡ rowsSay question → r ≡ r′

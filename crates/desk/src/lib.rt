@@ -5,7 +5,7 @@ ghost use Rattle.targets.specs.Matching.{request};
 ghost use Rattle.deciding.specs.Answers.{decideSaid};
 ghost use Rattle.deciding.specs.declared.Answer.the-variants.{Decided};
 ghost use Rattle.desk.specs.Answers.{beginsSays, decidedAs, decideSays, lookupSays, stringSays, rowsSay};
-ghost use Rattle.desk.specs.Promises.{CompileAllows, SheetAllows, StringAllows};
+ghost use Rattle.desk.specs.Promises.{CompileAllows, SheetAllows, StringAllows, TallyAllows};
 use compiling::Compiled;
 use meaning::Decision;
 
@@ -219,6 +219,25 @@ pub extern "C" fn desk_rows(question: &[u8]) -> usize
     ensures { λ r. ⌜ r ≡ rowsSay (now (question .entry)) ⌝ }
 {
     sheets::row_count(question)
+}
+
+// The tally of so many requests over one question. `requests` has subject, action and resource of each, each behind a length byte. `counts` has nine groups of 68
+// numbers, one for each of eight requests and the sums: the rows of outcome 1 to 4, then those that policy 1 to 64 decides. Answers the refusal's number, 0 where
+// nothing is refused; a refusal changes nothing.
+#[no_mangle]
+pub extern "C" fn desk_tally<'a>(
+    text: &'a [u8],
+    table: &[u8],
+    question: &'a [u8],
+    many: usize,
+    requests: &'a [u8],
+    counts: &mut [u32; 612],
+) -> u32
+    ensures { λ r. ⌜ TallyAllows (now (text .entry)) (now (table .entry)) (now (question .entry)) many (now (requests .entry)) (now (counts .entry))
+        (now (counts .exit)) r ⌝ }
+{
+    let number = tallies::tally(text, table, question, many, requests, counts);
+    number as u32
 }
 
 // What writing a lock's permit answers: the permit's length.

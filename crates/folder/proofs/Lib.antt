@@ -1,3 +1,4 @@
 pub mod PutLaws
 pub mod DecimalLaws
 pub mod CaseLaws
+pub mod TallyLaws

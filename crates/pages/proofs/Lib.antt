@@ -4,6 +4,9 @@ pub mod Stepping
 pub mod Progress
 pub mod Listed
 pub mod LineLaws
+pub mod Tallying
+pub mod AddingUp
+pub mod SoManyLaws
 pub mod SixColumns
 pub mod AskedForms
 pub mod Opened

@@ -17,21 +17,6 @@ fn report(answer: DeskPage, sheet: &[u8]) {
     vectors::print_number(vectors::sum_of(sheet), b'\n');
 }
 
-// The number in some bytes, the low one first; of more than eight bytes only the first eight count.
-fn number(bytes: &[u8]) -> u64 {
-    let mut n: u64 = 0;
-    let mut i = bytes.len();
-    while i > 0 {
-        i -= 1;
-        n = with_byte(n, bytes[i]);
-    }
-    n
-}
-
-fn with_byte(n: u64, low: u8) -> u64 {
-    n % 72057594037927936 * 256 + low as u64
-}
-
 // Where a page is wanted: the start row, the sheet's length, and the named byte.
 struct Wanted {
     start: usize,
@@ -49,9 +34,9 @@ fn page_wanted(memory: &[u8], at: usize) -> Wanted
     let size_end = packed::part_end(memory, size);
     let named = packed::part_start(memory, size_end);
     let named_end = packed::part_end(memory, named);
-    let first = number(&memory[start..start_end]) as usize;
-    let length = (number(&memory[size..size_end]) % 65536) as usize;
-    let byte = number(&memory[named..named_end]) as usize;
+    let first = vectors::number_in(&memory[start..start_end]) as usize;
+    let length = (vectors::number_in(&memory[size..size_end]) % 65536) as usize;
+    let byte = vectors::number_in(&memory[named..named_end]) as usize;
     Wanted {
         start: first,
         length,

@@ -178,7 +178,7 @@ module _ {s : List ℕ} {p : Sections} {n : ℕ} {starts ends : List ℕ} {grid 
     unfolding decisionBy decisionOf
     decides-there system q ps e = rw (e, shows)
 
--- ---- a policy's number fits a byte
+-- ---- a policy's number is at most 64, and fits a byte
 
 named-few : {view : View} {q : Request} {ps : List (PolicyOf Word)} {n : ℕ} → NamesPolicy view q ps n → n ≤ length ps
 named-few (the-system s) = omega arith
@@ -187,25 +187,29 @@ named-few (a-permit s f l) = numbered-few (l .satisfied-as .numbered)
 named-few (none-named s f g) = omega arith
 
 module _ (text : List ℕ) (view : View) (q : Request) (ps : List Policy) where
-  system-fits : isSystem (q .subject) ≡ true → policyOf (decisionOf view q (wordsOf text ps)) < 256
+  system-few : isSystem (q .subject) ≡ true → policyOf (decisionOf view q (wordsOf text ps)) ≤ 64
   unfolding decisionOf policyOf
-  system-fits e = rw e (omega arith)
+  system-few e = rw e (omega arith)
 
-  other-fits : length ps ≤ 64 → policyOf (decisionOf view q (wordsOf text ps)) < 256
+  other-few : length ps ≤ 64 → policyOf (decisionOf view q (wordsOf text ps)) ≤ 64
   unfolding NamedRightly
-  other-fits h = omega (arith, many-words text ps, named-few (named-rightly view q (wordsOf text ps)))
+  other-few h = omega (arith, many-words text ps, named-few (named-rightly view q (wordsOf text ps)))
 
-pub policy-fits : (text : List ℕ) (s : List ℕ) (p : Sections) (q : Request) (ps : List Policy) (row : ℕ) → length ps ≤ 64
-    → policyOf (decisionAt s p q (wordsOf text ps) row) < 256
+pub policy-few : (text : List ℕ) (s : List ℕ) (p : Sections) (q : Request) (ps : List Policy) (row : ℕ) → length ps ≤ 64
+    → policyOf (decisionAt s p q (wordsOf text ps) row) ≤ 64
 unfolding decisionBy
-policy-fits text s p q ps row h = go (isSystem (q .subject)) refl
+policy-few text s p q ps row h = go (isSystem (q .subject)) refl
   where
     view : View
     view = look (bagOfRow s p (columnsIn s p) (firstIn p) (choicesAt (countsOf (columnsIn s p) s (firstIn p)) row))
 
-    go : (b : Bool) → isSystem (q .subject) ≡ b → policyOf (decisionOf view q (wordsOf text ps)) < 256
-    go true e = system-fits text view q ps e
-    go false e = other-fits text view q ps h
+    go : (b : Bool) → isSystem (q .subject) ≡ b → policyOf (decisionOf view q (wordsOf text ps)) ≤ 64
+    go true e = system-few text view q ps e
+    go false e = other-few text view q ps h
+
+pub policy-fits : (text : List ℕ) (s : List ℕ) (p : Sections) (q : Request) (ps : List Policy) (row : ℕ) → length ps ≤ 64
+    → policyOf (decisionAt s p q (wordsOf text ps) row) < 256
+policy-fits text s p q ps row h = omega (arith, policy-few text s p q ps row h)
 
 -- ---- policies of the system
 

@@ -120,6 +120,21 @@ pub fn two_bytes(low: u8, high: u8) -> usize
     low as usize + high as usize * 256
 }
 
+// The number in some bytes, the low one first; of more than eight bytes only the first eight count.
+pub fn number_in(bytes: &[u8]) -> u64 {
+    let mut n: u64 = 0;
+    let mut i = bytes.len();
+    while i > 0 {
+        i -= 1;
+        n = with_byte(n, bytes[i]);
+    }
+    n
+}
+
+fn with_byte(n: u64, low: u8) -> u64 {
+    n % 72057594037927936 * 256 + low as u64
+}
+
 // Reads n bytes, and keeps none of them.
 fn pass_over(n: usize)
     requires { ⌜ n < 65536 ⌝ }

@@ -7,17 +7,17 @@ use borrow.Author.Tests.{ltb-true}
 use native.Mathlib.Omega.{arith}
 use lib.Dec.{eqb, ltb}
 use lib.ListN.{getD}
-use Rattle.bags.specs.Reading.{place, many}
+use Rattle.bags.specs.Reading.{endPlace, many}
 use Rattle.questions.specs.Columns.{candidateEnd, countAt}
-use Rattle.questions.specs.Questions.{headOf, countOf, choiceOf, cell}
+use Rattle.questions.specs.Questions.{headOf, countOf, choiceAt, cell}
 use Rattle.views.specs.Rows.{Chooses}
 
 a-candidate : (s : List ℕ) (at n i j : ℕ) → 0 < cell s at n i j → j < countOf s (headOf s at i)
-unfolding cell choiceOf
+unfolding cell choiceAt
 a-candidate s at n i j h = go (ltb i n) (ltb j (countOf s (headOf s at i))) refl h
   where
     go : (a b : Bool) → ltb j (countOf s (headOf s at i)) ≡ b
-        → 0 < cond a (cond b (place (many j (candidateEnd s) (countAt s (headOf s at i) + 1))) 0) 0 → j < countOf s (headOf s at i)
+        → 0 < cond a (cond b (endPlace (many j (candidateEnd s) (countAt s (headOf s at i) + 1))) 0) 0 → j < countOf s (headOf s at i)
     go true true e h = ltb-true _ _ e
     go true false e h = absurd (omega arith)
     go false b e h = absurd (omega arith)

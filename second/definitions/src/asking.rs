@@ -1,7 +1,9 @@
-//! What the program `ask` prints: whether a rule text compiles, and what is decided of cases, one after the other.
+//! What the program `ask` prints: whether a rule text compiles, what is decided of cases, one after the other, and the tally of requests.
 
 use crate::compile::{compile, Refusal, ROOM_FOR_EACH_BYTE};
 use crate::deciding::{decide, Request};
+use crate::questions::read_question;
+use crate::tallies::{read_requests, requests_lent, tally, Counts};
 
 /// A case: who wants to do what with what, over which bag.
 #[derive(Clone, PartialEq, Debug)]
@@ -68,6 +70,42 @@ pub fn printed_decide(text: &[u8], cases: &[Case]) -> String {
     lines
 }
 
+/// The bytes of `requests.bin`: how many requests there are, and each as it is lent. More than 255 are said to be 255, for both are refused.
+pub fn requests_file(requests: &[Request]) -> Vec<u8> {
+    let many = u8::try_from(requests.len()).unwrap_or(u8::MAX);
+    [&[many], &requests_lent(requests)[..]].concat()
+}
+
+/// What `ask tally` prints for `policy.txt`, `question.bin` and `requests.bin`: how many rows there are, then for each request and
+/// for the sums how many rows have each outcome, and how many each policy decides. A refusal is one line and nothing else.
+pub fn printed_tally(text: &[u8], question: &[u8], requests: &[u8]) -> String {
+    let compiled = match compile(text, ROOM_FOR_EACH_BYTE * text.len()) {
+        Ok(compiled) => compiled,
+        Err(refusal) => return refused(refusal),
+    };
+    let (many, lent) = requests.split_first().map_or((0, requests), |(many, lent)| (usize::from(*many), lent));
+    match tally(text, &compiled.table, question, &read_requests(many, lent)) {
+        Err(number) => format!("refused {} 0 0\n", number),
+        Ok(tally) => {
+            let policies = compiled.policies.len();
+            let rows = read_question(question).map_or(0, |question| question.rows());
+            let mut lines = format!("rows {}\n", rows);
+            for (index, counts) in tally.requests.iter().enumerate() {
+                lines += &format!("request {}\n{}", index + 1, count_lines(counts, policies));
+            }
+            lines + "sums\n" + &count_lines(&tally.sums, policies)
+        }
+    }
+}
+
+/// A line for each outcome, and one for each of so many policies.
+fn count_lines(counts: &Counts, policies: usize) -> String {
+    let line = |word: &str, index: usize, rows: &u32| format!("{} {} {}\n", word, index + 1, rows);
+    let outcomes = counts.outcomes.iter().enumerate().map(|(index, rows)| line("outcome", index, rows));
+    let decided = counts.policies.iter().take(policies).enumerate().map(|(index, rows)| line("policy", index, rows));
+    outcomes.chain(decided).collect()
+}
+
 fn refused(refusal: Refusal) -> String {
     format!("refused {} {} {}\n", refusal.number, refusal.line, refusal.column)
 }
@@ -98,5 +136,29 @@ mod tests {
             [case("person:K7", &[0, 0, 0]), case("dog:1", &[0, 0, 0]), case("system", &[]), case("tool:1", &[])];
         assert_eq!(printed_decide(text, &cases), "decided 1 1\nrefused 21 0 0\ndecided 4 0\nrefused 24 0 0\n");
         assert_eq!(printed_decide(b"permit", &cases), "refused 10 1 7\n");
+    }
+
+    // A question with one column of two candidates: env.a is absent, and true.
+    #[test]
+    fn a_tally_has_a_line_for_each_count() {
+        let text = b"permit(principal,action,resource);forbid(principal is tool,action,resource)when{env.a==true};";
+        let question = [0, 0, 0, 1, 3, 1, b'a', 2, 0, 3, 1];
+        let of = |subject| Request { subject, action: b"teach", resource: b"shaft:A" };
+        let file = requests_file(&[of(b"tool:1"), of(b"system")]);
+        assert_eq!(&file[..9], b"\x02\x06tool:1\x05");
+        assert_eq!(
+            printed_tally(text, &question, &file),
+            "rows 2\nrequest 1\noutcome 1 1\noutcome 2 1\noutcome 3 0\noutcome 4 0\npolicy 1 1\npolicy 2 1\n\
+             request 2\noutcome 1 0\noutcome 2 0\noutcome 3 0\noutcome 4 2\npolicy 1 0\npolicy 2 0\n\
+             sums\noutcome 1 1\noutcome 2 1\noutcome 3 0\noutcome 4 2\npolicy 1 1\npolicy 2 1\n"
+        );
+        assert_eq!(printed_tally(b"", &question, &file[..1]), "refused 21 0 0\n");
+        assert_eq!(printed_tally(b"permit", &question, &file), "refused 10 1 7\n");
+        assert_eq!(printed_tally(text, &[0, 0, 0], &file), "refused 24 0 0\n");
+        assert_eq!(printed_tally(text, &question, b""), "refused 27 0 0\n");
+        for many in [9, 300] {
+            let file = requests_file(&vec![of(b"tool:1"); many]);
+            assert_eq!(printed_tally(text, &question, &file), "refused 27 0 0\n");
+        }
     }
 }

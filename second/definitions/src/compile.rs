@@ -14,7 +14,7 @@ pub const LONGEST_TEXT: usize = 8_192;
 /// 01, "The table": at least 8 bytes of table must be lent for each byte of text.
 pub const ROOM_FOR_EACH_BYTE: usize = 8;
 /// 01, "Sizes": 64 policies.
-const MOST_POLICIES: usize = 64;
+pub const MOST_POLICIES: usize = 64;
 /// 01, "Sizes": path 64 bytes with its dots.
 pub const LONGEST_PATH: usize = 64;
 /// 01, "Sizes": list 16 literals.

@@ -64,7 +64,13 @@ pub fn write_page(
 }
 
 /// A row's decision: that over the base with each column's attribute set to its choice or removed.
-fn decision_of_row(text: &[u8], policies: &[Policy], question: &Question, request: Request, row: usize) -> Decision {
+pub fn decision_of_row(
+    text: &[u8],
+    policies: &[Policy],
+    question: &Question,
+    request: Request,
+    row: usize,
+) -> Decision {
     if request.is_of_system() {
         return SYSTEM_DECISION;
     }
@@ -121,22 +127,10 @@ pub fn printed(text: &[u8], question: &[u8], request: &[u8], page_bytes: usize) 
 #[cfg(test)]
 mod tests {
     use super::*;
-    use crate::plans::{number_value, string_value, Column, Plan};
+    use crate::example::{example_question, EXAMPLE};
+    use crate::plans::{Column, Plan};
 
-    const EXAMPLE: &str = "permit(principal is person, action, resource is shaft)\n  when { principal.grade >= 3 };\n\
-        forbid(principal, action in [\"teach\"], resource)\n  when { principal.hired != \"own\" };\n";
     const REQUEST: &[u8] = b"person:K7\nteach\nshaft:A\n";
-
-    /// 01, "Checked examples": columns principal.grade (absent, 3, 2.5) and principal.hired (absent, "own", "loan").
-    fn example_question() -> Vec<u8> {
-        let column =
-            |path: &str, candidates: Vec<Vec<u8>>| Column { root: 1, path: path.as_bytes().to_vec(), candidates };
-        let columns = vec![
-            column("grade", vec![vec![0], number_value(3.0_f64.to_bits()), number_value(2.5_f64.to_bits())]),
-            column("hired", vec![vec![0], string_value(b"own"), string_value(b"loan")]),
-        ];
-        Plan { sections: [Vec::new(), Vec::new(), Vec::new()], columns: Some(columns) }.bytes()
-    }
 
     fn table_of(text: &str) -> Vec<u8> {
         compile(text.as_bytes(), 8 * text.len()).unwrap().table

@@ -10,3 +10,4 @@ pub mod policy_texts;
 pub mod random;
 pub mod requests;
 pub mod rich_bags;
+pub mod tallies;

@@ -46,6 +46,25 @@ pub fn rich_question() -> Plan {
     plan
 }
 
+/// The rich question cut off and changed at each byte, as it is, and longer; other bytes that are short or long.
+pub fn cut_and_changed_questions() -> Vec<Vec<u8>> {
+    let bytes = rich_question().bytes();
+    let mut questions = Vec::new();
+    for at in 0..bytes.len() {
+        questions.push(bytes[..at].to_vec());
+        let mut changed = bytes.clone();
+        changed[at] = changed[at].wrapping_add(1);
+        questions.push(changed);
+    }
+    questions.push(bytes.clone());
+    questions.push([&bytes[..], &[0]].concat());
+    questions.push(vec![0; 4_097]);
+    for question in [&[][..], &[0, 0, 0], &[0, 0, 0, 0], &[0, 0, 0, 0, 0], &[0, 0, 0, 7], &[0, 0, 0, 1]] {
+        questions.push(question.to_vec());
+    }
+    questions
+}
+
 /// A bag of this length (about 4,096) that keeps all other rules.
 pub fn bag_of_length(length: usize) -> Vec<u8> {
     let names: Vec<String> = (0..31).map(|index| format!("p{:02}", index)).collect();

@@ -19,6 +19,8 @@ pub trait Answers {
     fn check(&self, text: &[u8]) -> Done<String>;
     /// What `ask decide` prints for these cases.
     fn decide(&self, text: &[u8], cases: &[Case]) -> Done<String>;
+    /// What `ask tally` prints for these three files.
+    fn tally(&self, text: &[u8], question: &[u8], requests: &[u8]) -> Done<String>;
     /// What `caretaker` prints for what is lent, with a room of so many bytes.
     fn lock(&self, lent: Lent, room: usize) -> Done<Vec<u8>>;
 }
@@ -83,6 +85,10 @@ impl Answers for Programs {
         self.run(&["ask", "decide"], &[("policy.txt", text), ("cases.bin", &bytes)])
     }
 
+    fn tally(&self, text: &[u8], question: &[u8], requests: &[u8]) -> Done<String> {
+        self.run(&["ask", "tally"], &[("policy.txt", text), ("question.bin", question), ("requests.bin", requests)])
+    }
+
     fn lock(&self, lent: Lent, room: usize) -> Done<Vec<u8>> {
         let files = [
             ("vocabulary.bin", lent.vocabulary),
@@ -132,7 +138,7 @@ pub enum Answer {
 }
 
 /// A line of numbers after a word.
-fn numbers<const N: usize>(line: &str, word: &str) -> Option<[usize; N]> {
+pub fn numbers<const N: usize>(line: &str, word: &str) -> Option<[usize; N]> {
     let rest = line.strip_prefix(word)?.strip_prefix(' ')?;
     let numbers: Option<Vec<usize>> = rest.split(' ').map(|number| number.parse().ok()).collect();
     numbers?.try_into().ok()
@@ -242,13 +248,17 @@ pub mod tests {
             Ok(asking::printed_decide(text, cases))
         }
 
+        fn tally(&self, text: &[u8], question: &[u8], requests: &[u8]) -> Done<String> {
+            Ok(asking::printed_tally(text, question, requests))
+        }
+
         fn lock(&self, lent: Lent, room: usize) -> Done<Vec<u8>> {
             Ok(locks::printed(lent, room))
         }
     }
 
     /// Answers always the same.
-    struct Wrong(&'static str);
+    pub struct Wrong(pub &'static str);
 
     impl Answers for Wrong {
         fn sheet(&self, _: &[u8], _: &[u8], _: &[u8]) -> Done<String> {
@@ -260,6 +270,10 @@ pub mod tests {
         }
 
         fn decide(&self, _: &[u8], _: &[Case]) -> Done<String> {
+            Ok(self.0.to_string())
+        }
+
+        fn tally(&self, _: &[u8], _: &[u8], _: &[u8]) -> Done<String> {
             Ok(self.0.to_string())
         }
 

@@ -4,7 +4,7 @@
 use std::fs;
 use std::path::Path;
 
-use definitions::asking::Case;
+use definitions::asking::{requests_file, Case};
 use definitions::bags::Content;
 use definitions::deciding::Request;
 use definitions::questions::{read_question, Question};
@@ -12,9 +12,10 @@ use definitions::sheets::read_request;
 
 use crate::bytes::read_bytes;
 use crate::command::{not_asked, read_file, read_if_there, Done};
-use crate::form::{Form, PARTS};
+use crate::form::{whole_request, Form, Parts, SaidParts, PARTS};
 use crate::places::wrong_in_text;
 use crate::reading::{first_comment, read_text};
+use crate::words::count_of;
 use crate::writing::quoted;
 
 /// The names of a folder's files.
@@ -22,8 +23,10 @@ pub const RULES: &str = "policy.txt";
 pub const QUESTION: &str = "question.txt";
 const QUESTION_BYTES: &str = "question.bin";
 const REQUEST: &str = "request.txt";
+const REQUESTS: &str = "requests.bin";
 
-/// Rules, and a question or bag with its request.
+/// Rules, and a question or bag with its requests.
+#[derive(Clone)]
 pub struct Asked {
     pub rules_name: String,
     pub rules: Vec<u8>,
@@ -33,7 +36,9 @@ pub struct Asked {
     pub form: Form,
     /// The bytes that the sheet program reads.
     pub sent: Vec<u8>,
-    pub request: [Vec<u8>; 3],
+    /// All requests, from the first on, and the one that is asked about where it is one.
+    pub requests: Vec<Parts>,
+    pub request: Parts,
     /// The file that says the request, if the question's text does not.
     pub request_file: Option<(String, Vec<u8>)>,
     /// The first comment of the question's text.
@@ -54,7 +59,33 @@ impl Asked {
 
     /// The three lines of request.txt.
     pub fn request_bytes(&self) -> Vec<u8> {
-        self.request.iter().flat_map(|part| [&part[..], b"\n"].concat()).collect()
+        lines_of(&self.request)
+    }
+
+    /// The one request that is asked about: the one of this number, from 1, or the only one.
+    pub fn choose(&mut self, number: Option<usize>) -> Done<()> {
+        let many = self.requests.len();
+        match number {
+            None if many > 1 => not_asked(format!(
+                "{} has {} requests: --request 1 to {} takes one of them, ./desk tally {} counts the rows of all",
+                self.name, many, many, self.name
+            )),
+            Some(number) if !(1..=many).contains(&number) => not_asked(format!(
+                "there is no request {}: {} has {}",
+                number,
+                self.name,
+                count_of(many, "request", "requests")
+            )),
+            _ => {
+                self.request = self.requests[number.unwrap_or(1) - 1].clone();
+                Ok(())
+            }
+        }
+    }
+
+    /// The bytes of requests.bin.
+    pub fn requests_bytes(&self) -> Vec<u8> {
+        bytes_of_requests(&self.requests)
     }
 
     /// The question as the desk reads it; a bag is a question without columns.
@@ -109,6 +140,7 @@ struct Places {
     text: String,
     bytes: String,
     request: String,
+    requests: String,
 }
 
 /// What a folder or a question's file asks, with other rules if these are named. With `missing_is_empty` a file that a folder has not
@@ -125,15 +157,15 @@ pub fn read_asked(name: &str, rules: Option<&str>, missing_is_empty: bool) -> Do
         None => read_question_bytes(&places, &mut missing)?,
     };
     let mut request_file = None;
-    let request = match request_of_text(&name, &form, &places.request)? {
-        Some(request) => request,
+    let requests = match requests_of_text(&name, &form, &places)? {
+        Some(requests) => requests,
         None => {
             let what = format!("say subject = \"..\", action = \"..\" and resource = \"..\" in {}", places.text);
             let bytes = missing.read(&places.request, &what)?;
             missing.warnings.extend(doubts_of_request_file(&places.request, &bytes));
             let parts = parts_of(&bytes);
             request_file = Some((places.request.clone(), bytes));
-            parts
+            vec![parts]
         }
     };
     let is_text = name == places.text;
@@ -145,7 +177,8 @@ pub fn read_asked(name: &str, rules: Option<&str>, missing_is_empty: bool) -> Do
         name,
         file,
         form,
-        request,
+        request: requests[0].clone(),
+        requests,
         request_file,
         warnings: missing.warnings,
     };
@@ -190,12 +223,13 @@ fn places_of(name: &str, rules: Option<&str>) -> Places {
     let folder = if is_file { path.parent().unwrap_or(path) } else { path };
     let beside = |file: &str| folder.join(file).to_string_lossy().into_owned();
     let stem = path.file_stem().map_or(String::new(), |stem| stem.to_string_lossy().into_owned());
-    let (text, bytes, request) = if !is_file || stem == "question" {
-        (beside(QUESTION), beside(QUESTION_BYTES), beside(REQUEST))
+    let named = |ending: &str| beside(&format!("{}.{}", stem, ending));
+    let (text, bytes, request, requests) = if !is_file || stem == "question" {
+        (beside(QUESTION), beside(QUESTION_BYTES), beside(REQUEST), beside(REQUESTS))
     } else {
-        (name.to_string(), beside(&format!("{}.bin", stem)), beside(&format!("{}.request", stem)))
+        (name.to_string(), named("bin"), named("request"), named("requests"))
     };
-    Places { rules: rules.map_or_else(|| beside(RULES), str::to_string), text, bytes, request }
+    Places { rules: rules.map_or_else(|| beside(RULES), str::to_string), text, bytes, request, requests }
 }
 
 /// The question's text and what it says, if it is there. Bytes that were made of it must be what it says.
@@ -219,35 +253,62 @@ fn read_question_text(places: &Places) -> Done<Option<(Vec<u8>, Form)>> {
     Ok(Some((file, form)))
 }
 
-/// The request that the text says, if it says one. A file that was made of it must be what it says.
-fn request_of_text(name: &str, form: &Form, file: &str) -> Done<Option<[Vec<u8>; 3]>> {
-    if form.request.iter().all(Option::is_none) {
-        return Ok(None);
-    }
-    let is_system = form.request[0].as_deref() == Some(b"system");
-    for (part, value) in PARTS.iter().zip(&form.request) {
-        if value.is_none() && !is_system {
-            return not_asked(format!("{} says no {}: a line {} = \"..\" is missing", name, part, part));
+/// The requests that the text says, if it says any. Files that were made of it must be what it says.
+fn requests_of_text(name: &str, form: &Form, places: &Places) -> Done<Option<Vec<Parts>>> {
+    let requests = match said_requests(name, form)? {
+        Some(requests) => requests,
+        None => return Ok(None),
+    };
+    let anew = format!("./desk write {} makes it anew, or remove it", name);
+    if let Some(bytes) = read_if_there(&places.request)? {
+        if requests.len() > 1 {
+            return not_asked(format!(
+                "{} has one request, and {} has {}: remove it",
+                places.request,
+                name,
+                requests.len()
+            ));
         }
-    }
-    let request = form.request.clone().map(Option::unwrap_or_default);
-    if let Some(bytes) = read_if_there(file)? {
         let other = parts_of(&bytes);
-        for ((part, said), other) in PARTS.iter().zip(&request).zip(&other) {
+        for ((part, said), other) in PARTS.iter().zip(&requests[0]).zip(&other) {
             if said != other {
+                let (other, said) = (quoted(other), quoted(said));
                 return not_asked(format!(
-                    "{} has the {} {}, and {} has {}: ./desk write {} makes it anew, or remove it",
-                    file,
-                    part,
-                    quoted(other),
-                    name,
-                    quoted(said),
-                    name
+                    "{} has the {} {}, and {} has {}: {}",
+                    places.request, part, other, name, said, anew
                 ));
             }
         }
     }
-    Ok(Some(request))
+    match read_if_there(&places.requests)? {
+        Some(bytes) if bytes != bytes_of_requests(&requests) => {
+            not_asked(format!("{} is not what {} says: {}", places.requests, name, anew))
+        }
+        _ => Ok(Some(requests)),
+    }
+}
+
+/// The requests of a form: those that lines `request` begin, or else the one of its parts; nothing if it says none.
+fn said_requests(name: &str, form: &Form) -> Done<Option<Vec<Parts>>> {
+    if !form.requests.is_empty() {
+        return Ok(Some(form.requests.clone()));
+    }
+    if form.request.iter().all(Option::is_none) {
+        return Ok(None);
+    }
+    match whole_request(&form.request, SaidParts::default()) {
+        Ok(request) => Ok(Some(vec![request])),
+        Err(part) => not_asked(format!("{} says no {}: a line {} = \"..\" is missing", name, part, part)),
+    }
+}
+
+/// The bytes of requests.bin. A part has at most 255 bytes there; one that is cut so is refused like the whole.
+pub fn bytes_of_requests(requests: &[Parts]) -> Vec<u8> {
+    let cut = |part: &Vec<u8>| part[..part.len().min(255)].to_vec();
+    let cut: Vec<Parts> = requests.iter().map(|[a, b, c]| [cut(a), cut(b), cut(c)]).collect();
+    let lent: Vec<Request> =
+        cut.iter().map(|[subject, action, resource]| Request { subject, action, resource }).collect();
+    requests_file(&lent)
 }
 
 /// The parts of a request file, as the sheet program cuts it.
@@ -268,7 +329,7 @@ fn doubts_of_request_file(name: &str, bytes: &[u8]) -> Vec<String> {
 
 /// The sheet program reads each part up to a line feed.
 fn check_one_line(asked: &Asked) -> Done<()> {
-    for (part, value) in PARTS.iter().zip(&asked.request) {
+    for (part, value) in asked.requests.iter().flat_map(|request| PARTS.iter().zip(request)) {
         if value.contains(&b'\n') {
             return not_asked(format!("the {} has a line feed in it: {}; it must be one line", part, quoted(value)));
         }
@@ -276,18 +337,26 @@ fn check_one_line(asked: &Asked) -> Done<()> {
     Ok(())
 }
 
-/// Write the bytes and the request of a question's text beside it.
+/// Write the bytes of a question's text beside it, and its request, or its requests where it has several.
 pub fn write_made(name: &str) -> Done<String> {
     let places = places_of(name, None);
     let file = read_file(&places.text)?;
     let form = read_text(&file).or_else(|wrong| not_asked(wrong_in_text(&places.text, &file, &wrong)))?;
+    let requests = said_requests(&places.text, &form)?.unwrap_or_default();
     let mut said = put(&places.bytes, &form.bytes())?;
-    if form.request.iter().any(Option::is_some) {
-        let request = form.request.map(Option::unwrap_or_default);
-        let lines: Vec<u8> = request.iter().flat_map(|part| [&part[..], b"\n"].concat()).collect();
-        said += &put(&places.request, &lines)?;
+    match &requests[..] {
+        [request] => said += &put(&places.request, &lines_of(request))?,
+        _ => {}
+    }
+    if requests.len() > 1 || read_if_there(&places.requests)?.is_some() {
+        said += &put(&places.requests, &bytes_of_requests(&requests))?;
     }
     Ok(said)
+}
+
+/// The three lines of request.txt.
+fn lines_of(request: &Parts) -> Vec<u8> {
+    request.iter().flat_map(|part| [&part[..], b"\n"].concat()).collect()
 }
 
 fn put(name: &str, bytes: &[u8]) -> Done<String> {

@@ -44,6 +44,8 @@ pub struct Words {
     pub rules: Option<String>,
     pub html: Option<String>,
     pub row: Option<usize>,
+    pub request: Option<usize>,
+    pub lines: bool,
     pub room: Option<usize>,
     pub table: bool,
     pub forbidden: bool,
@@ -67,6 +69,7 @@ impl Words {
             let mut value = || rest.next().map(|value| value.to_string());
             match *word {
                 "--table" => read.table = true,
+                "--lines" => read.lines = true,
                 "--forbidden" => read.forbidden = true,
                 "--missing-is-empty" => read.missing_is_empty = true,
                 "--rules" => match value() {
@@ -76,6 +79,10 @@ impl Words {
                 "--html" => match value() {
                     Some(name) => read.html = Some(name),
                     None => return usage("--html needs the name of the file to write".to_string()),
+                },
+                "--request" => match value().map(|number| number.parse()) {
+                    Some(Ok(number)) => read.request = Some(number),
+                    _ => return usage("--request needs the number of a request, from 1".to_string()),
                 },
                 "--room" => match value().map(|number| number.parse::<u16>()) {
                     Some(Ok(number)) => read.room = Some(usize::from(number)),
@@ -131,8 +138,9 @@ mod tests {
             (&["a", "--html"], "--html needs the name of the file to write"),
             (&["a", "--row", "x"], "--row needs the number of a row, from 0"),
             (&["a", "--row"], "--row needs the number of a row, from 0"),
+            (&["a", "--request", "first"], "--request needs the number of a request, from 1"),
         ] {
-            let said = Words::read(words, &["--rules", "--html", "--row"], 1..=1).unwrap_err();
+            let said = Words::read(words, &["--rules", "--html", "--row", "--request"], 1..=1).unwrap_err();
             assert_eq!(said, Failure::Usage(what.to_string()));
         }
     }

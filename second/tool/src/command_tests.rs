@@ -119,6 +119,9 @@ fn wrong_words_are_said_with_the_usage() {
         (&["explain", "@", "--row", "three"], "--row needs the number of a row, from 0"),
         (&["diff", "@policy.txt", "@"], "a name is missing; usage: ./desk diff BEFORE AFTER WHERE"),
         (&["check", "@", "--table"], "unknown option --table; usage: ./desk check RULES"),
+        (&["tally"], "a name is missing; usage: ./desk tally WHERE"),
+        (&["tally", "@", "--table"], "unknown option --table; usage: ./desk tally WHERE"),
+        (&["sheet", "@", "--request", "one"], "--request needs the number of a request, from 1"),
     ] {
         let said = folder.says(words);
         assert_eq!(said.status, 2, "{:?}", words);
@@ -410,6 +413,186 @@ fn refusals_of_requests_are_said() {
         "{}",
         all(&said)
     );
+}
+
+/// A folder whose question has these requests after its own.
+fn with_requests(requests: &str) -> Folder {
+    with_question(RULES, &[REQUEST, COLUMNS, requests].concat())
+}
+
+const TWO: &str = "request\nrequest\nsubject = \"tool:HT12\"\n";
+
+#[test]
+fn one_request_is_tallied() {
+    let folder = worked();
+    let lines = "rows 9\nrequest 1\noutcome 1 2\noutcome 2 3\noutcome 3 4\noutcome 4 0\npolicy 1 2\npolicy 2 3\n\
+        sums\noutcome 1 2\noutcome 2 3\noutcome 3 4\noutcome 4 0\npolicy 1 2\npolicy 2 3\n";
+    let said = folder.says(&["tally", "@", "--lines"]);
+    assert_eq!((said.out.as_str(), said.status), (lines, 0));
+    let said = folder.says(&["tally", "@question.txt", "--rules", "@policy.txt"]);
+    assert!(said.out.starts_with("Tally for person:K7, teach, shaft:A\n\nThe tally of 9 rows:\n"), "{}", said.out);
+    assert!(said.out.contains("\n      2          3              4       0\n"), "{}", said.out);
+    assert!(
+        said.out.ends_with("\n     2     3     3  forbid(principal, action in [\"teach\"], resource)\n"),
+        "{}",
+        said.out
+    );
+    // The sheet's table and page have the same counts.
+    let table = folder.says(&["sheet", "@", "--table"]).out;
+    assert!(table.contains(said.out.split_once("\n\n").unwrap().1), "{}", table);
+    assert_eq!(
+        folder.says(&["tally", "@", "--html", "@page.html"]).out,
+        format!("wrote {}\n", folder.path("page.html"))
+    );
+    assert_eq!(folder.says(&["sheet", "@", "--html", "@sheet.html"]).status, 0);
+    for name in ["page.html", "sheet.html"] {
+        let page = fs::read_to_string(folder.path(name)).unwrap();
+        let row = "<tr><td class=\"number\">2</td><td class=\"number\">3</td><td class=\"number\">4</td><td class=\"number none\">0</td></tr>";
+        assert!(page.contains("<h2>Tally</h2>") && page.contains(row), "{}", page);
+    }
+}
+
+#[test]
+fn several_requests_are_tallied() {
+    let folder = with_requests(TWO);
+    let said = folder.says(&["tally", "@"]);
+    assert!(said.status == 0 && said.out.starts_with("Tally of 2 requests\n\nWarning: request 2: "), "{}", said.out);
+    for line in [
+        "The tally of 2 requests, each over 9 rows:",
+        "      1  person:K7  teach   shaft:A         2          3              4       0",
+        "      2  tool:HT12  teach   shaft:A         0          3              6       0",
+        "   sums                                     2          6             10       0",
+        "     1     1  2  0     2  permit(principal is person, action, resource is shaft)",
+        "     2     3  3  3     6  forbid(principal, action in [\"teach\"], resource)",
+    ] {
+        assert!(said.out.lines().any(|said| said == line), "{}\n{}", line, said.out);
+    }
+    assert!(folder.says(&["tally", "@", "--lines"]).out.contains("request 2\noutcome 1 0\n"));
+    // A sheet is of one of them, and has the tally of all beside it.
+    let several = "question.txt has 2 requests: --request 1 to 2 takes one of them, ./desk tally";
+    for words in
+        [&["sheet", "@"][..], &["decide", "@"], &["explain", "@"], &["diff", "@policy.txt", "@policy.txt", "@"]]
+    {
+        let said = folder.says(words);
+        assert!(said.status == 2 && all(&said).contains(several), "{}", all(&said));
+        let said = folder.says(&[words, &["--request", "3"]].concat());
+        assert!(
+            said.status == 2 && all(&said).contains("there is no request 3: ") && all(&said).contains("has 2 requests")
+        );
+    }
+    assert_eq!(folder.says(&["sheet", "@", "--request", "1"]).out, "rows 9\n3 1 1\n4 1 1\nallowed 2\n");
+    assert_eq!(folder.says(&["sheet", "@", "--request", "2"]).out, "rows 9\nallowed 0\n");
+    let table = folder.says(&["sheet", "@", "--request", "2", "--table"]).out;
+    assert!(
+        table.contains("\n    * 2  tool:HT12  teach") && table.contains("\n* the request of this sheet\n"),
+        "{}",
+        table
+    );
+    assert!(folder.says(&["explain", "@", "--request", "2", "--row", "2"]).out.contains("Forbidden by policy 2"));
+    assert_eq!(folder.says(&["sheet", "@", "--request", "1", "--html", "@page.html"]).status, 0);
+    let page = fs::read_to_string(folder.path("page.html")).unwrap();
+    assert!(page.contains("<tr class=\"chosen\"><td class=\"number\">1</td><td>person:K7</td>"), "{}", page);
+    assert!(page.contains("The rows of this sheet are those of request 1."));
+}
+
+// The refused request is named, with what is wrong and what to do.
+#[test]
+fn refusals_of_tallies_say_which_request() {
+    let mend = "Mend it in ";
+    for (requests, number, what) in [
+        (
+            "request\nrequest\nsubject = \"dog:1\"",
+            21,
+            "Request 2 of 2 is refused, and with it the whole tally. The subject is not as it must be",
+        ),
+        ("request\nrequest\nsubject = \"dog:1\"", 21, "Found: \"dog:1\", 5 bytes."),
+        (
+            "request\nsubject = \"system\"\nrequest\naction = \"\"\nrequest\nsubject = \"dog:1\"",
+            22,
+            "Request 2 of 3 is refused",
+        ),
+        ("request\nresource = \"shaft\"\nrequest", 23, "Request 1 of 2 is refused"),
+    ] {
+        let folder = with_requests(requests);
+        let said = folder.says(&["tally", "@"]);
+        let unwrapped = said.out.replace('\n', " ");
+        assert!(said.status == 1 && unwrapped.starts_with(&format!("Refused, number {}. ", number)), "{}", said.out);
+        assert!(unwrapped.contains(what) && unwrapped.contains(mend), "{}", said.out);
+        let said = folder.says(&["tally", "@", "--lines"]);
+        assert_eq!((said.out, said.status), (format!("refused {} 0 0\n", number), 1));
+        assert!(said.warnings.last().unwrap().contains(what), "{:?}", said.warnings);
+        assert_eq!(folder.says(&["tally", "@", "--html", "@page.html"]).status, 1);
+        assert!(fs::read_to_string(folder.path("page.html"))
+            .unwrap()
+            .contains("is refused, and with it the whole tally."));
+    }
+    let nine = with_requests(&"request\n".repeat(9)).says(&["tally", "@"]);
+    let words =
+        "Refused, number 27. A tally takes one to eight requests, and here are 9: put 1 of them into another question.";
+    assert!(nine.status == 1 && nine.out.replace('\n', " ").starts_with(words), "{}", nine.out);
+    assert!(with_requests(&"request\n".repeat(8)).says(&["tally", "@"]).status == 0);
+    let said = with_requests(&"request\n".repeat(300)).says(&["tally", "@", "--lines"]);
+    assert_eq!((said.out.as_str(), said.status), ("refused 27 0 0\n", 1));
+    // One request is refused as its sheet is, and rules with their place.
+    let said =
+        with_question(RULES, "subject = \"dog:1\"\naction = \"a\"\nresource = \"shaft:A\"").says(&["tally", "@"]);
+    assert!(said.status == 1 && said.out.starts_with("Refused, number 21.\nThe subject is not as"), "{}", said.out);
+    let said = with_question("permit", &[REQUEST, TWO].concat()).says(&["tally", "@"]);
+    assert!(
+        said.status == 1 && said.out.starts_with("Refused, number 10.\n") && said.out.ends_with("^\n"),
+        "{}",
+        said.out
+    );
+    let said = Folder::new(&[("policy.txt", RULES), ("b.txt", "bag\nsubject = \"system\"")]).says(&["tally", "@b.txt"]);
+    assert!(said.status == 2 && all(&said).contains("is a bag and has no rows: ./desk decide"), "{}", all(&said));
+    let said = Folder::new(&[("policy.txt", RULES), ("question.txt", COLUMNS)]).says(&["tally", "@"]);
+    assert!(said.status == 2 && all(&said).contains("request.txt: say subject = \"..\""), "{}", all(&said));
+}
+
+// A doubt is said once, with the numbers of the requests that it is about; without, where it is about all but the system's.
+#[test]
+fn doubts_of_several_requests_name_them() {
+    let said = with_requests("request\nrequest\nrequest\naction = \"teech\"").says(&["tally", "@", "--lines"]);
+    let doubts = [
+        "request 3: no policy names the action \"teech\": did you mean teach?",
+        "request 2 is the same as request 1: the sums count its rows twice",
+    ];
+    assert_eq!(said.warnings, doubts);
+    let question = "subject = \"system\"\nrequest\nrequest\naction = \"a\"";
+    let said = with_question(RULES, question).says(&["tally", "@", "--lines"]);
+    assert_eq!(said.warnings, ["the subject is system: the answer is yes without a look at the rules"]);
+    assert!(doubts.iter().all(|doubt| documented(doubt)));
+    let base = "principal.grade = 3\nprincipal.hired = \"own\"\nenv.extra = 1\n";
+    let requests = "request\nrequest\naction = \"teech\"\nrequest\naction = \"teech\"\nresource = \"shaft:B\"\nrequest\nsubject = \"system\"";
+    let said = with_question(RULES, &[REQUEST, base, requests].concat()).says(&["tally", "@", "--lines"]);
+    let doubts = [
+        "no policy asks for env.extra",
+        "requests 2, 3: no policy names the action \"teech\": did you mean teach?",
+        "request 4: the subject is system: the answer is yes without a look at the rules",
+    ];
+    assert_eq!(said.warnings, doubts);
+}
+
+#[test]
+fn files_made_of_several_requests_must_be_what_the_text_says() {
+    let folder = with_requests(TWO);
+    let said = folder.says(&["write", "@"]);
+    assert!(said.out.ends_with(&format!("wrote {}\n", folder.path("requests.bin"))), "{}", said.out);
+    assert!(!Path::new(&folder.path("request.txt")).exists());
+    let bytes = fs::read(folder.path("requests.bin")).unwrap();
+    assert_eq!(bytes, b"\x02\x09person:K7\x05teach\x07shaft:A\x09tool:HT12\x05teach\x07shaft:A");
+    assert_eq!(folder.says(&["tally", "@"]).status, 0);
+    fs::write(folder.path("requests.bin"), &bytes[..1]).unwrap();
+    let said = folder.says(&["tally", "@"]);
+    assert!(said.status == 2 && all(&said).contains("requests.bin is not what"), "{}", all(&said));
+    fs::write(folder.path("request.txt"), "person:K7\nteach\nshaft:A\n").unwrap();
+    let said = folder.says(&["tally", "@"]);
+    assert!(said.status == 2 && all(&said).contains("request.txt has one request, and"), "{}", all(&said));
+    // With one request both files are made anew.
+    fs::write(folder.path("question.txt"), [REQUEST, COLUMNS].concat()).unwrap();
+    assert!(all(&folder.says(&["tally", "@"])).contains("requests.bin is not what"));
+    assert_eq!(folder.says(&["write", "@"]).status, 0);
+    assert_eq!(folder.says(&["tally", "@"]).status, 0);
 }
 
 #[test]

@@ -13,7 +13,7 @@ use crate::asked::{file_name, read_asked, write_made, Asked, RULES};
 use crate::bytes::read_bytes;
 use crate::command::{not_asked, read_file, Done, Said, Words};
 use crate::diffing::{diff, diff_text};
-use crate::doubts::doubts;
+use crate::doubts::{doubts, doubts_of_all};
 use crate::explaining::{conclusion, disarmed, explained};
 use crate::lock_reasons::{doubts_of, no_room, sentence_of};
 use crate::locking::{read_locks, LockFile, LockLine};
@@ -23,20 +23,24 @@ use crate::plain;
 use crate::printed::{check_belongs, read_printed, Listed, Printed};
 use crate::record::record_of;
 use crate::refusals::{Files, RefusalShown};
-use crate::report::report;
+use crate::report::{report, tally_report};
 use crate::rules::{condition_lines, policy_texts};
+use crate::tallies::{self, check_lists, RefusedTally, TallyShown};
+use crate::tally_page::tally_page;
+use crate::tally_text::tally_text;
 use crate::testing::{answer_text, read_tests};
 use crate::words::count_of;
 use crate::writing::text_of;
 
 /// `sheet`: plain lines, a table or a page.
 pub fn sheet(desk: &dyn Answers, words: &[&str]) -> Done<Said> {
-    let options = ["--rules", "--table", "--html", "--forbidden", "--missing-is-empty"];
+    let options = ["--rules", "--request", "--table", "--html", "--forbidden", "--missing-is-empty"];
     let words = Words::read(words, &options, 1..=1)?;
     let mut asked = read_asked(&words.names[0], words.rules.as_deref(), words.missing_is_empty)?;
-    if asked.is_bag() && !words.missing_is_empty {
-        return not_asked(format!("{} is a bag and has no rows: ./desk decide {} decides it", asked.name, asked.name));
+    if !words.missing_is_empty {
+        check_has_rows(&asked)?;
     }
+    asked.choose(words.request)?;
     let printed = desk.sheet(&asked.rules, &asked.sent, &asked.request_bytes())?;
     let listed = match read_sheet(&asked, &printed)? {
         Ok(listed) => listed,
@@ -48,7 +52,13 @@ pub fn sheet(desk: &dyn Answers, words: &[&str]) -> Done<Said> {
         said.warnings = asked.warnings;
         return Ok(said);
     }
-    let report = report(desk, &asked, &listed, words.forbidden)?;
+    let tally = match tallies::tally(desk, &asked)? {
+        (_, Ok(tally)) => tally,
+        (printed, Err(refused)) => return refused_tally(&asked, &words, &printed, refused),
+    };
+    let chosen = words.request.unwrap_or(1);
+    check_lists(&tally.requests[chosen - 1], &listed)?;
+    let report = report(desk, &asked, &listed, TallyShown::new(&asked, tally, Some(chosen)), words.forbidden)?;
     let mut said = Said::default();
     if let Some(name) = &words.html {
         put_page(name, &page::sheet_page(&report, &record_of(&recorded(&asked))))?;
@@ -61,9 +71,62 @@ pub fn sheet(desk: &dyn Answers, words: &[&str]) -> Done<Said> {
     Ok(said)
 }
 
+/// `tally`: tables of counts, a page, or plain lines.
+pub fn tally(desk: &dyn Answers, words: &[&str]) -> Done<Said> {
+    let words = Words::read(words, &["--rules", "--lines", "--html"], 1..=1)?;
+    let words = Words { table: !words.lines && words.html.is_none(), ..words };
+    let mut asked = read_asked(&words.names[0], words.rules.as_deref(), false)?;
+    check_has_rows(&asked)?;
+    let (printed, tally) = match tallies::tally(desk, &asked)? {
+        (printed, Ok(tally)) => (printed, tally),
+        (printed, Err(refused)) => return refused_tally(&asked, &words, &printed, refused),
+    };
+    let policies = policies_of(&asked.rules).unwrap_or_default();
+    asked.warnings.extend(doubts_of_all(&asked, &policies));
+    let mut said = Said { out: printed, warnings: asked.warnings.clone(), status: 0 };
+    let report = tally_report(&asked, tally)?;
+    if let Some(name) = &words.html {
+        put_page(name, &tally_page(&report, &record_of(&recorded(&asked))))?;
+        said.out = format!("wrote {}\n", name);
+    } else if words.table {
+        said = Said::answered(tally_text(&report));
+    }
+    Ok(said)
+}
+
+/// A refused tally, as it is shown: which request is refused, why, and what to do.
+fn refused_tally(asked: &Asked, words: &Words, printed: &str, refused: RefusedTally) -> Done<Said> {
+    let number = match refused.request {
+        Some(number) if asked.requests.len() > 1 => number,
+        _ => return refused_sheet(asked, words, printed, refused.refused),
+    };
+    let one = Asked { request: asked.requests[number - 1].clone(), ..asked.clone() };
+    let mut shown = refusal_shown(&one, refused.refused)?;
+    shown.meaning = format!(
+        "Request {} of {} is refused, and with it the whole tally. {} Mend it in {}, or take it out.",
+        number,
+        asked.requests.len(),
+        shown.meaning,
+        asked.name
+    );
+    said_refusal(asked, words, printed, shown)
+}
+
+/// A bag has no rows.
+fn check_has_rows(asked: &Asked) -> Done<()> {
+    if asked.is_bag() {
+        return not_asked(format!("{} is a bag and has no rows: ./desk decide {} decides it", asked.name, asked.name));
+    }
+    Ok(())
+}
+
 /// A refusal of the sheet program, as it is shown.
 fn refused_sheet(asked: &Asked, words: &Words, printed: &str, refused: Refused) -> Done<Said> {
-    let shown = refusal_shown(asked, refused)?;
+    said_refusal(asked, words, printed, refusal_shown(asked, refused)?)
+}
+
+/// A refusal as the options want it: a page, sentences, or the printed line and a hint.
+fn said_refusal(asked: &Asked, words: &Words, printed: &str, shown: RefusalShown) -> Done<Said> {
     let mut said = Said::refused(printed.to_string());
     said.warnings = asked.warnings.clone();
     if let Some(name) = &words.html {
@@ -117,7 +180,8 @@ fn refusal_shown(asked: &Asked, refused: Refused) -> Done<RefusalShown> {
             number, line, column
         ));
     }
-    let files = Files { text: &asked.rules, question: &asked.sent, request: asked.request() };
+    let files =
+        Files { text: &asked.rules, question: &asked.sent, request: asked.request(), requests: asked.requests.len() };
     RefusalShown::new(&files, refused).or_else(not_asked)
 }
 
@@ -167,6 +231,7 @@ fn refused_rules(name: &str, text: &[u8], refused: Refused) -> Done<String> {
         text,
         question: &[],
         request: definitions::deciding::Request { subject: b"", action: b"", resource: b"" },
+        requests: 0,
     };
     Ok(RefusalShown::new(&files, refused).or_else(not_asked)?.text(name))
 }
@@ -208,8 +273,9 @@ fn one_case(
 
 /// `decide`: one request over a bag.
 pub fn decide(desk: &dyn Answers, words: &[&str]) -> Done<Said> {
-    let words = Words::read(words, &["--rules"], 1..=1)?;
+    let words = Words::read(words, &["--rules", "--request"], 1..=1)?;
     let mut asked = read_asked(&words.names[0], words.rules.as_deref(), false)?;
+    asked.choose(words.request)?;
     let (case, answer) = match one_case(desk, &asked, None)? {
         Ok(answered) => answered,
         Err(refused) => return Ok(Said::refused(refused_rules(&asked.rules_name, &asked.rules, refused)?)),
@@ -234,8 +300,9 @@ pub fn decide(desk: &dyn Answers, words: &[&str]) -> Done<Said> {
 
 /// `explain`: why a row, or one request, is decided as it is.
 pub fn explain(desk: &dyn Answers, words: &[&str]) -> Done<Said> {
-    let words = Words::read(words, &["--rules", "--row"], 1..=1)?;
+    let words = Words::read(words, &["--rules", "--row", "--request"], 1..=1)?;
     let mut asked = read_asked(&words.names[0], words.rules.as_deref(), false)?;
+    asked.choose(words.request)?;
     let (case, answer) = match one_case(desk, &asked, words.row)? {
         Ok(answered) => answered,
         Err(refused) => return Ok(Said::refused(refused_rules(&asked.rules_name, &asked.rules, refused)?)),
@@ -290,10 +357,12 @@ pub fn test(desk: &dyn Answers, words: &[&str]) -> Done<Said> {
 
 /// `diff`: two rule texts, one question.
 pub fn difference(desk: &dyn Answers, words: &[&str]) -> Done<Said> {
-    let words = Words::read(words, &[], 3..=3)?;
+    let words = Words::read(words, &["--request"], 3..=3)?;
     let [before, after] =
         [0, 1].map(|side: usize| read_asked(&words.names[2], Some(words.names[side].as_str()), false));
     let (mut before, mut after) = (before?, after?);
+    before.choose(words.request)?;
+    after.choose(words.request)?;
     let mut sheets = Vec::new();
     for asked in [&before, &after] {
         let printed = desk.sheet(&asked.rules, &asked.question_bytes(), &asked.request_bytes())?;

@@ -9,7 +9,41 @@ use definitions::policies::{ActionPart, Attribute, Condition, Effect, Literal, O
 use crate::asked::{file_name, Asked};
 use crate::form::{attribute, PARTS};
 use crate::rules::{attributes, condition_text, inside, leaves, path_of, section_of};
+use crate::words::ranges;
 use crate::writing::{quoted, shown};
+
+/// All doubts about requests that are asked together: each once, with the numbers of those that it is about. What is doubtful of all, but
+/// maybe the system's, which need no rules, is said without.
+pub fn doubts_of_all(asked: &Asked, policies: &[Policy]) -> Vec<String> {
+    let mut all: Vec<(String, Vec<usize>)> = Vec::new();
+    let mut by_rules = Vec::new();
+    let mut twice = Vec::new();
+    for (index, request) in asked.requests.iter().enumerate() {
+        let one = Asked { request: request.clone(), ..asked.clone() };
+        for doubt in doubts(&one, policies) {
+            match all.iter_mut().find(|(other, _)| *other == doubt) {
+                Some((_, numbers)) => numbers.push(index + 1),
+                None => all.push((doubt, vec![index + 1])),
+            }
+        }
+        if !one.request().is_of_system() {
+            by_rules.push(index + 1);
+        }
+        if let Some(same) = asked.requests[..index].iter().position(|other| other == request) {
+            twice.push(format!(
+                "request {} is the same as request {}: the sums count its rows twice",
+                index + 1,
+                same + 1
+            ));
+        }
+    }
+    let said = all.into_iter().map(|(doubt, numbers)| match numbers.len() {
+        many if many == asked.requests.len() || numbers == by_rules => doubt,
+        1 => format!("request {}: {}", ranges(&numbers), doubt),
+        _ => format!("requests {}: {}", ranges(&numbers), doubt),
+    });
+    said.chain(twice).collect()
+}
 
 /// All doubts about what is asked, the policies being those of its rules.
 pub fn doubts(asked: &Asked, policies: &[Policy]) -> Vec<String> {

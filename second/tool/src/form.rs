@@ -13,11 +13,32 @@ pub type Section = BTreeMap<Vec<u8>, Content>;
 /// The names of a request's parts, in their order.
 pub const PARTS: [&str; 3] = ["subject", "action", "resource"];
 
+/// A request: subject, action and resource.
+pub type Parts = [Vec<u8>; 3];
+
+/// Subject, action and resource, as far as they are said.
+pub type SaidParts = [Option<Vec<u8>>; 3];
+
+/// The request of its own parts, and else of those that hold for all; or the name of the first part that is missing. For the system
+/// the subject alone is enough.
+pub fn whole_request(common: &SaidParts, own: SaidParts) -> Result<Parts, &'static str> {
+    let mut parts = common.clone();
+    for (part, own) in parts.iter_mut().zip(own) {
+        *part = own.or_else(|| part.take());
+    }
+    match parts.iter().position(Option::is_none) {
+        Some(missing) if parts[0].as_deref() != Some(b"system") => Err(PARTS[missing]),
+        _ => Ok(parts.map(Option::unwrap_or_default)),
+    }
+}
+
 /// A question; without columns (which is not the same as with none) a bag.
 #[derive(Clone, PartialEq, Debug, Default)]
 pub struct Form {
-    /// Subject, action and resource, as far as the text says them; they are not among the bytes.
-    pub request: [Option<Vec<u8>>; 3],
+    /// Subject, action and resource, as far as the text says them before its first line `request`; they are not among the bytes.
+    pub request: SaidParts,
+    /// The requests that lines `request` begin, each with all its parts.
+    pub requests: Vec<Parts>,
     pub sections: [Section; 3],
     pub columns: Option<Vec<Column>>,
 }

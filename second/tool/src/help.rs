@@ -8,17 +8,34 @@ pub struct Help {
     pub more: &'static str,
 }
 
-pub const COMMANDS: [Help; 9] = [
+pub const COMMANDS: [Help; 10] = [
     Help {
         name: "sheet",
-        usage: "WHERE [--rules FILE] [--table | --html FILE] [--forbidden]",
+        usage: "WHERE [--rules FILE] [--request N] [--table | --html FILE] [--forbidden]",
         line: "which rows of a question are allowed",
         more: "\
 WHERE is a folder with policy.txt and question.txt, or a question's text file with policy.txt beside it.
   --rules FILE   take the rules from FILE
-  --table        a table with the attributes' values, marks and holes, instead of plain lines
-  --html FILE    a page for paper, written to FILE: with the rules, the day, the sums of the files and a line to sign
+  --request N    of a question with several requests, the sheet of request N, from 1
+  --table        a table with the attributes' values, the tally, marks and holes, instead of plain lines
+  --html FILE    a page for paper, written to FILE: with the tally, the rules, the day, the sums of the files and a line to sign
   --forbidden    with --table or --html, the rows that are not allowed too, and what decides them",
+    },
+    Help {
+        name: "tally",
+        usage: "WHERE [--rules FILE] [--lines | --html FILE]",
+        line: "how many rows have each outcome, and how many each policy decides, for one to eight requests",
+        more: "\
+WHERE is a folder with policy.txt and question.txt, or a question's text file with policy.txt beside it. The question has one
+request, or several after lines request:
+    request
+    subject = \"person:K7\"
+    action = \"teach\"
+    resource = \"shaft:N3\"
+What stands before the first request holds for all. Each request is counted over all rows, and the sums are over the requests.
+  --rules FILE   take the rules from FILE
+  --lines        plain lines: rows N; for each request, and for the sums: outcome 1 to 4 and policy 1 to the last, each with its rows
+  --html FILE    a page for paper, written to FILE",
     },
     Help {
         name: "check",
@@ -28,19 +45,20 @@ WHERE is a folder with policy.txt and question.txt, or a question's text file wi
     },
     Help {
         name: "decide",
-        usage: "WHERE [--rules FILE]",
+        usage: "WHERE [--rules FILE] [--request N]",
         line: "what is decided of one request over a bag",
         more: "\
 WHERE is a text file that begins with bag, says subject, action and resource, and has attributes; or a folder whose question
-has no columns. The rules are policy.txt beside it, or FILE.",
+has no columns. The rules are policy.txt beside it, or FILE. Of a question with several requests N is one, from 1.",
     },
     Help {
         name: "explain",
-        usage: "WHERE [--row N] [--rules FILE]",
+        usage: "WHERE [--row N] [--rules FILE] [--request K]",
         line: "why a row, or one request, is decided as it is",
         more: "\
 Each policy whose target matches, with the parts of its condition, the values met, what is absent, and which forbid an
-absence disarms. N is a row's number as the sheet has it, from 0; a question without columns, or a bag, needs none.",
+absence disarms. N is a row's number as the sheet has it, from 0; a question without columns, or a bag, needs none. Of a
+question with several requests K is one, from 1.",
     },
     Help {
         name: "test",
@@ -56,15 +74,20 @@ number. The rules are policy.txt beside the tests, or FILE.",
     },
     Help {
         name: "diff",
-        usage: "BEFORE AFTER WHERE",
+        usage: "BEFORE AFTER WHERE [--request N]",
         line: "two rule texts, one question: rows opened, closed, decided by another policy",
-        more: "BEFORE and AFTER are rule texts, WHERE is a folder with question.txt or a question's text file.",
+        more: "\
+BEFORE and AFTER are rule texts, WHERE is a folder with question.txt or a question's text file. Of a question with several
+requests N is one, from 1.",
     },
     Help {
         name: "write",
         usage: "WHERE",
         line: "make question.bin and request.txt of a question's text",
-        more: "They are what the sheet program and a program in C read. Made of QUESTION.txt they are QUESTION.bin and QUESTION.request.",
+        more: "\
+They are what the sheet program and a program in C read. Made of QUESTION.txt they are QUESTION.bin and QUESTION.request. For
+several requests it makes requests.bin, or QUESTION.requests, in place of the request: their number in one byte, and then
+subject, action and resource of each, each behind a byte with its length.",
     },
     Help {
         name: "read",

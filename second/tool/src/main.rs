@@ -27,6 +27,9 @@ mod record;
 mod refusals;
 mod report;
 mod rules;
+mod tallies;
+mod tally_page;
+mod tally_text;
 mod testing;
 mod words;
 mod writing;
@@ -67,6 +70,7 @@ fn run(desk: &dyn Answers, words: &[&str]) -> Done<Said> {
     }
     match name {
         "sheet" => commands::sheet(desk, rest),
+        "tally" => commands::tally(desk, rest),
         "check" => commands::check(desk, rest),
         "decide" => commands::decide(desk, rest),
         "explain" => commands::explain(desk, rest),

@@ -3,7 +3,8 @@
 
 use crate::record::Record;
 use crate::refusals::RefusalShown;
-use crate::report::{title_of, Mark, PolicyShown, Report, RowShown};
+use crate::report::{title_of, ColumnShown, Mark, PolicyShown, Report, RowShown};
+use crate::tally_page::{lies_on_its_side, tally_section};
 use crate::words::{count_of, grouped, sentence};
 
 /// With more columns the page lies on its side.
@@ -26,6 +27,7 @@ pub fn sheet_page(report: &Report, record: &Record) -> String {
     body += &format!("<p>{}Made on {}.</p>\n", whose, record.day);
     body += &warnings(&report.warnings);
     body += &sums(report);
+    body += &tally_section(report);
     body += &columns(report);
     body += &base(report);
     body += &policies(report);
@@ -40,7 +42,7 @@ pub fn sheet_page(report: &Report, record: &Record) -> String {
     }
     body += &rules(report);
     body += &recorded(record);
-    page(&report.title, &body, report.columns.len() > MOST_COLUMNS_UPRIGHT)
+    page(&report.title, &body, report.columns.len() > MOST_COLUMNS_UPRIGHT || lies_on_its_side(&report.tally))
 }
 
 /// The page of a refusal.
@@ -56,7 +58,7 @@ pub fn refusal_page(refusal: &RefusalShown, name: &str, notes: &[String], record
     page(&title, &body, false)
 }
 
-fn page(title: &str, body: &str, on_its_side: bool) -> String {
+pub fn page(title: &str, body: &str, on_its_side: bool) -> String {
     let (side, wide) = if on_its_side { ("landscape", ON_ITS_SIDE) } else { ("portrait", UPRIGHT) };
     // In the style the title is a string of CSS: only letters, digits and plain marks.
     let plain: String = title.chars().filter(|one| one.is_alphanumeric() || " ,.:?!-()".contains(*one)).collect();
@@ -70,7 +72,7 @@ fn page(title: &str, body: &str, on_its_side: bool) -> String {
     )
 }
 
-fn warnings(warnings: &[String]) -> String {
+pub fn warnings(warnings: &[String]) -> String {
     if warnings.is_empty() {
         return String::new();
     }
@@ -99,6 +101,24 @@ fn sums(report: &Report) -> String {
     text
 }
 
+/// The columns with their candidates alone.
+pub fn candidates(report: &Report) -> String {
+    if report.columns.is_empty() {
+        return String::new();
+    }
+    let mut text =
+        "<h2>Columns</h2>\n<table>\n<thead><tr><th>attribute</th><th>candidates</th></tr></thead>\n<tbody>\n"
+            .to_string();
+    for column in &report.columns {
+        text += &format!("<tr><td>{}</td><td>{}</td></tr>\n", escaped(&column.name), candidates_of(column));
+    }
+    text + "</tbody>\n</table>\n"
+}
+
+fn candidates_of(column: &ColumnShown) -> String {
+    column.candidates.iter().map(value).collect::<Vec<String>>().join(" | ")
+}
+
 /// The columns with their candidates, and how many listed rows have the attribute absent.
 fn columns(report: &Report) -> String {
     if report.columns.is_empty() {
@@ -108,11 +128,10 @@ fn columns(report: &Report) -> String {
         <th class=\"number\">absent and allowed</th><th class=\"number\">of these !!</th></tr></thead>\n<tbody>\n"
         .to_string();
     for column in &report.columns {
-        let candidates: Vec<String> = column.candidates.iter().map(value).collect();
         text += &format!(
             "<tr><td>{}</td><td>{}</td><td class=\"number\">{}</td><td class=\"number\">{}</td></tr>\n",
             escaped(&column.name),
-            candidates.join(" | "),
+            candidates_of(column),
             grouped(column.sums.absent),
             grouped(column.sums.holes)
         );
@@ -120,7 +139,7 @@ fn columns(report: &Report) -> String {
     text + "</tbody>\n</table>\n"
 }
 
-fn base(report: &Report) -> String {
+pub fn base(report: &Report) -> String {
     if report.base.is_empty() {
         return String::new();
     }
@@ -132,7 +151,11 @@ fn base(report: &Report) -> String {
     text + "</dl>\n"
 }
 
+/// Of several requests the tally has the policies of all, and this the policies of the sheet's; of one the tally has both.
 fn policies(report: &Report) -> String {
+    if !report.tally.has_several() {
+        return String::new();
+    }
     let mut text = String::new();
     for policy in report.deciding() {
         let number = |count: usize| format!("<td class=\"number\">{}</td>", grouped(count));
@@ -150,7 +173,7 @@ fn policies(report: &Report) -> String {
         return text;
     }
     format!(
-        "<h2>Policies that decide</h2>\n<table>\n<thead><tr><th class=\"number\">policy</th><th class=\"number\">line</th>\
+        "<h2>Policies that decide the allowed rows</h2>\n<table>\n<thead><tr><th class=\"number\">policy</th><th class=\"number\">line</th>\
          <th>first line</th><th class=\"number\">rows</th><th class=\"number\">!</th><th class=\"number\">!!</th></tr></thead>\n\
          <tbody>\n{}</tbody>\n</table>\n",
         text
@@ -222,11 +245,13 @@ fn row_text(report: &Report, row: &RowShown) -> String {
 }
 
 /// The rules with their lines numbered: the lines of policies that decide, and of those that an absence disarms, are marked.
-fn rules(report: &Report) -> String {
+pub fn rules(report: &Report) -> String {
+    let is_disarmed = |policy: &PolicyShown| policy.is_disarmed;
+    let disarmed = ", <b>!!</b> would forbid allowed rows but for what is absent";
     let mut text = format!(
-        "<h2>The rules: {}</h2>\n<p>Marked: <b>+</b> decides rows above, <b>!!</b> would forbid but for what is absent.</p>\n\
-         <table class=\"rules\">\n<tbody>\n",
-        escaped(&report.rules_name)
+        "<h2>The rules: {}</h2>\n<p>Marked: <b>+</b> decides rows{}.</p>\n<table class=\"rules\">\n<tbody>\n",
+        escaped(&report.rules_name),
+        if report.policies.iter().any(is_disarmed) { disarmed } else { "" }
     );
     for (index, line) in report.rules.iter().enumerate() {
         let number = index + 1;
@@ -239,7 +264,7 @@ fn rules(report: &Report) -> String {
             .collect();
         let (class, mark) = if report.policies.iter().filter(stands).any(|policy| policy.is_disarmed) {
             (" class=\"disarmed\"", "!!")
-        } else if report.policies.iter().filter(stands).any(|policy| policy.sums.listed > 0) {
+        } else if report.policies.iter().filter(stands).any(|policy| report.decides(policy)) {
             (" class=\"decides\"", "+")
         } else {
             ("", "")
@@ -258,7 +283,7 @@ fn rules(report: &Report) -> String {
 }
 
 /// The day, the sums of the files, and a line to sign.
-fn recorded(record: &Record) -> String {
+pub fn recorded(record: &Record) -> String {
     let mut text = format!("<div class=\"record\">\n<p>Made on {} from these files (SHA-256):</p>\n<dl>\n", record.day);
     for (name, sum) in &record.sums {
         text += &format!("<dt class=\"value\">{}</dt><dd class=\"value\">{}</dd>\n", escaped(name), sum);
@@ -286,7 +311,7 @@ fn broken_at_dots(name: &str) -> String {
     name.split_inclusive('.').map(part).collect::<Vec<String>>().join("<wbr>")
 }
 
-fn escaped(text: &str) -> String {
+pub fn escaped(text: &str) -> String {
     let mut result = String::new();
     for character in text.chars() {
         match character {

@@ -1,6 +1,7 @@
 //! The printed sheet as plain text: aligned, and no line longer than 100 characters where that can be helped.
 
 use crate::report::{title_of, ColumnShown, Mark, Report, RowShown};
+use crate::tally_text::tally_lines;
 use crate::words::{count_of, grouped, sentence};
 
 /// The width of the page.
@@ -10,12 +11,12 @@ const GAP: usize = 2;
 /// A column of the table is not made narrower, if it was wider.
 const NARROWEST: usize = 8;
 /// The least room that is worth a policy's first line.
-const ROOM_FOR_POLICY: usize = 28;
+pub const ROOM_FOR_POLICY: usize = 28;
 /// How an absent attribute is shown, and one that is a hole. Strings are in quotes, so no value looks like these.
 const ABSENT: &str = "absent";
 const HOLE: &str = "ABSENT !!";
 
-/// The title line, warnings, the sums, the base and the columns, the tables, the policies that decide, and the holes.
+/// The title line, warnings, the sums, the tally, the base and the columns, the tables, the policies that decide, and the holes.
 pub fn sheet_text(report: &Report) -> String {
     let mut lines = wrapped(&report.title, WIDTH);
     let whose = title_of(&report.request);
@@ -30,6 +31,7 @@ pub fn sheet_text(report: &Report) -> String {
         lines.push(String::new());
     }
     lines.extend(sums(report).iter().flat_map(|line| wrapped(line, WIDTH)));
+    lines.extend(tally_lines(&report.tally));
     lines.extend(base(report));
     if report.listed.is_empty() {
         lines.extend(["No row is allowed.".to_string(), String::new()]);
@@ -137,7 +139,7 @@ fn longest_part(column: &ColumnShown) -> usize {
 }
 
 /// The widths made narrower, the widest first, until they fit the room; nothing if the least widths do not fit.
-fn fitted(full: &[usize], least: &[usize], room: usize) -> Option<Vec<usize>> {
+pub fn fitted(full: &[usize], least: &[usize], room: usize) -> Option<Vec<usize>> {
     let mut widths = full.to_vec();
     while widths.iter().sum::<usize>() > room {
         let widest = (0..widths.len()).filter(|n| widths[*n] > least[*n]).max_by_key(|n| widths[*n])?;
@@ -245,12 +247,12 @@ fn holes(report: &Report) -> Vec<String> {
     lines
 }
 
-fn length(text: &str) -> usize {
+pub fn length(text: &str) -> usize {
     text.chars().count()
 }
 
 /// The text, with `..` at its end if it had to be cut.
-fn cut(text: &str, width: usize) -> String {
+pub fn cut(text: &str, width: usize) -> String {
     if length(text) <= width {
         return text.to_string();
     }

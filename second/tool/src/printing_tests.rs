@@ -8,17 +8,26 @@ use definitions::sheets::printed;
 use generators::bag_bytes::question;
 use generators::random::Random;
 
+use crate::answers::tests::StandIn;
 use crate::answers::Refused;
 use crate::asked::{read_asked, Asked};
 use crate::bytes::read_bytes;
 use crate::commands::recorded;
+use crate::doubts::doubts_of_all;
 use crate::page::{refusal_page, sheet_page};
 use crate::plain::sheet_text;
 use crate::record::record_at;
 use crate::refusals::{Files, RefusalShown};
+use crate::report::tally_report;
 use crate::report::tests::{asked, report_on, EXAMPLE, REQUEST};
+use crate::tallies::tally;
+use crate::tally_page::tally_page;
+use crate::tally_text::tally_text;
 
 const FOLDERS: [&str; 4] = ["worked", "crew", "crew/night", "crew/records"];
+
+/// The folder with several requests.
+const SEVERAL: &str = "crew/shift";
 
 /// The folder whose page is stored, and the time it was made: examples/renew sets the same.
 const WITH_PAGE: &str = "crew";
@@ -57,6 +66,24 @@ fn the_examples_are_as_stored() {
             assert!(page.as_bytes() == file(&directory, "page.html"), "{}/page.html", name);
         }
     }
+}
+
+// So are the tally, its lines and its page.
+#[test]
+fn the_example_of_several_requests_is_as_stored() {
+    let directory = folder(SEVERAL);
+    let mut asked = read_asked(&directory.to_string_lossy(), None, false).unwrap();
+    let policies = definitions::compile::policies_of(&asked.rules).unwrap();
+    asked.warnings.extend(doubts_of_all(&asked, &policies));
+    assert_eq!(asked.sent, file(&directory, "question.bin"));
+    assert_eq!(asked.requests_bytes(), file(&directory, "requests.bin"));
+    let (lines, counted) = tally(&StandIn, &asked).unwrap();
+    assert_eq!(lines.as_bytes(), file(&directory, "counts.txt"));
+    let report = tally_report(&asked, counted.unwrap()).unwrap();
+    assert!(tally_text(&report).as_bytes() == file(&directory, "tally.txt"), "{}/tally.txt", SEVERAL);
+    let page = tally_page(&report, &record_at(MADE, &recorded(&asked)));
+    assert!(page.as_bytes() == file(&directory, "page.html"), "{}/page.html", SEVERAL);
+    check_tags(&page);
 }
 
 // 01, "Checked examples".
@@ -104,6 +131,7 @@ fn random_sheets_keep_the_width_and_the_tags() {
         let request = if random.one_in(4) { "system" } else { "person:<b>&\"\nte\u{0}ach\nshaft:\u{FF}" };
         let mut asked = asked(random.pick(&texts), "", request);
         asked.form = read_bytes(&bytes).unwrap();
+        asked.sent = bytes;
         asked.title = Some("</title> \"';}".to_string()).filter(|_| random.one_in(3));
         asked.warnings = vec!["<b>".to_string()];
         let report = report_on(&asked, random.one_in(4));
@@ -119,7 +147,7 @@ fn random_sheets_keep_the_width_and_the_tags() {
 fn a_refusal_is_shown_with_its_line() {
     let text = b"permit(principal,action,resource)when{principal.a};";
     let request = definitions::sheets::read_request(b"tool:1\na\nshaft:1");
-    let files = Files { text, question: &[0, 0, 0, 0], request };
+    let files = Files { text, question: &[0, 0, 0, 0], request, requests: 1 };
     let refusal = RefusalShown::new(&files, Refused { number: 8, line: 1, column: 50 }).unwrap();
     let said = refusal.text("policy.txt");
     let caret = format!("    {}^\n", " ".repeat(49));

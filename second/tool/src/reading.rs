@@ -5,7 +5,9 @@ use definitions::compile::LONGEST_PATH;
 use definitions::questions::{MOST_CANDIDATES, MOST_COLUMNS};
 use definitions::tokens::{place_of, RESERVED_WORDS};
 
-use crate::form::{attribute, bytes_of_candidate, bytes_of_entry, name_of, Column, Form, PARTS, ROOTS};
+use crate::form::{
+    attribute, bytes_of_candidate, bytes_of_entry, name_of, whole_request, Column, Form, SaidParts, PARTS, ROOTS,
+};
 use crate::words::{grouped, ordinal};
 use crate::writing::shown;
 
@@ -23,7 +25,9 @@ pub fn wrong<T>(at: usize, what: impl Into<String>) -> Read<T> {
 }
 
 const A_LINE: &str =
-    "expected an attribute (principal, resource or env, a dot and a path), subject, action, resource or column";
+    "expected an attribute (principal, resource or env, a dot and a path), subject, action, resource, column or request";
+const A_PART: &str =
+    "expected subject, action, resource or request: attributes and columns stand before the first request";
 const AN_ATTRIBUTE: &str = "expected an attribute after column: principal, resource or env, a dot and a path";
 const A_VALUE: &str = "expected a value: a string in quotes, a number, true, false, or a list of strings in [ ]";
 const A_CANDIDATE: &str =
@@ -52,6 +56,7 @@ pub fn read_text(text: &[u8]) -> Read<Form> {
         reader.statement()?;
         reader.pass_lines();
     }
+    reader.finish_request()?;
     let mut form = reader.form;
     if reader.is_question {
         form.columns = Some(reader.columns);
@@ -75,6 +80,8 @@ pub struct Reader<'a> {
     entry_places: Vec<(usize, Vec<u8>, usize)>,
     column_places: Vec<usize>,
     part_places: [Option<usize>; 3],
+    /// The request that is begun: where its line `request` stands, and its own parts.
+    begun_request: Option<(usize, SaidParts)>,
     /// Whether a statement was read.
     begun: bool,
 }
@@ -96,6 +103,7 @@ impl<'a> Reader<'a> {
             entry_places: Vec::new(),
             column_places: Vec::new(),
             part_places: [None; 3],
+            begun_request: None,
             begun: false,
         }
     }
@@ -149,11 +157,12 @@ impl<'a> Reader<'a> {
                 return wrong(start, "this is a rule text: expected a question, a bag or tests");
             }
             b"question" | b"bag" => self.kind(word == b"question", start)?,
-            b"column" => {
+            b"column" if self.begun_request.is_none() => {
                 self.pass_blanks();
                 self.column(start)?;
             }
             b"subject" | b"action" | b"resource" if self.peek() != Some(b'.') => self.part(word, start)?,
+            b"request" => self.request(start)?,
             _ => {
                 self.at = start;
                 self.entry()?;
@@ -198,14 +207,49 @@ impl<'a> Reader<'a> {
         if self.peek() != Some(b'"') {
             return wrong(self.at, format!("expected a string in quotes: {} = {}", PARTS[index], AS_IN[index]));
         }
-        self.form.request[index] = Some(self.string()?);
+        let string = Some(self.string()?);
+        match &mut self.begun_request {
+            Some((_, own)) => own[index] = string,
+            None => self.form.request[index] = string,
+        }
         self.part_places[index] = Some(start);
+        Ok(())
+    }
+
+    /// What stands after `request`: its own parts.
+    fn request(&mut self, start: usize) -> Read<()> {
+        if !self.is_question {
+            return wrong(start, "a bag has one request: expected subject, action and resource without a line request");
+        }
+        self.finish_request()?;
+        self.begun_request = Some((start, Default::default()));
+        self.part_places = [None; 3];
+        Ok(())
+    }
+
+    /// The request that is begun ends here: the parts that it has not are those before the first request.
+    fn finish_request(&mut self) -> Read<()> {
+        let (start, own) = match self.begun_request.take() {
+            Some(begun) => begun,
+            None => return Ok(()),
+        };
+        match whole_request(&self.form.request, own) {
+            Ok(request) => self.form.requests.push(request),
+            Err(part) => {
+                let what =
+                    format!("this request has no {}: say {} = \"..\" in it, or before the first request", part, part);
+                return wrong(start, what);
+            }
+        }
         Ok(())
     }
 
     /// An attribute of the base and its value.
     fn entry(&mut self) -> Read<()> {
         let start = self.at;
+        if self.begun_request.is_some() {
+            return wrong(start, A_PART);
+        }
         let (root, path) = self.attribute(A_LINE)?;
         let name = attribute(root, &path);
         if let Some((_, _, at)) = self.entry_places.iter().find(|(r, p, _)| (*r, p) == (root, &path)) {
@@ -670,9 +714,48 @@ column resource.taught = true | absent
             ("bag\ncolumn env.a = 1", "2:1: a bag has no columns; expected an attribute of the base"),
             ("env.a = 1\nbag", "2:1: bag must stand before all other lines, and once"),
             ("question\nquestion", "2:1: question must stand before all other lines, and once"),
+            ("subject = \"system\"\nrequest\nquestion", "3:1: question must stand before all other lines, and once"),
+            ("subject = \"system\"\nrequest\nenv.a = 1", &format!("3:1: {}", A_PART)),
+            ("subject = \"system\"\nrequest\nresource.a = 1", &format!("3:1: {}", A_PART)),
+            ("subject = \"system\"\nrequest\ncolumn env.a = 1", &format!("3:1: {}", A_PART)),
+            ("request \"one\"", "1:9: expected the end of the line"),
+            (
+                "action = \"a\"\nrequest\nsubject = \"tool:1\"",
+                "2:1: this request has no resource: say resource = \"..\" in it, or before the first request",
+            ),
+            (
+                "request\nrequest\nsubject = \"system\"",
+                "1:1: this request has no subject: say subject = \"..\" in it, or before the first request",
+            ),
+            (
+                "bag\nrequest",
+                "2:1: a bag has one request: expected subject, action and resource without a line request",
+            ),
         ] {
             assert_eq!(wrong_with(text), message, "{}", text);
         }
+    }
+
+    // What stands before the first request holds for all, and their own lines change it.
+    #[test]
+    fn requests_come_one_after_the_other() {
+        let text = "subject = \"person:K7\"\nresource = \"shaft:A\"\ncolumn env.a = 1 | 2
+            request # the first\n  action = \"teach\"\n\n request\nresource = \"shaft:B\"\naction = \"move\"
+            request\nsubject = \"system\"";
+        let form = read_text(text.as_bytes()).unwrap();
+        let of = |parts: [&str; 3]| parts.map(|part| part.as_bytes().to_vec());
+        let requests = [
+            of(["person:K7", "teach", "shaft:A"]),
+            of(["person:K7", "move", "shaft:B"]),
+            of(["system", "", "shaft:A"]),
+        ];
+        assert_eq!(form.requests, requests);
+        assert_eq!(read_text(text_of(&form).as_bytes()).unwrap(), form);
+        assert_eq!(form.bytes(), read_text(b"column env.a = 1 | 2").unwrap().bytes());
+        let twice = read_text(b"subject = \"a\"\nrequest\nsubject = \"b\"\nsubject = \"c\"").unwrap_err();
+        assert_eq!(twice.what, "subject has a value already, in line 3");
+        let nine = "subject = \"system\"\n".to_string() + &"request\n".repeat(9);
+        assert_eq!(read_text(nine.as_bytes()).unwrap().requests.len(), 9);
     }
 
     // Every limit passes at its number, not one above.

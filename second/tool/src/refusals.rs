@@ -24,7 +24,9 @@ pub struct RefusalShown {
 pub struct Files<'a> {
     pub text: &'a [u8],
     pub question: &'a [u8],
+    /// The request that is refused, if one is, and how many are asked.
     pub request: Request<'a>,
+    pub requests: usize,
 }
 
 impl RefusalShown {
@@ -81,9 +83,19 @@ fn meaning_of(files: &Files, number: usize, offset: usize) -> Option<String> {
         24 => format!("The question's bytes are no question. {}", trouble_of_question(files.question)),
         25 => "The sheet that was lent has less than 6 bytes from the named byte on.".to_string(),
         26 => "The start row is above the number of rows.".to_string(),
+        27 => format!("A tally takes one to eight requests, and here {}.", too_few_or_many(files.requests)),
         _ => return None,
     };
     Some(meaning)
+}
+
+/// How many requests there are, and what to do.
+fn too_few_or_many(requests: usize) -> String {
+    match requests {
+        0 => "is none: say subject, action and resource".to_string(),
+        1..=8 => format!("are {}", requests),
+        _ => format!("are {}: put {} of them into another question", grouped(requests), grouped(requests - 8)),
+    }
 }
 
 /// What the numbers with a place in the rules mean.
@@ -125,7 +137,7 @@ mod tests {
     use definitions::sheets::read_request;
 
     fn refusal(text: &[u8], request: &[u8], question: &[u8], said: [usize; 3]) -> Result<RefusalShown, String> {
-        let files = Files { text, question, request: read_request(request) };
+        let files = Files { text, question, request: read_request(request), requests: 9 };
         RefusalShown::new(&files, Refused { number: said[0], line: said[1], column: said[2] })
     }
 
@@ -139,7 +151,7 @@ mod tests {
 
     #[test]
     fn every_number_has_a_meaning() {
-        for number in (1..=16).chain(20..=26) {
+        for number in (1..=16).chain(20..=27) {
             assert!(!refusal(b"x", b"a\nb", &[0, 0, 0], [number, 0, 0]).unwrap().meaning.is_empty());
         }
         let meaning = |number: usize| refusal(b"x", b"dog:1\n\nshaft", &[0, 0, 0], [number, 0, 0]).unwrap().meaning;
@@ -147,5 +159,6 @@ mod tests {
         assert!(meaning(22).ends_with("Found: \"\", 0 bytes."));
         assert!(meaning(23).ends_with("Found: \"shaft\", 5 bytes."));
         assert!(meaning(24).ends_with("It is a bag: the columns are missing."));
+        assert!(meaning(27).ends_with("and here are 9: put 1 of them into another question."));
     }
 }

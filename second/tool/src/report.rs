@@ -12,6 +12,7 @@ use crate::form::attribute;
 use crate::holes::{Grid, Hole};
 use crate::printed::Listed;
 use crate::rules::{policy_texts, PolicyText};
+use crate::tallies::{Tally, TallyShown};
 use crate::words::grouped;
 use crate::writing::{shown, value_text};
 
@@ -25,6 +26,8 @@ pub struct Report {
     pub base: Vec<(String, String)>,
     pub columns: Vec<ColumnShown>,
     pub rows: usize,
+    /// What is counted over all rows, those that are not allowed too.
+    pub tally: TallyShown,
     pub listed: Vec<RowShown>,
     /// The rows that are not allowed, if they are wanted.
     pub others: Option<Vec<RowShown>>,
@@ -120,10 +123,16 @@ pub fn outcome_text(outcome: usize) -> &'static str {
     }
 }
 
-/// The report on a sheet. The other rows' decisions are asked for too, if they are wanted.
-pub fn report(desk: &dyn Answers, asked: &Asked, listed: &[Listed], with_others: bool) -> Done<Report> {
+/// The report on a sheet, with the tally beside it. The other rows' decisions are asked for too, if they are wanted.
+pub fn report(
+    desk: &dyn Answers,
+    asked: &Asked,
+    listed: &[Listed],
+    tally: TallyShown,
+    with_others: bool,
+) -> Done<Report> {
     let question = asked.question()?;
-    let mut report = empty(asked, &question);
+    let mut report = empty(asked, &question, tally);
     let mut is_listed = vec![false; report.rows];
     listed.iter().for_each(|listed| is_listed[listed.row] = true);
     let grid = Grid::new(&question);
@@ -148,8 +157,20 @@ pub fn report(desk: &dyn Answers, asked: &Asked, listed: &[Listed], with_others:
     Ok(report)
 }
 
+/// The report on a tally alone, without rows.
+pub fn tally_report(asked: &Asked, tally: Tally) -> Done<Report> {
+    let mut report = empty(asked, &asked.question()?, TallyShown::new(asked, tally, None));
+    if asked.title.is_none() {
+        report.title = match asked.requests.len() {
+            1 => format!("Tally for {}", parts_of(&report.request)),
+            many => format!("Tally of {} requests", many),
+        };
+    }
+    Ok(report)
+}
+
 /// A report without rows.
-fn empty(asked: &Asked, question: &Question) -> Report {
+fn empty(asked: &Asked, question: &Question, tally: TallyShown) -> Report {
     let request = [0, 1, 2].map(|part| shown(&asked.request[part]));
     Report {
         title: asked.title.clone().unwrap_or_else(|| title_of(&request)),
@@ -158,6 +179,7 @@ fn empty(asked: &Asked, question: &Question) -> Report {
         base: base_of(question),
         columns: columns_of(question),
         rows: question.rows(),
+        tally,
         listed: Vec::new(),
         others: None,
         policies: policy_texts(&asked.rules)
@@ -276,6 +298,11 @@ impl Report {
         sums
     }
 
+    /// Whether a policy decides some row of some request, allowed or not.
+    pub fn decides(&self, policy: &PolicyShown) -> bool {
+        self.tally.tally.sums.policies[policy.text.number - 1] > 0
+    }
+
     /// The policies that decide some listed row.
     pub fn deciding(&self) -> impl Iterator<Item = &PolicyShown> {
         self.policies.iter().filter(|policy| policy.sums.listed > 0)
@@ -333,10 +360,15 @@ impl Sums {
     }
 }
 
-/// Whose sheet it is. The parts that a request of the system leaves out are left out.
+/// Whose sheet it is.
 pub fn title_of(request: &[String; 3]) -> String {
+    format!("Sheet for {}", parts_of(request))
+}
+
+/// The parts of a request; those that a request of the system leaves out are left out.
+fn parts_of(request: &[String; 3]) -> String {
     let parts: Vec<&str> = request.iter().map(String::as_str).filter(|part| !part.is_empty()).collect();
-    format!("Sheet for {}", parts.join(", "))
+    parts.join(", ")
 }
 
 /// A text's lines as they are shown, without an empty last one.
@@ -375,6 +407,7 @@ pub mod tests {
     use crate::answers::tests::StandIn;
     use crate::printed::{read_printed, Printed};
     use crate::reading::{first_comment, read_text};
+    use crate::tallies::tally;
     use definitions::sheets::{printed, read_request};
 
     pub const EXAMPLE: &str =
@@ -387,6 +420,7 @@ pub mod tests {
     /// What is asked by a text, a question as text, and a request.
     pub fn asked(text: &str, question: &str, request: &str) -> Asked {
         let request = read_request(request.as_bytes());
+        let request = [request.subject, request.action, request.resource].map(<[u8]>::to_vec);
         Asked {
             rules_name: "policy.txt".to_string(),
             rules: text.as_bytes().to_vec(),
@@ -394,7 +428,8 @@ pub mod tests {
             file: question.as_bytes().to_vec(),
             form: read_text(question.as_bytes()).unwrap(),
             sent: read_text(question.as_bytes()).unwrap().bytes(),
-            request: [request.subject, request.action, request.resource].map(<[u8]>::to_vec),
+            requests: vec![request.clone()],
+            request,
             request_file: None,
             title: first_comment(question.as_bytes()),
             warnings: Vec::new(),
@@ -405,7 +440,10 @@ pub mod tests {
     pub fn report_on(asked: &Asked, with_others: bool) -> Report {
         let lines = printed(&asked.rules, &asked.question_bytes(), &asked.request_bytes(), 600);
         match read_printed(lines.as_bytes()).unwrap() {
-            Printed::Sheet { listed, .. } => report(&StandIn, asked, &listed, with_others).unwrap(),
+            Printed::Sheet { listed, .. } => {
+                let tally = tally(&StandIn, asked).unwrap().1.unwrap();
+                report(&StandIn, asked, &listed, TallyShown::new(asked, tally, None), with_others).unwrap()
+            }
             Printed::Refused { .. } => panic!("{}", lines),
         }
     }

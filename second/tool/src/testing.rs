@@ -4,7 +4,7 @@ use definitions::asking::Case;
 use definitions::bags::read_bag;
 
 use crate::answers::Answer;
-use crate::form::{Form, PARTS};
+use crate::form::{whole_request, Form};
 use crate::reading::{is_word_byte, wrong, Read, Reader};
 use crate::report::outcome_text;
 use crate::writing::shown;
@@ -110,7 +110,7 @@ impl TestFile {
                 Some(_) => wrong(start, "this test has an expect already"),
                 None => wrong(start, "expect stands in a test: a line test \"..\" must come first"),
             },
-            b"column" | b"question" | b"bag" => {
+            b"column" | b"question" | b"bag" | b"request" => {
                 wrong(start, "tests have attributes, subject, action, resource, test and expect, and no columns")
             }
             _ => reader.statement(),
@@ -186,24 +186,18 @@ fn finished(reader: &mut Reader, begun: Begun, common: &Form) -> Read<Test> {
     for (section, own) in form.sections.iter_mut().zip(own.sections) {
         section.extend(own);
     }
-    let mut request = form.request.clone();
-    for (part, own) in request.iter_mut().zip(own.request) {
-        *part = own.or_else(|| part.take());
-    }
-    let is_system = request[0].as_deref() == Some(b"system");
-    for (part, value) in PARTS.iter().zip(&request) {
-        if value.is_none() && !is_system {
-            return wrong(
-                start,
-                format!("this test has no {}: say {} = \"..\" in it, or before the first test", part, part),
-            );
+    let request = match whole_request(&form.request, own.request) {
+        Ok(request) => request,
+        Err(part) => {
+            let what = format!("this test has no {}: say {} = \"..\" in it, or before the first test", part, part);
+            return wrong(start, what);
         }
-    }
+    };
     let bag = form.bytes();
     if read_bag(&bag).is_none() {
         return wrong(start, "with what holds for all tests this one has more attributes or bytes than a bag can hold");
     }
-    let case = Case { request: request.map(Option::unwrap_or_default), bag };
+    let case = Case { request, bag };
     Ok(Test { name, line: reader.line_of(start), case, expected })
 }
 

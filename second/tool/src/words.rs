@@ -35,6 +35,23 @@ pub fn ordinal(number: usize) -> String {
     format!("{}{}", number, ending)
 }
 
+/// Numbers that ascend, as `1, 2, 4 to 32`.
+pub fn ranges(numbers: &[usize]) -> String {
+    let mut parts = Vec::new();
+    let mut rest = numbers;
+    while let [first, ..] = rest {
+        let length = rest.iter().zip(*first..).take_while(|(number, next)| *number == next).count();
+        let last = first + length - 1;
+        match length {
+            1 => parts.push(first.to_string()),
+            2 => parts.extend([first.to_string(), last.to_string()]),
+            _ => parts.push(format!("{} to {}", first, last)),
+        }
+        rest = &rest[length..];
+    }
+    parts.join(", ")
+}
+
 #[cfg(test)]
 mod tests {
     use super::*;
@@ -51,5 +68,7 @@ mod tests {
         assert_eq!(ordinal(1), "1st");
         assert_eq!(ordinal(11), "11th");
         assert_eq!(ordinal(33), "33rd");
+        assert_eq!(ranges(&[1, 2, 4, 5, 6, 9]), "1, 2, 4 to 6, 9");
+        assert_eq!(ranges(&[7]), "7");
     }
 }

@@ -33,6 +33,12 @@ pub fn text_of(form: &Form) -> String {
     for column in columns {
         text.push_str(&column_text(column));
     }
+    for request in &form.requests {
+        text.push_str("\nrequest\n");
+        for (part, value) in PARTS.iter().zip(request) {
+            text.push_str(&format!("{} = {}\n", part, quoted(value)));
+        }
+    }
     text
 }
 

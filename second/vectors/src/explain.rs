@@ -2,13 +2,14 @@
 
 use definitions::bags::{path_without_blanks, read_bag, Bag, Content, Value};
 use definitions::compile::{compile as compile_text, policies_of, policies_said_by};
-use definitions::deciding::Facts;
+use definitions::deciding::{Facts, Request};
 use definitions::locks::permit_of;
 use definitions::numbers::value_of;
 use definitions::patterns::reached;
 use definitions::questions::{read_question, Question};
 use definitions::sheets::ROW_BYTES;
 use definitions::table::{bytes_of, entries_of, Entry, ENTRY_BYTES, KINDS};
+use definitions::tallies::{read_requests, GROUP, MOST_REQUESTS, OUTCOMES};
 use definitions::tokens::{self, all_tokens, place_of, token_at, RESERVED_WORDS};
 
 use crate::bags_vectors;
@@ -20,6 +21,7 @@ use crate::number_vectors;
 use crate::pattern_vectors;
 use crate::questions_vectors;
 use crate::sheet_vectors::{self, lent, page_of, wanted_of};
+use crate::tally_vectors::{self, many_of, tally_of};
 use crate::token_vectors;
 use crate::vector::{read_parts, request_of, Vector};
 use crate::views_vectors;
@@ -251,7 +253,7 @@ pub fn decide(vector: &Vector) -> String {
         Some(bag) => {
             lines.push_str(&sections(&bag));
             let look_up = |root: u8, path: &[u8]| bag.look_up(root, path);
-            lines.push_str(&satisfied(vector, &look_up));
+            lines.push_str(&satisfied(&vector[0], request_of(vector), &look_up));
         }
         None => lines.push_str(&format!("not a bag: {}\n", vector[2].escape_ascii())),
     }
@@ -273,11 +275,8 @@ pub fn sheet(vector: &Vector) -> String {
     match read_question(&vector[2]) {
         Some(question) => {
             lines.push_str(&base_and_columns(&question));
-            for row in (0..question.rows()).skip(wanted.start.min(1 << 20) as usize).take(MOST_ROWS) {
-                let choices = question.choices_of(row);
-                let look_up = |root: u8, path: &[u8]| question.look_up(&choices, root, path);
-                lines.push_str(&format!("row {} ({:?}): {}", row, choices, satisfied(vector, &look_up)));
-            }
+            let start = wanted.start.min(1 << 20) as usize;
+            lines.push_str(&first_rows(&vector[0], request_of(vector), &question, start, MOST_ROWS));
         }
         None => lines.push_str(&format!("not a question: {}\n", vector[2].escape_ascii())),
     }
@@ -292,6 +291,44 @@ pub fn sheet(vector: &Vector) -> String {
     lines.push_str(&format!("{} bytes of the sheet are changed\n", changed));
     lines.push_str(&format!("answer: {}\n", sheet_vectors::answer(vector)));
     lines
+}
+
+/// A typed tally: the parts of a tally vector.
+pub fn read_tally(typed: &[u8]) -> Option<Vector> {
+    read_parts(typed, 5).filter(|vector| vector[3].len() == 8)
+}
+
+/// The text, the question, the requests with the policies that are satisfied in the first rows, and the counts of each.
+pub fn tally(vector: &Vector) -> String {
+    const MOST_ROWS: usize = 9;
+    let mut lines = text_and_table(vector);
+    let many = many_of(vector);
+    lines.push_str(&question_in_full(&vector[2]));
+    lines.push_str(&format!("{} requests in {} bytes: {}\n", many, vector[4].len(), vector[4].escape_ascii()));
+    let (answer, counts) = tally_of(vector);
+    for (number, request) in read_requests(many.min(MOST_REQUESTS as u64) as usize, &vector[4]).iter().enumerate() {
+        lines.push_str(&format!("request {}\n{}", number + 1, request_in_full(*request)));
+        if let (Some(question), Ok(())) = (read_question(&vector[2]), answer) {
+            lines.push_str(&first_rows(&vector[0], *request, &question, 0, MOST_ROWS));
+            lines.push_str(&group(&counts, number));
+        }
+    }
+    match answer {
+        Ok(()) => lines.push_str(&format!("sums\n{}", group(&counts, MOST_REQUESTS))),
+        Err(number) => lines.push_str(&format!("refused {}\n", number)),
+    }
+    lines.push_str(&format!("answer: {}\n", tally_vectors::answer(vector)));
+    lines
+}
+
+/// The counts of a group: the four outcomes, and the policies whose count is not 0.
+fn group(counts: &[u32], number: usize) -> String {
+    let (outcomes, policies) = counts[number * GROUP..][..GROUP].split_at(OUTCOMES);
+    let deciding: Vec<String> = (0..policies.len())
+        .filter(|index| policies[*index] != 0)
+        .map(|index| format!("policy {} decides {}", index + 1, policies[index]))
+        .collect();
+    format!("rows of outcomes 1 to 4: {:?}; [{}]\n", outcomes, deciding.join(", "))
 }
 
 /// A typed lock: the parts of a lock vector.
@@ -325,20 +362,45 @@ pub fn lock(vector: &Vector) -> String {
 
 /// The text and the request of a decide or sheet vector, and whether the table is the text's.
 fn text_and_request(vector: &Vector) -> String {
+    text_and_table(vector) + &request_in_full(request_of(vector))
+}
+
+/// The text, and whether the table is its.
+fn text_and_table(vector: &Vector) -> String {
     let (text, given) = (&vector[0], &vector[1]);
-    let mut lines = format!("text ({} bytes):\n{}\n", text.len(), text.escape_ascii());
     let table = if policies_said_by(text, given).is_some() { "begins" } else { "does not begin" };
-    lines.push_str(&format!("the table ({} bytes) {} with the text's compiled bytes\n", given.len(), table));
-    for (name, part) in ["subject", "action", "resource"].iter().zip(&vector[3..6]) {
-        lines.push_str(&format!("{} ({} bytes): {}\n", name, part.len(), part.escape_ascii()));
+    format!(
+        "text ({} bytes):\n{}\nthe table ({} bytes) {} with the text's compiled bytes\n",
+        text.len(),
+        text.escape_ascii(),
+        given.len(),
+        table
+    )
+}
+
+fn request_in_full(request: Request) -> String {
+    let Request { subject, action, resource } = request;
+    [("subject", subject), ("action", action), ("resource", resource)]
+        .iter()
+        .map(|(name, part)| format!("{} ({} bytes): {}\n", name, part.len(), part.escape_ascii()))
+        .collect()
+}
+
+/// Which policies are satisfied in some rows from one on, a line for each.
+fn first_rows(text: &[u8], request: Request, question: &Question, start: usize, most: usize) -> String {
+    let mut lines = String::new();
+    for row in (0..question.rows()).skip(start).take(most) {
+        let choices = question.choices_of(row);
+        let look_up = |root: u8, path: &[u8]| question.look_up(&choices, root, path);
+        lines.push_str(&format!("row {} ({:?}): {}", row, choices, satisfied(text, request, &look_up)));
     }
     lines
 }
 
 /// Which policies are satisfied, as a line.
-fn satisfied<'a>(vector: &'a Vector, look_up: &'a dyn Fn(u8, &[u8]) -> Option<&'a Value>) -> String {
-    let policies = policies_of(&vector[0]).unwrap_or_default();
-    let facts = Facts { text: &vector[0], request: request_of(vector), look_up };
+fn satisfied<'a>(text: &'a [u8], request: Request<'a>, look_up: &'a dyn Fn(u8, &[u8]) -> Option<&'a Value>) -> String {
+    let policies = policies_of(text).unwrap_or_default();
+    let facts = Facts { text, request, look_up };
     let numbers: Vec<String> = (0..policies.len())
         .filter(|index| facts.is_satisfied(&policies[*index]))
         .map(|index| format!("{} {:?}", index + 1, policies[index].effect))
@@ -466,6 +528,22 @@ mod tests {
         for vector in vectors.iter().step_by(50) {
             assert!(sheet(vector).contains("\nanswer: "));
         }
+    }
+
+    #[test]
+    fn tallies_are_shown() {
+        let vectors = tally_vectors::fixed();
+        let explained = tally(&vectors[1]);
+        assert!(explained.contains("\nrow 5 ([1, 2]): satisfied policies: [1 Permit, 2 Forbid]\n"), "{}", explained);
+        let counts = "rows of outcomes 1 to 4: [2, 3, 4, 0]; [policy 1 decides 2, policy 2 decides 3]\n";
+        assert!(explained.contains(&format!("\n{}sums\n{}answer: T 0 2 1 3 2 4 ", counts, counts)), "{}", explained);
+        for vector in vectors.iter().step_by(50) {
+            assert!(tally(vector).contains("\nanswer: "));
+        }
+        let typed = b"\0\0\0\0\x04\0\0\0\0\0\x08\0\x01\0\0\0\0\0\0\0\x07\0\x06system";
+        assert!(tally(&read_tally(typed).unwrap())
+            .ends_with("sums\nrows of outcomes 1 to 4: [0, 0, 0, 1]; []\nanswer: T 3 1 547 1\n"));
+        assert!(read_tally(&typed[..typed.len() - 1]).is_none());
     }
 
     #[test]

@@ -13,6 +13,7 @@ mod packing;
 mod pattern_vectors;
 mod questions_vectors;
 mod sheet_vectors;
+mod tally_vectors;
 mod token_vectors;
 mod vector;
 mod vectors;
@@ -37,9 +38,10 @@ const USAGE: &str = "usage:
   second decide DIR                          decide policy.txt, bag.bin and request.txt in DIR
   second ask check DIR                       print what `ask check` prints for policy.txt in DIR
   second ask decide DIR                      print what `ask decide` prints for policy.txt and cases.bin in DIR
+  second ask tally DIR                       print what `ask tally` prints for policy.txt, question.bin and requests.bin in DIR
   second caretaker DIR                       print what `caretaker` prints for the files in DIR
-SORT is tokens, number, like, compile, begins, bag, question, view, decide, sheet or lock; README.md says what the
-input of each is";
+SORT is tokens, number, like, compile, begins, bag, question, view, decide, sheet, tally or lock; README.md says what
+the input of each is";
 
 /// The bytes of the sheets that `second sheet` lends.
 const PAGE_BYTES: usize = 6_000;
@@ -80,7 +82,7 @@ fn run(words: &[&str]) -> Result<(), Failure> {
             let [text, bag, request] = files(directory, ["policy.txt", "bag.bin", "request.txt"])?;
             print(&decided(&text, &bag, &request))
         }
-        ["ask", word @ ("check" | "decide"), directory] => ask(word, directory),
+        ["ask", word @ ("check" | "decide" | "tally"), directory] => ask(word, directory),
         ["caretaker", directory] => caretaker(directory),
         _ => Err(Failure::Usage),
     }
@@ -89,8 +91,13 @@ fn run(words: &[&str]) -> Result<(), Failure> {
 /// What the program `ask` prints for the files of a folder.
 fn ask(word: &str, directory: &str) -> Result<(), Failure> {
     let [text, cases, _] = files(directory, ["policy.txt", "cases.bin", "request.txt"])?;
-    if word == "check" {
-        return print(&asking::printed_check(&text));
+    match word {
+        "check" => return print(&asking::printed_check(&text)),
+        "tally" => {
+            let [text, question, requests] = files(directory, ["policy.txt", "question.bin", "requests.bin"])?;
+            return print(&asking::printed_tally(&text, &question, &requests));
+        }
+        _ => {}
     }
     let cases = asking::read_cases(&cases).ok_or_else(|| Failure::Other("cases.bin has no such form".to_string()))?;
     print(&asking::printed_decide(&text, &cases))

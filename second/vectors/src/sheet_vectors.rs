@@ -10,8 +10,7 @@ use generators::bag_bytes::{break_a_rule, damaged};
 use generators::examples::{column, example_question, number, question_of, question_of_rows, EXAMPLE, REQUEST};
 use generators::random::Random;
 use generators::requests;
-use generators::rich_bags::bag_of_length;
-use generators::rich_bags::rich_question;
+use generators::rich_bags::{bag_of_length, cut_and_changed_questions};
 
 use crate::vector::{request_of, sum_of, Vector};
 
@@ -372,21 +371,10 @@ fn add_longest(vectors: &mut Vec<Vector>) {
 
 /// The rich question cut and changed; a bag.
 fn add_wrong_questions(vectors: &mut Vec<Vector>) {
-    let bytes = rich_question().bytes();
     let text = "permit(principal,action,resource)when{principal has a};";
     let wanted = Wanted { start: 0, length: 36, named: 0 };
-    let mut add = |question: &[u8]| vectors.push(with_own_table(text, question, REQUEST, wanted));
-    for at in 0..bytes.len() {
-        add(&bytes[..at]);
-        let mut changed = bytes.clone();
-        changed[at] = changed[at].wrapping_add(1);
-        add(&changed);
-    }
-    add(&bytes);
-    add(&[&bytes[..], &[0]].concat());
-    add(&[0; 4_097]);
-    for question in [&[][..], &[0, 0, 0], &[0, 0, 0, 0], &[0, 0, 0, 0, 0], &[0, 0, 0, 7], &[0, 0, 0, 1]] {
-        add(question);
+    for question in cut_and_changed_questions() {
+        vectors.push(with_own_table(text, &question, REQUEST, wanted));
     }
 }
 

@@ -17,6 +17,7 @@ use crate::packing::{Packer, Unpacker};
 use crate::pattern_vectors;
 use crate::questions_vectors;
 use crate::sheet_vectors;
+use crate::tally_vectors;
 use crate::token_vectors;
 use crate::vector::{add_part, read_parts, take_part, take_parts, Vector};
 use crate::views_vectors;
@@ -49,7 +50,7 @@ pub struct Sort {
 }
 
 /// All sorts of vectors.
-pub static SORTS: [Sort; 11] = [
+pub static SORTS: [Sort; 12] = [
     Sort {
         name: "tokens",
         explain_word: "tokens",
@@ -169,6 +170,18 @@ pub static SORTS: [Sort; 11] = [
         answer: sheet_vectors::answer,
         read_typed: explain::read_sheet,
         explain: explain::sheet,
+    },
+    Sort {
+        name: "tally",
+        explain_word: "tally",
+        parts: 5,
+        packed: true,
+        count: 8_000,
+        fixed: tally_vectors::fixed,
+        random: tally_vectors::random,
+        answer: tally_vectors::answer,
+        read_typed: explain::read_tally,
+        explain: explain::tally,
     },
     Sort {
         name: "lock",

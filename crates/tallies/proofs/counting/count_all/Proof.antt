@@ -1,0 +1,64 @@
+-- `tallies::counting::count_all` meets its contract: places and rows are found once, and the sums put behind the groups. Assumes nothing.
+use Rattle.tallies.proofs.Groups.{groups-long, groups-small, sums-behind}
+use Rattle.tallies.specs.Tallies.{groupCount, groupsOf, sumsOf, withSums}
+use Rattle.tallies.specs.Lent.{requestsOf}
+use Rattle.sheets.specs.Sheets.{decisionAt}
+use Rattle.pages.proofs.Tallying.{group-long, group-few}
+use Rattle.pages.specs.Tally.{tallyOf}
+use Rattle.placing.specs.Said.{wordsOf}
+use Rattle.stored.specs.ReadBack.{policiesAt}
+use denote.Ref.{now}
+use lib.ListN.{take}
+use native.Mathlib.Omega.{arith}
+use Prim.Native.Nat.{ℕ, zero-le}
+use mathlib.Core.List.{List, _++_}
+use mathlib.Core.Path.{refl, ap, _∙_}
+use Rattle.pages.proofs.SixColumns.{heads-counted}
+use borrow.Author.Needs.{needs}
+use Rattle.tallies.proofs.counting.count_all.Statement.{statement}
+use Rattle.tallies.proofs.counting.count_all.Tie as tie
+
+lasts-requires : tie.Need-lasts-requires
+lasts-requires c κs = let question = c .before .before .before .before .before .before .before .before .before .pre .1 .0 in heads-counted _ _ _ _ (question .few) (question .columns) _ (c .before .before .heads .ensures)
+
+count-requests-requires : tie.Need-count-requests-requires
+count-requests-requires c κs =
+    let pre = c .before .before .before .before .before .before .before .before .before .before .before .before .before .before .before .before .before .before .before .pre in (
+      record {
+        asked = record { question = pre .1 .0; all-rows = c .before .before .before .before .before .before .before .before .rows .ensures .0; few = c .before .before .before .before .before .before .before .before .rows .ensures .1; within = zero-le };
+        laid = record { many = refl; starts-are = c .before .before .before .before .before .before .before .before .before .before .before .before .heads .ensures; grid-is = c .before .before .before .before .before .before .before .before .before .before .before .places .ensures; six = omega (arith, c .before .before .before .before .before .before .before .before .before .lasts .ok); ends-are = c .before .before .before .before .before .before .before .before .before .lasts .ensures };
+        rules = pre .1 .1 .0;
+      },
+      (pre .1 .1 .1 .0, (pre .1 .1 .1 .1, c .before .before .before .before .before .before .clear .ensures)),
+    )
+
+add-up-requires : tie.Need-add-up-requires
+add-up-requires c κs = groups-small _ (λ q. group-long _ _) _ (λ q k. group-few _ _ k) (c .before .before .before .before .before .before .before .before .before .before .before .before .rows .ensures .1) _ (c .before .before .before .count-requests .ensures)
+
+returns : tie.Need-returns
+returns c =
+    let text = now (c .before .before .before .before .before .before .before .before .before .before .before .before .before .before .before .before .before .before .before .before .before .before .before .before .before .before .args .text) in
+    let table = now (c .before .before .before .before .before .before .before .before .before .before .before .before .before .before .before .before .before .before .before .before .before .before .before .before .before .before .args .table) in
+    let s = now (c .before .before .before .before .before .before .before .before .before .before .before .before .before .before .before .before .before .before .before .before .before .before .before .before .before .before .args .s) in
+    let p = c .before .before .before .before .before .before .before .before .before .before .before .before .before .before .before .before .before .before .before .before .before .before .before .before .before .before .args .p in
+    let entries = c .before .before .before .before .before .before .before .before .before .before .before .before .before .before .before .before .before .before .before .before .before .before .before .before .before .before .args .rules .entries in
+    let qs = requestsOf (c .before .before .before .before .before .before .before .before .before .before .before .before .before .before .before .before .before .before .before .before .before .before .before .before .before .before .args .many) (now (c .before .before .before .before .before .before .before .before .before .before .before .before .before .before .before .before .before .before .before .before .before .before .before .before .before .before .args .requests)) in
+    c .before .before .add-up .ensures ∙ ap (λ (l : List ℕ). take 544 l ++ sumsOf l) (c .before .before .before .before .before .before .count-requests .ensures) ∙ sums-behind _ (groups-long _ (λ q. group-long _ _) groupCount _)
+    ∙ ap (λ (n : ℕ). withSums (groupsOf groupCount (λ q. tallyOf (decisionAt s p q (wordsOf text (policiesAt table entries))) n) qs)) (c .before .before .before .before .before .before .before .before .before .before .before .before .before .before .before .rows .ensures .0)
+
+pub count-all-spec : {M : Type 1} → statement M
+count-all-spec =
+    tie.close
+    (tie.spec
+    (λ c. search needs)
+    (λ c. search needs)
+    (λ c. search needs)
+    (λ c κs. search needs)
+    (λ c κs. search needs)
+    lasts-requires
+    (λ c κs. search needs)
+    (λ c κs. search needs)
+    count-requests-requires
+    add-up-requires
+    (λ c. search needs)
+    returns)

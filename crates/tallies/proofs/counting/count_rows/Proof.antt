@@ -1,0 +1,124 @@
+-- `tallies::counting::count_rows` meets its contract: the rows passed are counted, and the walk stands at the row. Assumes nothing.
+use Rattle.tallies.proofs.Deciders.{countable-there, counted-turn}
+use Rattle.sheets.specs.Asked.{Asked, WalkFor}
+use Rattle.sheets.specs.Sheets.{rowsIn, decisionAt}
+use Rattle.turns.proofs.RowLaws.{choices-small, stands-first, kept-first, ends-few, walked-gone, at-gone, at-back}
+use Rattle.turns.specs.Turns.{AtRow}
+use Rattle.pages.proofs.Tallying.{group-none, group-few}
+use Rattle.pages.specs.Tally.{groupSize, tallyOf, Countable}
+use Rattle.meaning.specs.declared.Decision.{Decision}
+use Rattle.meaning.specs.Targets.{Request}
+use Rattle.placing.specs.Said.{wordsOf}
+use Rattle.stored.specs.ReadBack.{policiesAt}
+use Rattle.bags.specs.declared.sections.Sections.{Sections}
+use lib.ListN.{length, length-replicate}
+use native.Mathlib.Omega.{arith}
+use native.Mathlib.Nat.{le-trans}
+use Prim.Native.Nat.{ℕ, _-_, _≤_, _<_}
+use mathlib.Core.List.{List}
+use mathlib.Core.Path.{_≡_, sym, ap, _∙_, subst}
+use Rattle.tallies.proofs.counting.count_rows.Statement.{statement}
+use Rattle.tallies.proofs.counting.count_rows.Tie as tie
+
+abbrev Inv-loop : tie.InvT-loop
+Inv-loop walk looks text table s starts grid ends action all group₀ p choices₀ values₀ notes₀ from₀ row₀ group choices values notes from row =
+    (all ≤ 262144) × (row ≤ all) × (length group ≡ groupSize)
+    × ((q : Request) → WalkFor text table walk looks action q
+    → (group ≡ tallyOf (decisionAt s (walk .p) q (wordsOf text (policiesAt table (walk .entries)))) row)
+    × AtRow text table s walk starts grid ends looks action q row choices values from notes)
+
+abbrev μ-loop : tie.MeasureT-loop
+μ-loop walk looks text table s starts grid ends action all group₀ p choices₀ values₀ notes₀ from₀ row₀ group choices values notes from row = all - row
+
+there : {s : List ℕ} {p : Sections} {all start row : ℕ} → Asked s p all start → row < all → row < rowsIn s p
+there a h = rw (← a .all-rows) h
+
+fits : {policies n : ℕ} → policies ≡ n → policies ≤ 64 → n ≤ 64
+fits e h = omega arith
+
+choices-of-requires : tie.Need-choices-of-requires Inv-loop μ-loop
+choices-of-requires c κs = let w = c .before .before .before .before .before .before .pre .0 .walked in ends-few (w .question) (w .laid)
+
+chosen-requires : tie.Need-chosen-requires Inv-loop μ-loop
+chosen-requires c κs =
+    let w = c .before .before .before .before .before .before .before .before .before .pre .0 .walked in
+    (omega arith, λ i h. choices-small _ _ _ (c .before .before .choices-of .ensures) (ends-few (w .question) (w .laid)) i h)
+
+loop-holds : tie.Need-loop-holds Inv-loop μ-loop
+loop-holds c =
+    let pre = c .before .before .before .before .before .before .before .before .before .before .pre in (
+      pre .0 .asked .few,
+      pre .0 .asked .within,
+      ap length (pre .1 .1) ∙ length-replicate {A = ℕ} groupSize 0,
+      λ q f. (
+        pre .1 .1 ∙ group-none _,
+        record {
+          acts = f .acts;
+          whose = f .whose;
+          standing = stands-first (c .before .before .before .choices-of .ensures) (omega arith) (c .chosen .ensures);
+          kept = kept-first (c .chosen .result) (omega arith) (f .aims);
+        },
+      ),
+    )
+
+take-turn-requires : tie.Need-take-turn-requires Inv-loop μ-loop
+take-turn-requires c κs =
+    let l = c .before .before .before .before in
+    let pre = c .before .before .before .before .before .before .before .before .before .before .before .before .before .before .before .pre in
+    let at = l .loop .inv .3 (pre .1 .0 .q) (pre .1 .0 .walk-for) .1 in (
+      walked-gone (c .before .before .before .before .before .before .before .before .before .before .before .before .before .before .before .args .walk) (l .loop .from) (pre .0 .walked),
+      (record { row = l .loop .row; below = there (pre .0 .asked) (c .before .before .before .loop-test .taken); standing = at .standing }, at .kept .carried .long),
+    )
+
+count-row-requires : tie.Need-count-row-requires Inv-loop μ-loop
+count-row-requires c κs =
+    let l = c .before .before .before .before .before .before in
+    let pre = c .before .before .before .before .before .before .before .before .before .before .before .before .before .before .before .before .before .pre in
+    let inv = l .loop .inv .3 (pre .1 .0 .q) (pre .1 .0 .walk-for) in
+    let turned = c .before .take-turn .ensures (pre .1 .0 .q) (l .loop .row) (there (pre .0 .asked) (c .before .before .before .before .before .loop-test .taken)) (at-gone (c .before .before .before .before .before .before .before .before .before .before .before .before .before .before .before .before .before .args .walk) (l .loop .from) (inv .1)) in (
+      subst (λ (d : Decision). Countable d) (sym (turned .decided)) (countable-there _ _ _ _ _ _ (fits (pre .0 .walked .many) (pre .0 .walked .few))),
+      (l .loop .inv .2, record { few = λ k h. rw (inv .0) (le-trans (group-few _ (l .loop .row) k) (omega arith)) }),
+    )
+
+loop-again : tie.Need-loop-again Inv-loop μ-loop
+loop-again c =
+    let l = c .before .before .before .before .before .before .before .before .before in
+    let pre = c .before .before .before .before .before .before .before .before .before .before .before .before .before .before .before .before .before .before .before .before .pre in
+    let below = c .before .before .before .before .before .before .before .before .loop-test .taken in (
+      l .loop .inv .0,
+      omega (arith, below),
+      c .before .before .count-row .kept .0 ∙ l .loop .inv .2,
+      λ q f.
+          let inv = l .loop .inv .3 q f in
+          let turned = c .before .before .before .before .take-turn .ensures q (l .loop .row) (there (pre .0 .asked) below) (at-gone (c .before .before .before .before .before .before .before .before .before .before .before .before .before .before .before .before .before .before .before .before .args .walk) (l .loop .from) (inv .1)) in (
+            counted-turn _ (l .loop .row) (inv .0) (turned .decided) (c .before .before .count-row .ensures)
+                (countable-there _ _ _ _ _ _ (fits (pre .0 .walked .many) (pre .0 .walked .few))),
+            at-back (c .before .before .before .before .before .before .before .before .before .before .before .before .before .before .before .before .before .before .before .before .args .walk) (l .loop .from) (turned .next),
+          ),
+    )
+
+same-length : tie.Need-same-length Inv-loop μ-loop
+same-length c = c .before .loop .inv .2 ∙ sym (ap length (c .before .before .before .before .before .before .before .before .before .before .before .before .pre .1 .1) ∙ length-replicate {A = ℕ} groupSize 0)
+
+returns : tie.Need-returns Inv-loop μ-loop
+returns c = λ q f.
+    let l = c .before .loop in
+    let last : l .row ≡ c .before .before .before .before .before .before .before .before .before .before .before .before .args .all = omega arith in
+    l .inv .3 q f .0 ∙ ap (tallyOf _) last
+
+pub count-rows-spec : {M : Type 1} → statement M
+count-rows-spec =
+    tie.close
+    (tie.spec
+    Inv-loop
+    μ-loop
+    choices-of-requires
+    chosen-requires
+    loop-holds
+    take-turn-requires
+    (λ c. omega arith)
+    count-row-requires
+    (λ c. omega arith)
+    loop-again
+    same-length
+    returns)

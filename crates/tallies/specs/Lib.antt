@@ -1,0 +1,4 @@
+pub mod Lent
+pub mod Tallies
+pub mod Counted
+pub mod Promise
