@@ -3,3 +3,8 @@ pub mod PutLaws
 pub mod EntryLaws
 pub mod TestLaws
 pub mod AnswerLaws
+pub mod Strings
+pub mod Entries
+pub mod ActionsSaid
+pub mod TestsSaid
+pub mod TestsRead
