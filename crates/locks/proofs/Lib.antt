@@ -8,3 +8,6 @@ pub mod Entries
 pub mod ActionsSaid
 pub mod TestsSaid
 pub mod TestsRead
+pub mod TestsMet
+pub mod Exactly
+pub mod Promised

@@ -71,7 +71,7 @@ comparator-of at-least = refl
 comparator-of less = refl
 comparator-of at-most = refl
 
-order-goes : {c : Comparator} → Orders c → (goesWith 3 (markKind c) ≡ true) × (eqb (markKind c) kinds.colon ≡ false) × (6 < markKind c)
+pub order-goes : {c : Comparator} → Orders c → (goesWith 3 (markKind c) ≡ true) × (eqb (markKind c) kinds.colon ≡ false) × (6 < markKind c)
 unfolding goesWith markKind
 order-goes more = (refl, refl, omega arith)
 order-goes at-least = (refl, refl, omega arith)
