@@ -299,6 +299,7 @@ pub record TheTally (c : TallyCall) : Type 0 where
       → getD (groupIn (countsFor c) groupCount) i 0 ≡ sumOf (fromOn (λ k. getD (groupIn (countsFor c) k) i 0) 0 groupCount)
   pub no-more : length (countsFor c) ≡ groupSize * suc groupCount
 
+-- what is promised of the tally
 pub record TheTallies : Type 0 where
   pub the-tally : (c : TallyCall) → refusalFor c ≡ 0 → TheTally c
   -- bytes lend one list of so many requests
