@@ -14,6 +14,8 @@ use Rattle.desk.proofs.TextsPromised as texts
 use Rattle.desk.proofs.RequestsPromised as requests
 use Rattle.desk.proofs.LookUpsPromised as look-ups-desk
 use Rattle.desk.proofs.SheetsPromised as sheets-desk
+use Rattle.desk.specs.Promises.{Locks}
+use Rattle.desk.proofs.LocksPromised as locks-desk
 
 pub demand-one : DemandOne
 demand-one = record {
@@ -25,6 +27,8 @@ demand-one = record {
   no-place = texts.no-place;
   table-stays = texts.table-stays;
   sheet-stays = sheets-desk.sheet-stays;
+  lock-refusals = locks-desk.lock-refusals;
+  lock-stays = locks-desk.lock-stays;
 }
 
 pub demand-two : DemandTwo
@@ -103,4 +107,13 @@ one-result = record {
   of-string-place = λ bag root path r r′ a b. a ∙ sym b;
   of-sheet = λ c after after′ r r′ a b. (a .answered ∙ sym (b .answered), a .sheet ∙ sym (b .sheet));
   of-rows = λ question r r′ a b. a ∙ sym b;
+  of-lock = λ vocabulary lock actions resource before after after′ r r′ a b. (a .answered ∙ sym (b .answered), a .room ∙ sym (b .room));
+}
+
+pub locks : Locks
+locks = record {
+  the-lock = locks-desk.the-lock;
+  one-lock = locks-desk.one-lock;
+  lock-exactly = locks-desk.lock-exactly;
+  lock-zeros = locks-desk.lock-zeros;
 }
