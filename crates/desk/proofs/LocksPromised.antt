@@ -8,7 +8,8 @@ use native.Mathlib.Omega.{arith}
 use lib.ListN.{length, drop}
 use Rattle.grammar.specs.Policies.{Policy, PolicyOf, text, oneOf, pinned, any}
 use Rattle.placing.specs.Said.{Word, wordsOf}
-use Rattle.compiling.specs.Outcome.{mostBytes, roomFor}
+use Rattle.compiling.specs.Outcome.{roomFor}
+use Rattle.tokens.specs.Sizes.{mostTextBytes}
 use Rattle.bags.specs.Forms.{Contents, BagBytes}
 use Rattle.bags.proofs.Exactly.{one-bag}
 use Rattle.views.specs.Meaning.{View, asBag, look}

@@ -14,7 +14,8 @@ use Rattle.slices.specs.Parts.{IsPart, part}
 use Rattle.numbers.specs.Bits.{numberAt}
 use Rattle.grammar.specs.Policies.{Policy, PolicyOf, any, pinned, oneOf, text}
 use Rattle.grammar.specs.Grammar.{SaysPolicies}
-use Rattle.compiling.specs.Outcome.{mostBytes, roomFor, compiledBytes, spot}
+use Rattle.compiling.specs.Outcome.{roomFor, compiledBytes, spot}
+use Rattle.tokens.specs.Sizes.{mostTextBytes}
 use Rattle.compiling.specs.Promise.{RefusedThere, Begun}
 use Rattle.bags.specs.Forms.{Contents, BagBytes, NoBag}
 use Rattle.bags.specs.Reading.{byte}
@@ -77,7 +78,7 @@ pub record DemandOne : Type 0 where
 
 -- the text has at most 8,192 bytes, and it is a rule text that says these policies
 pub record Says (text : List ℕ) (ps : List Policy) : Type 0 where
-  pub short : length text ≤ mostBytes
+  pub short : length text ≤ mostTextBytes
   pub belongs : SaysPolicies text ps
 
 -- the text is a rule text within the limits
@@ -324,10 +325,10 @@ pub record LookUps : Type 0 where
 
 -- when each number is given, and what stands beside it
 pub record Refusals : Type 0 where
-  pub too-long : (text table : List ℕ) → (compileSays text table .refusal ≡ 1) ↔ (mostBytes < length text)
-  pub no-room : (text table : List ℕ) → (compileSays text table .refusal ≡ 2) ↔ ((length text ≤ mostBytes) × (length table < roomFor text))
+  pub too-long : (text table : List ℕ) → (compileSays text table .refusal ≡ 1) ↔ (mostTextBytes < length text)
+  pub no-room : (text table : List ℕ) → (compileSays text table .refusal ≡ 2) ↔ ((length text ≤ mostTextBytes) × (length table < roomFor text))
   -- 3 to 16, where the sizes are right: exactly by the number, at the line and column, of the one token at which a rule is first broken
-  pub token-exactly : (text table : List ℕ) (number line column : ℕ) → length text ≤ mostBytes → roomFor text ≤ length table → 2 < number
+  pub token-exactly : (text table : List ℕ) (number line column : ℕ) → length text ≤ mostTextBytes → roomFor text ≤ length table → 2 < number
       → (compileSays text table ≡ record { refusal = number; line = line; column = column; policies = 0; bytes = 0 })
       ↔ RefusedThere text number (spot line column)
   pub decide-exactly : (c : DecideCall) (number : ℕ) → (decisionFor c .refusal ≡ number) ↔ DecideRefused c number

@@ -13,7 +13,7 @@ use Rattle.slices.specs.Parts.{part}
 use Rattle.slices.specs.Same.{same}
 use Rattle.slices.proofs.Equal.{same-is}
 use Rattle.tokens.specs.Bytes.{classOf}
-use Rattle.tokens.specs.Runs.{is, run, runEnd}
+use Rattle.tokens.specs.Runs.{isOf, run, runEnd}
 use Rattle.tokens.specs.declared.classes.Sort.{Sort}
 use Rattle.tokens.specs.declared.classes.Sort.the-variants.{Letters, WordBytes, StringBytes}
 use Rattle.bags.specs.Paths.{every}
@@ -99,17 +99,17 @@ eqb-suc a b = go (eqb a b) refl
     go false e = ne-eqb (suc a) (suc b) (λ z. eqb-false a b e (omega arith)) ∙ sym e
 
 -- all bytes are of a sort where the run of them is all
-pub every-run : (sort : Sort) (w : List ℕ) → eqb (run sort w) (length w) ≡ every (is sort) w
+pub every-run : (sort : Sort) (w : List ℕ) → eqb (run sort w) (length w) ≡ every (isOf sort) w
 unfolding every run
 every-run sort [] = refl
-every-run sort (b ∷ rest) = go (is sort b) (every-run sort rest)
+every-run sort (b ∷ rest) = go (isOf sort b) (every-run sort rest)
   where
-    go : (t : Bool) → eqb (run sort rest) (length rest) ≡ every (is sort) rest
-        → eqb (cond t (suc (run sort rest)) 0) (suc (length rest)) ≡ (t && every (is sort) rest)
+    go : (t : Bool) → eqb (run sort rest) (length rest) ≡ every (isOf sort) rest
+        → eqb (cond t (suc (run sort rest)) 0) (suc (length rest)) ≡ (t && every (isOf sort) rest)
     go true ih = eqb-suc (run sort rest) (length rest) ∙ ih
     go false ih = ne-eqb 0 (suc (length rest)) (λ z. omega arith)
 
-pub run-all : (sort : Sort) (w : List ℕ) (end : ℕ) → end ≡ runEnd sort w 0 → eqb end (length w) ≡ every (is sort) w
+pub run-all : (sort : Sort) (w : List ℕ) (end : ℕ) → end ≡ runEnd sort w 0 → eqb end (length w) ≡ every (isOf sort) w
 run-all sort w end e = let z : end ≡ run sort w = omega arith in rw z (every-run sort w)
 
 pub short-none : (w : Word) → length w ≡ 0 → false ≡ isShortWord w
@@ -121,7 +121,7 @@ pub short-long : (w : Word) → 64 < length w → false ≡ isShortWord w
 unfolding isShortWord
 short-long w h = simp (lt-leb _ _ h)
 
-pub short-is : (w : Word) (a : Bool) (end : ℕ) → length w ≤ 64 → a ≡ is Letters (getD w 0 0) → end ≡ runEnd WordBytes w 0
+pub short-is : (w : Word) (a : Bool) (end : ℕ) → length w ≤ 64 → a ≡ isOf Letters (getD w 0 0) → end ≡ runEnd WordBytes w 0
     → (a && eqb end (length w)) ≡ isShortWord w
 unfolding isShortWord
 short-is w a end h p q = rw (p, run-all WordBytes w end q, le-leb _ _ h)
@@ -161,7 +161,7 @@ pub short-string : (s : List ℕ) → isString s ≡ true → length s ≤ 127
 unfolding isString
 short-string s h = go (leb (length s) 127) refl h
   where
-    go : (t : Bool) → leb (length s) 127 ≡ t → (t && every (is StringBytes) s) ≡ true → length s ≤ 127
+    go : (t : Bool) → leb (length s) 127 ≡ t → (t && every (isOf StringBytes) s) ≡ true → length s ≤ 127
     go true e w = leb-true _ _ e
     go false e w = absurd (let z : _≡_ {A = ℕ} 0 1 = cc in omega arith)
 

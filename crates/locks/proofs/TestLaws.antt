@@ -39,11 +39,11 @@ pub number-is : {l : List ℕ} {at : ℕ} {t : Token} → t ≡ tokenAt l at →
 unfolding numberAt
 number-is {l} {at} {t} q r = record { answer = ap numberFrom q; lies = record { from = r .low; order = r .order; high = r .high } }
 
-pub operand-value : {l : List ℕ} {mark at : ℕ} {p : Piece} → mark ≡ kinds.colon → PieceIs l at p (valueAt l at) → PieceIs l at p (operandAt l mark at)
+pub operand-value : {l : List ℕ} {mark at : ℕ} {p : Piece} → mark ≡ kinds.colonOutside → PieceIs l at p (valueAt l at) → PieceIs l at p (operandAt l mark at)
 unfolding operandAt
 operand-value {l} {mark} {at} {p} h q = record { answer = q .answer ∙ rw (eq-eqb _ _ h); lies = q .lies }
 
-pub operand-number : {l : List ℕ} {mark at : ℕ} {p : Piece} → (mark ≡ kinds.colon → ⊥) → PieceIs l at p (numberAt l at) → PieceIs l at p (operandAt l mark at)
+pub operand-number : {l : List ℕ} {mark at : ℕ} {p : Piece} → (mark ≡ kinds.colonOutside → ⊥) → PieceIs l at p (numberAt l at) → PieceIs l at p (operandAt l mark at)
 unfolding operandAt
 operand-number {l} {mark} {at} {p} h q = record { answer = q .answer ∙ rw (ne-eqb _ _ h); lies = q .lies }
 

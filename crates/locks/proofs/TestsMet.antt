@@ -15,9 +15,9 @@ use Rattle.slices.specs.Parts.{part}
 use Rattle.slices.specs.Same.{same}
 use Rattle.tokens.specs.Bytes.{classOf, letter}
 use Rattle.tokens.specs.Kinds as kinds
-use Rattle.tokens.specs.Runs.{is, runEnd}
+use Rattle.tokens.specs.Runs.{isOf, runEnd}
 use Rattle.tokens.specs.Tokens.{token, tokenAt}
-use Rattle.tokens.specs.Forms.{All, empty, next, Form, a-number, a-mark, Number, plain, minus, whole, pointed, digits-from, Unsigned, marks, digits, sizeOf, mostOf}
+use Rattle.tokens.specs.Forms.{All, empty, next, Form, a-number, a-mark, Number, signless, minus, whole, pointed, digits-from, Unsigned, marks, digits, sizeOf, mostOf}
 use Rattle.tokens.specs.declared.classes.Sort.the-variants.{Blanks, Digits, Letters, WordBytes}
 use Rattle.tokens.specs.declared.reader.Token.{Token}
 use Rattle.tokens.proofs.FormLaws.{isAmong, is-among, mark-small}
@@ -62,22 +62,22 @@ stop-goes {l} {e} (at-and r h q) =
     let b : getD l e 0 ≡ 38 = ap (λ (k : ℕ). getD l k 0) (sym z) ∙ sym (getD-drop e l 0 0) ∙ ap (λ (x : List ℕ). getD x 0 0) q in
     rw (lt-leb _ _ h, b)
 
-stop-calm : {b : ℕ} → (b ≡ 0) ⊎ (b ≡ 38) → (calm b ≡ true) × (is Blanks b ≡ false)
+stop-calm : {b : ℕ} → (b ≡ 0) ⊎ (b ≡ 38) → (calm b ≡ true) × (isOf Blanks b ≡ false)
 unfolding calm classOf
 stop-calm (inl q) = rw q (refl, refl)
 stop-calm (inr q) = rw q (refl, refl)
 
-calm-not-word : (b : ℕ) → calm b ≡ true → is WordBytes b ≡ false
+calm-not-word : (b : ℕ) → calm b ≡ true → isOf WordBytes b ≡ false
 unfolding calm
-calm-not-word b h = not-true (is WordBytes b) (and-eq-true-iff (not (is WordBytes b)) _ .0 h .0)
+calm-not-word b h = not-true (isOf WordBytes b) (and-eq-true-iff (not (isOf WordBytes b)) _ .0 h .0)
 
-blank-not-word : (b : ℕ) → is Blanks b ≡ true → is WordBytes b ≡ false
+blank-not-word : (b : ℕ) → isOf Blanks b ≡ true → isOf WordBytes b ≡ false
 blank-not-word b h = calm-not-word b (blank-calm b h)
 
-word-not-blank : (b : ℕ) → is WordBytes b ≡ true → is Blanks b ≡ false
-word-not-blank b h = go (is Blanks b) refl
+word-not-blank : (b : ℕ) → isOf WordBytes b ≡ true → isOf Blanks b ≡ false
+word-not-blank b h = go (isOf Blanks b) refl
   where
-    go : (t : Bool) → is Blanks b ≡ t → is Blanks b ≡ false
+    go : (t : Bool) → isOf Blanks b ≡ t → isOf Blanks b ≡ false
     go false e = e
     go true e = absurd (false≢true (sym (blank-not-word b e) ∙ h))
 
@@ -86,21 +86,21 @@ first-calm : {a : List ℕ} → All Blanks a → (d : List ℕ) → calm (getD d
 first-calm empty d h = h
 first-calm (next {b} e a) d h = blank-calm b e
 
-first-not-word : {a : List ℕ} → All Blanks a → (c : ℕ) (r d : List ℕ) → is WordBytes c ≡ false → is WordBytes (getD ((a ++ c ∷ r) ++ d) 0 0) ≡ false
+first-not-word : {a : List ℕ} → All Blanks a → (c : ℕ) (r d : List ℕ) → isOf WordBytes c ≡ false → isOf WordBytes (getD ((a ++ c ∷ r) ++ d) 0 0) ≡ false
 first-not-word empty c r d h = h
 first-not-word (next {b} e a) c r d h = blank-not-word b e
 
 -- the first byte of a number
 data NumberFirst (b : ℕ) : Type 0 where
-  a-digit : is Digits b ≡ true → NumberFirst b
+  a-digit : isOf Digits b ≡ true → NumberFirst b
   a-minus : b ≡ 45 → NumberFirst b
 
 number-first : {n : List ℕ} → Number n → (d : List ℕ) → NumberFirst (getD (n ++ d) 0 0)
-number-first (plain (whole (digits-from e a))) d = a-digit e
-number-first (plain (pointed (digits-from e a) f)) d = a-digit e
+number-first (signless (whole (digits-from e a))) d = a-digit e
+number-first (signless (pointed (digits-from e a) f)) d = a-digit e
 number-first (minus u) d = a-minus refl
 
-number-not-blank : (b : ℕ) → NumberFirst b → is Blanks b ≡ false
+number-not-blank : (b : ℕ) → NumberFirst b → isOf Blanks b ≡ false
 unfolding classOf
 number-not-blank b (a-digit e) = rw (eqb-true' e)
   where
@@ -117,12 +117,12 @@ unfolding calm
 no-equals empty u d = number-no-equals _ (number-first u d)
 no-equals (next {b} e a) u d =
     let h = blank-calm b e in
-    not-true (eqb b 61) (and-eq-true-iff (not (eqb b 46)) _ .0 (and-eq-true-iff (not (is WordBytes b)) _ .0 h .1) .1)
+    not-true (eqb b 61) (and-eq-true-iff (not (eqb b 46)) _ .0 (and-eq-true-iff (not (isOf WordBytes b)) _ .0 h .1) .1)
 
 -- the same bytes, put together otherwise
 laid-as : {s : List ℕ} {at : ℕ} {b c : List ℕ} {e : ℕ} → b ≡ c → Laid s at b e → Laid s at c e
 laid-as {s} {at} {b} {c} {e} q d =
-    record { is = d .is ∙ ap (λ (x : List ℕ). x ++ drop e s) q; stop = d .stop ∙ ap (λ (x : List ℕ). at + length x) q; inside = d .inside }
+    record { isOf = d .is ∙ ap (λ (x : List ℕ). x ++ drop e s) q; stop = d .stop ∙ ap (λ (x : List ℕ). at + length x) q; inside = d .inside }
 
 -- what has a byte ends further on
 longer : {s : List ℕ} {at : ℕ} {b : List ℕ} {e : ℕ} → Laid s at b e → 1 ≤ length b → at < e
@@ -185,7 +185,7 @@ module _ (v l : List ℕ) where
       word : wordIn l at ≡ w
       to : wordTo l at ≡ from
 
-    word-there : {at s from : ℕ} {a w : List ℕ} → All Blanks a → AWord w → Laid l at a s → Laid l s w from → is WordBytes (getD (drop from l) 0 0) ≡ false → WordThere at w from
+    word-there : {at s from : ℕ} {a w : List ℕ} → All Blanks a → AWord w → Laid l at a s → Laid l s w from → isOf WordBytes (getD (drop from l) 0 0) ≡ false → WordThere at w from
     word-there {at} {s} {from} {a} {w} ba aw la lw n =
         let wf : wordFrom l at ≡ s = run-reads ba la (letter-first aw lw) in
         let wt : wordTo l at ≡ from = ap (runEnd WordBytes l) wf ∙ run-reads (word-bytes aw) lw n in
@@ -194,9 +194,9 @@ module _ (v l : List ℕ) where
           to = wt;
         }
       where
-        letter-first : {w : Word} {s from : ℕ} → AWord w → Laid l s w from → is Blanks (getD (drop s l) 0 0) ≡ false
+        letter-first : {w : Word} {s from : ℕ} → AWord w → Laid l s w from → isOf Blanks (getD (drop s l) 0 0) ≡ false
         letter-first (a-word {b} {rest} e r h) d =
-            ap (λ (x : List ℕ). is Blanks (getD x 0 0)) (d .is) ∙ ap (λ (c : ℕ). eqb c 2) (eqb-true (classOf b) 5 e)
+            ap (λ (x : List ℕ). isOf Blanks (getD x 0 0)) (d .is) ∙ ap (λ (c : ℕ). eqb c 2) (eqb-true (classOf b) 5 e)
 
     behind-value : (at : ℕ) {o : Piece} {xe e : ℕ} {b : List ℕ} → operandIn l at ≡ o → o .end ≡ xe → All Blanks b → Laid l xe b e → Stop l e
         → runEnd Blanks l (operandIn l at .end) ≡ e
@@ -207,19 +207,19 @@ module _ (v l : List ℕ) where
     after-calm : {xe e : ℕ} {b : List ℕ} → All Blanks b → Laid l xe b e → Stop l e → calm (getD (drop xe l) 0 0) ≡ true
     after-calm {xe} {e} ab lb st = ap (λ (x : List ℕ). calm (getD x 0 0)) (lb .is) ∙ first-calm ab (drop e l) (stop-calm (stop-byte st) .0)
 
-    value-op : {me xs xe : ℕ} {b x : List ℕ} → All Blanks b → All WordBytes x → 1 ≤ length x → Laid l me b xs → Laid l xs x xe → is WordBytes (getD (drop xe l) 0 0) ≡ false
-        → operandAt l kinds.colon me ≡ record { good = ltb xs xe; start = xs; end = xe }
+    value-op : {me xs xe : ℕ} {b x : List ℕ} → All Blanks b → All WordBytes x → 1 ≤ length x → Laid l me b xs → Laid l xs x xe → isOf WordBytes (getD (drop xe l) 0 0) ≡ false
+        → operandAt l kinds.colonOutside me ≡ record { good = ltb xs xe; start = xs; end = xe }
     unfolding operandAt valueAt
     value-op {me} {xs} {xe} {b} {x} ab ax one lb lx n =
         let r : runEnd Blanks l me ≡ xs = run-reads ab lb (first-word ax one lx) in
         let q : runEnd WordBytes l xs ≡ xe = run-reads ax lx n in
         rw (r, q)
       where
-        first-word : {x : List ℕ} {xs xe : ℕ} → All WordBytes x → 1 ≤ length x → Laid l xs x xe → is Blanks (getD (drop xs l) 0 0) ≡ false
+        first-word : {x : List ℕ} {xs xe : ℕ} → All WordBytes x → 1 ≤ length x → Laid l xs x xe → isOf Blanks (getD (drop xs l) 0 0) ≡ false
         first-word empty h d = absurd (omega arith)
-        first-word (next {b} e a) h d = ap (λ (y : List ℕ). is Blanks (getD y 0 0)) (d .is) ∙ word-not-blank b e
+        first-word (next {b} e a) h d = ap (λ (y : List ℕ). isOf Blanks (getD y 0 0)) (d .is) ∙ word-not-blank b e
 
-    number-op : (mark : ℕ) {me xe : ℕ} {b n : List ℕ} → eqb mark kinds.colon ≡ false → All Blanks b → Number n → digits n ≤ 15 → Laid l me (b ++ n) xe
+    number-op : (mark : ℕ) {me xe : ℕ} {b n : List ℕ} → eqb mark kinds.colonOutside ≡ false → All Blanks b → Number n → digits n ≤ 15 → Laid l me (b ++ n) xe
         → calm (getD (drop xe l) 0 0) ≡ true → operandAt l mark me ≡ record { good = true; start = me + length b; end = xe }
     unfolding operandAt numberAt
     number-op mark {me} {xe} {b} {n} k ab u d ln c =
@@ -235,14 +235,14 @@ module _ (v l : List ℕ) where
     mark-reads less ab d n = token-reads ab (a-mark (is-among marks 60 (60 ∷ []) refl)) (omega arith) d (rw n)
     mark-reads at-most ab d n = token-reads ab (a-mark (is-among marks 188 (60 ∷ 61 ∷ []) refl)) (omega arith) d refl
 
-    mark-no-word : {c : Comparator} → Orders c → {a : List ℕ} → All Blanks a → (d e : List ℕ) → is WordBytes (getD ((a ++ (markOf c ++ d)) ++ e) 0 0) ≡ false
+    mark-no-word : {c : Comparator} → Orders c → {a : List ℕ} → All Blanks a → (d e : List ℕ) → isOf WordBytes (getD ((a ++ (markOf c ++ d)) ++ e) 0 0) ≡ false
     unfolding markOf classOf
     mark-no-word more ab d e = first-not-word ab 62 d e refl
     mark-no-word at-least ab d e = first-not-word ab 62 (61 ∷ d) e refl
     mark-no-word less ab d e = first-not-word ab 60 d e refl
     mark-no-word at-most ab d e = first-not-word ab 60 (61 ∷ d) e refl
 
-    goes-value : (s : WordSort) → (s ≡ equality) ⊎ (s ≡ membership) → goesWith (sortByte s) kinds.colon ≡ true
+    goes-value : (s : WordSort) → (s ≡ equality) ⊎ (s ≡ membership) → goesWith (sortByte s) kinds.colonOutside ≡ true
     unfolding goesWith sortByte
     goes-value s (inl q) = rw q
     goes-value s (inr q) = rw q
@@ -250,7 +250,7 @@ module _ (v l : List ℕ) where
     -- a word with a value
     value-met : (at : ℕ) {e : ℕ} {a w a₂ b₂ x b p : List ℕ} {s : WordSort} → (s ≡ equality) ⊎ (s ≡ membership)
         → List·Memᴰ (record { word = w; path = p; sort = s }) (entriesIn v most 0) → All Blanks a → AWord w → All Blanks a₂ → All Blanks b₂ → AValue x → All Blanks b
-        → length x ≤ 127 → Laid l at (a ++ ((w ++ (a₂ ++ 58 ∷ (b₂ ++ x))) ++ b)) e → Stop l e → Met at (testBy (sortByte s) kinds.colon p x) e
+        → length x ≤ 127 → Laid l at (a ++ ((w ++ (a₂ ++ 58 ∷ (b₂ ++ x))) ++ b)) e → Stop l e → Met at (testBy (sortByte s) kinds.colonOutside p x) e
     unfolding classOf
     value-met at {e} {a} {w} {a₂} {b₂} {x} {b} {p} {s} kind m ba aw ba₂ bb₂ ax bb few d st =
         let d₁ = laid-split a ((w ++ (a₂ ++ 58 ∷ (b₂ ++ x))) ++ b) d in
@@ -259,7 +259,7 @@ module _ (v l : List ℕ) where
         let d₄ = laid-split (a₂ ++ 58 ∷ []) (b₂ ++ x) (laid-as (sym (append-assoc a₂ (58 ∷ []) (b₂ ++ x))) (d₃ .1)) in
         let d₅ = laid-split b₂ x (d₄ .1) in
         let c = after-calm bb (d₂ .1) st in
-        let no-word = ap (λ (y : List ℕ). is WordBytes (getD y 0 0)) (d₃ .1 .is) ∙ first-not-word ba₂ 58 (b₂ ++ x) _ refl in
+        let no-word = ap (λ (y : List ℕ). isOf WordBytes (getD y 0 0)) (d₃ .1 .is) ∙ first-not-word ba₂ 58 (b₂ ++ x) _ refl in
         let t = word-there ba aw (d₁ .0) (d₃ .0) no-word in
         let qm = ap (tokenAt l) (t .to) ∙ colon-reads ba₂ (d₄ .0) in
         let qo = ap (λ (y : Token). operandAt l (y .kind) (y .end)) qm ∙ value-op bb₂ (ax .all) (ax .some) (d₅ .0) (d₅ .1) (calm-not-word _ c) in
@@ -279,7 +279,7 @@ module _ (v l : List ℕ) where
         let d₄ = laid-split (a₂ ++ markOf c) (b₂ ++ n) (laid-as (sym (append-assoc a₂ (markOf c) (b₂ ++ n))) (d₃ .1)) in
         let d₅ = laid-split b₂ n (d₄ .1) in
         let k = after-calm bb (d₂ .1) st in
-        let no-word = ap (λ (y : List ℕ). is WordBytes (getD y 0 0)) (d₃ .1 .is) ∙ mark-no-word o ba₂ (b₂ ++ n) _ in
+        let no-word = ap (λ (y : List ℕ). isOf WordBytes (getD y 0 0)) (d₃ .1 .is) ∙ mark-no-word o ba₂ (b₂ ++ n) _ in
         let t = word-there ba aw (d₁ .0) (d₃ .0) no-word in
         let equals = ap (λ (y : List ℕ). eqb (getD y 0 0) 61) (d₄ .1 .is) ∙ no-equals bb₂ u _ in
         let qm = ap (tokenAt l) (t .to) ∙ mark-reads o ba₂ (d₄ .0) equals in

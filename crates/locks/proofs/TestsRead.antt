@@ -15,9 +15,9 @@ use Rattle.slices.specs.Ascii.{bytes}
 use Rattle.slices.specs.Parts.{part}
 use Rattle.tokens.specs.Bytes.{classOf}
 use Rattle.tokens.specs.Kinds as kinds
-use Rattle.tokens.specs.Runs.{is, run, runEnd}
+use Rattle.tokens.specs.Runs.{isOf, run, runEnd}
 use Rattle.tokens.specs.Tokens.{token, tokenAt}
-use Rattle.tokens.specs.Forms.{All, empty, next, Form, a-number, a-mark, Number, plain, minus, whole, pointed, digits-from, marks, digits}
+use Rattle.tokens.specs.Forms.{All, empty, next, Form, a-number, a-mark, Number, signless, minus, whole, pointed, digits-from, marks, digits}
 use Rattle.tokens.specs.declared.classes.Sort.the-variants.{Blanks, Digits, Letters, WordBytes}
 use Rattle.tokens.specs.declared.reader.Token.{Token}
 use Rattle.tokens.proofs.FormLaws.{isAmong, is-among}
@@ -71,7 +71,7 @@ comparator-of at-least = refl
 comparator-of less = refl
 comparator-of at-most = refl
 
-pub order-goes : {c : Comparator} → Orders c → (goesWith 3 (markKind c) ≡ true) × (eqb (markKind c) kinds.colon ≡ false) × (6 < markKind c)
+pub order-goes : {c : Comparator} → Orders c → (goesWith 3 (markKind c) ≡ true) × (eqb (markKind c) kinds.colonOutside ≡ false) × (6 < markKind c)
 unfolding goesWith markKind
 order-goes more = (refl, refl, omega arith)
 order-goes at-least = (refl, refl, omega arith)
@@ -80,7 +80,7 @@ order-goes at-most = (refl, refl, omega arith)
 
 -- what a mark goes with
 data Goes (sort mark : ℕ) : Type 0 where
-  with-value : (sort ≡ 1) ⊎ (sort ≡ 2) → mark ≡ kinds.colon → Goes sort mark
+  with-value : (sort ≡ 1) ⊎ (sort ≡ 2) → mark ≡ kinds.colonOutside → Goes sort mark
   with-number : sort ≡ 3 → OrderKind mark → Goes sort mark
 
 goes : (sort mark : ℕ) → goesWith sort mark ≡ true → Goes sort mark
@@ -263,14 +263,14 @@ module _ (v l : List ℕ) (good : isVocabulary v ≡ true) where
 
     operand-high : {n : ℕ} → Asked found (markIn l at .kind) (operandIn l at) n → operandIn l at .end ≤ length l
     unfolding operandAt
-    operand-high a = go (eqb (markIn l at .kind) kinds.colon) refl (a .operand)
+    operand-high a = go (eqb (markIn l at .kind) kinds.colonOutside) refl (a .operand)
       where
-        go : (t : Bool) → eqb (markIn l at .kind) kinds.colon ≡ t → cond t (valueAt l (markIn l at .end)) (numberAt l (markIn l at .end)) .good ≡ true
+        go : (t : Bool) → eqb (markIn l at .kind) kinds.colonOutside ≡ t → cond t (valueAt l (markIn l at .end)) (numberAt l (markIn l at .end)) .good ≡ true
             → cond t (valueAt l (markIn l at .end)) (numberAt l (markIn l at .end)) .end ≤ length l
         go true q g = value-laid l (markIn l at .end) (valueAt l (markIn l at .end)) mark-high refl g .laid .inside
         go false q g = number-laid l (markIn l at .end) (numberAt l (markIn l at .end)) mark-high refl g .laid .inside
 
-    value-said : WordFound (wordIn l at) found → (found .sort ≡ 1) ⊎ (found .sort ≡ 2) → markIn l at .kind ≡ kinds.colon
+    value-said : WordFound (wordIn l at) found → (found .sort ≡ 1) ⊎ (found .sort ≡ 2) → markIn l at .kind ≡ kinds.colonOutside
         → Asked found (markIn l at .kind) (operandIn l at) behind → TestSaid at (testIn v l read) behind
     unfolding operandAt
     value-said w s k a =

@@ -15,10 +15,10 @@ use Rattle.slices.specs.Same.{same}
 use Rattle.slices.proofs.Equal.{same-decides}
 use Rattle.tokens.specs.Bytes.{classOf}
 use Rattle.tokens.specs.Kinds as kinds
-use Rattle.tokens.specs.Runs.{is, run, runEnd}
+use Rattle.tokens.specs.Runs.{isOf, run, runEnd}
 use Rattle.tokens.specs.Tokens.{token, tokenAt, Reads}
 use Rattle.tokens.specs.Words.{wordKind}
-use Rattle.tokens.specs.Forms.{All, empty, next, Form, a-word, a-string, a-number, a-mark, Number, plain, minus, whole, pointed, digits-from, Among, first, later, marks, digits, sizeOf, mostOf, Longest, Stands, end-of-text, a-token, too-long, a-colon, bad-byte, unended, bad-inside, StandsAt}
+use Rattle.tokens.specs.Forms.{All, empty, next, Form, a-word, a-string, a-number, a-mark, Number, signless, minus, whole, pointed, digits-from, Among, first, later, marks, digits, sizeOf, mostOf, Longest, Stands, end-of-text, a-token, too-long, a-colon, bad-byte, unended, bad-inside, StandsAt}
 use Rattle.tokens.specs.declared.classes.Sort.{Sort}
 use Rattle.tokens.specs.declared.classes.Sort.the-variants.{Blanks, Digits, Letters, WordBytes}
 use Rattle.tokens.specs.declared.reader.Token.{Token}
@@ -56,11 +56,11 @@ run-laid sort l at h = go (drop at l) (split-run sort (drop at l)) refl
         record {
           bytes = p;
           all = a;
-          laid = record { is = e ∙ ap (λ (t : List ℕ). p ++ t) (sym (ap (λ (m : ℕ). drop m l) z ∙ k)); stop = z; inside = high sort l at h };
+          laid = record { isOf = e ∙ ap (λ (t : List ℕ). p ++ t) (sym (ap (λ (m : ℕ). drop m l) z ∙ k)); stop = z; inside = high sort l at h };
         }
 
 -- a run that stands there is read to its end
-pub run-reads : {sort : Sort} {l p : List ℕ} {at e : ℕ} → All sort p → Laid l at p e → is sort (getD (drop e l) 0 0) ≡ false → runEnd sort l at ≡ e
+pub run-reads : {sort : Sort} {l p : List ℕ} {at e : ℕ} → All sort p → Laid l at p e → isOf sort (getD (drop e l) 0 0) ≡ false → runEnd sort l at ≡ e
 run-reads {sort} {l} {p} {at} {e} a d n = let r : run sort (drop at l) ≡ length p = ap (run sort) (d .is) ∙ run-is a (drop e l) n in omega (arith, d .stop)
 
 -- ---- tokens, where they lie
@@ -98,7 +98,7 @@ pub record ColonLaid (l : List ℕ) (at : ℕ) (t : Token) : Type 0 where
   pub passed : All Blanks blanks
   pub laid : Laid l at (blanks ++ 58 ∷ []) (t .end)
 
-pub colon-laid : (l : List ℕ) (at : ℕ) → at ≤ length l → tokenAt l at .kind ≡ kinds.colon → ColonLaid l at (tokenAt l at)
+pub colon-laid : (l : List ℕ) (at : ℕ) → at ≤ length l → tokenAt l at .kind ≡ kinds.colonOutside → ColonLaid l at (tokenAt l at)
 colon-laid l at h q = let s = longest-token l at h in go (s .blanks) (s .rest) (s .parts) (s .passed) (s .stands) q (reads l at h .high)
   where
     go : {t : Token} (b rest : List ℕ) → drop at l ≡ b ++ rest → All Blanks b → Stands (at + length b) rest t → t .kind ≡ 4 → t .end ≤ length l → ColonLaid l at t
@@ -113,7 +113,7 @@ colon-laid l at h q = let s = longest-token l at h in go (s .blanks) (s .rest) (
           passed = a;
           laid =
               record {
-                is = e ∙ sym (append-assoc b (58 ∷ []) _ ∙ ap (λ (x : List ℕ). b ++ 58 ∷ x) d');
+                isOf = e ∙ sym (append-assoc b (58 ∷ []) _ ∙ ap (λ (x : List ℕ). b ++ 58 ∷ x) d');
                 stop = omega (arith, length-append b (58 ∷ []));
                 inside = k;
               };
@@ -123,7 +123,7 @@ colon-laid l at h q = let s = longest-token l at h in go (s .blanks) (s .rest) (
     go b rest e a (bad-inside r f s o) z k = absurd (omega arith)
 
 -- a token that stands there is read
-stands-there : (l : List ℕ) (at : ℕ) {b : List ℕ} {t : Token} → All Blanks b → (rest : List ℕ) → drop at l ≡ b ++ rest → at ≤ length l → is Blanks (getD rest 0 0) ≡ false → Stands (at + length b) rest t → tokenAt l at ≡ t
+stands-there : (l : List ℕ) (at : ℕ) {b : List ℕ} {t : Token} → All Blanks b → (rest : List ℕ) → drop at l ≡ b ++ rest → at ≤ length l → isOf Blanks (getD rest 0 0) ≡ false → Stands (at + length b) rest t → tokenAt l at ≡ t
 stands-there l at {b} a rest q h n s =
     one-token l at _ _ (longest-token l at h) (record { blanks = b; rest = rest; parts = q; passed = a; no-blank = n; stands = s })
 
@@ -137,7 +137,7 @@ module _ {l b : List ℕ} {at e : ℕ} (a : All Blanks b) where
       (stands-there l at a (p ++ drop e l) (d .is ∙ append-assoc b p (drop e l)) (omega (arith, d .stop, d .inside)) (form-first f (drop e l))
       (a-token (form-longest f (drop e l) n) s))
 
-  pub colon-reads : Laid l at (b ++ 58 ∷ []) e → tokenAt l at ≡ token kinds.colon (at + length b) e
+  pub colon-reads : Laid l at (b ++ 58 ∷ []) e → tokenAt l at ≡ token kinds.colonOutside (at + length b) e
   unfolding reach classOf
   colon-reads d =
       let z : at + length b + 1 ≡ e = omega (arith, d .stop, length-append b (58 ∷ [])) in

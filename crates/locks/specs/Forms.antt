@@ -7,7 +7,7 @@ use Prim.Native.Nat.{ℕ, _≤_}
 use Prim.Native.Char.{code}
 use lib.ListN.{length}
 use Rattle.tokens.specs.Forms.{All, Number}
-use Rattle.tokens.specs.Runs.{is}
+use Rattle.tokens.specs.Runs.{isOf}
 use Rattle.tokens.specs.declared.classes.Sort.the-variants.{Blanks, Letters, WordBytes}
 use Rattle.bags.specs.Forms.{InTurn}
 use Rattle.bags.specs.Paths.{isPath}
@@ -40,7 +40,7 @@ pub record Entry : Type 0 where
 
 -- a word of document 01: a letter, then letters, digits, `_`, `-`, 64 bytes at most; reserved words are words
 pub data AWord : Word → Type 0 where
-  a-word : {b : ℕ} {rest : Word} → is Letters b ≡ true → All WordBytes rest → length (b ∷ rest) ≤ 64 → AWord (b ∷ rest)
+  a-word : {b : ℕ} {rest : Word} → isOf Letters b ≡ true → All WordBytes rest → length (b ∷ rest) ≤ 64 → AWord (b ∷ rest)
 
 -- an entry: a length byte and the word, a length byte and the path, a byte for the sort
 pub data EntryBytes : List ℕ → Entry → Type 0 where

@@ -11,11 +11,11 @@ use Rattle.slices.specs.Ascii.{bytes}
 use Rattle.slices.specs.Parts.{part}
 use Rattle.slices.specs.Same.{same}
 use Rattle.tokens.specs.Kinds as kinds
-use Rattle.tokens.specs.Runs.{is, runEnd}
+use Rattle.tokens.specs.Runs.{isOf, runEnd}
 use Rattle.tokens.specs.Tokens.{tokenAt}
 use Rattle.tokens.specs.declared.classes.Sort.the-variants.{Blanks, WordBytes, StringBytes}
 use Rattle.tokens.specs.declared.reader.Token.{Token}
-use Rattle.bags.specs.Paths.{every, isWord, isPath}
+use Rattle.bags.specs.Paths.{every, isWordBytes, isPath}
 use Rattle.bags.specs.Reading.{byte}
 use Rattle.grammar.specs.Policies.{Comparator, Comparator.More, Comparator.AtLeast, Comparator.Less, Comparator.AtMost}
 use Rattle.placing.specs.Said.{Word}
@@ -78,7 +78,7 @@ most = 16
 
 -- a word of document 01: 64 bytes at most
 unfoldable pub isShortWord : Word → Bool
-isShortWord w = leb (length w) 64 && isWord w
+isShortWord w = leb (length w) 64 && isWordBytes w
 
 -- an entry of a vocabulary, whose word no later one has
 unfoldable pub isEntry : List ℕ → EntryPlaces → Bool
@@ -105,8 +105,8 @@ pub record Lies (v : List ℕ) (e : EntryPlaces) : Type 0 where
   pub next-high : e .next ≤ length v
 
 -- which entry is answered, and that it lies in the vocabulary
-pub record EntryIs (v : List ℕ) (e is : EntryPlaces) : Type 0 where
-  pub answer : e ≡ is
+pub record EntryIs (v : List ℕ) (e isOf : EntryPlaces) : Type 0 where
+  pub answer : e ≡ isOf
   pub lies : Lies v e
 
 -- ---- a test
@@ -122,7 +122,7 @@ noPiece = record { good = false; start = 0; end = 0 }
 -- a mark goes with a word's sort: `:` with equality and membership, `>`, `>=`, `<` and `<=` with numbers
 unfoldable pub goesWith : ℕ → ℕ → Bool
 goesWith sort mark =
-    (eqb sort equality || eqb sort membership) && eqb mark kinds.colon
+    (eqb sort equality || eqb sort membership) && eqb mark kinds.colonOutside
     || eqb sort numbers && (eqb mark kinds.more || eqb mark kinds.atLeast || eqb mark kinds.less || eqb mark kinds.atMost)
 
 -- a value from `start` up to `end`
@@ -147,7 +147,7 @@ numberAt l at = numberFrom (tokenAt l at)
 
 -- what stands behind a mark: a value behind `:`, a number behind the others
 unfoldable pub operandAt : List ℕ → ℕ → ℕ → Piece
-operandAt l mark at = cond (eqb mark kinds.colon) (valueAt l at) (numberAt l at)
+operandAt l mark at = cond (eqb mark kinds.colonOutside) (valueAt l at) (numberAt l at)
 
 -- a lock ends at a place, or a `&` stands there
 unfoldable pub goesOn : List ℕ → ℕ → Bool
@@ -160,8 +160,8 @@ pub record LiesFrom (l : List ℕ) (at : ℕ) (p : Piece) : Type 0 where
   pub high : p .end ≤ length l
 
 -- which part is answered, and that it lies in the bytes from a place on
-pub record PieceIs (l : List ℕ) (at : ℕ) (p is : Piece) : Type 0 where
-  pub answer : p ≡ is
+pub record PieceIs (l : List ℕ) (at : ℕ) (p isOf : Piece) : Type 0 where
+  pub answer : p ≡ isOf
   pub lies : LiesFrom l at p
 
 -- a test of a word's entry, the mark behind the word, the operand, and the place behind the blanks behind that
@@ -203,8 +203,8 @@ pub record TestLies (v l : List ℕ) (t : TestPlaces) : Type 0 where
   pub next-high : t .next ≤ length l
 
 -- which test is answered, and that it lies in vocabulary and lock
-pub record TestIs (v l : List ℕ) (t is : TestPlaces) : Type 0 where
-  pub answer : t ≡ is
+pub record TestIs (v l : List ℕ) (t isOf : TestPlaces) : Type 0 where
+  pub answer : t ≡ isOf
   pub lies : TestLies v l t
 
 -- the comparator of a mark
@@ -234,7 +234,7 @@ testIn v l t = testBy (t .sort) (t .mark) (part v (t .path) (t .stop - t .path))
 
 -- a string of document 01
 unfoldable pub isString : List ℕ → Bool
-isString s = leb (length s) 127 && every (is StringBytes) s
+isString s = leb (length s) 127 && every (isOf StringBytes) s
 
 -- the string behind the length byte at a place
 unfoldable pub actionAt : List ℕ → ℕ → Piece
@@ -244,8 +244,8 @@ actionAt a at =
     noPiece
 
 -- what a caller may know of an action's places
-pub record ActionIs (a : List ℕ) (p is : Piece) : Type 0 where
-  pub answer : p ≡ is
+pub record ActionIs (a : List ℕ) (p isOf : Piece) : Type 0 where
+  pub answer : p ≡ isOf
   pub order : p .start ≤ p .end
   pub high : p .end ≤ length a
   pub few : p .end ≤ p .start + 127
@@ -313,8 +313,8 @@ sizeOf k sep text none = Bad
 sizeOf k sep text (some xs) = Of (k + length (between sep (map text xs)))
 
 -- which size is answered, and that it is no more than this
-pub record SizeIs (r is : Size) (few : ℕ) : Type 0 where
-  pub answer : r ≡ is
+pub record SizeIs (r isOf : Size) (few : ℕ) : Type 0 where
+  pub answer : r ≡ isOf
   pub small : (n : ℕ) → r ≡ Of n → n ≤ few
 
 -- whether there are some

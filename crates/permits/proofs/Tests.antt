@@ -8,13 +8,13 @@ use lib.ListN.{length, getD, length-append}
 use borrow.Author.Tests.{not-true}
 use Rattle.slices.specs.Ascii.{bytes}
 use Rattle.tokens.specs.Kinds as kinds
-use Rattle.tokens.specs.Runs.{is}
+use Rattle.tokens.specs.Runs.{isOf}
 use Rattle.tokens.specs.Forms.{empty, next, quote, Form, a-word, a-string, a-number, digits}
 use Rattle.tokens.specs.declared.classes.Sort.the-variants.{WordBytes}
 use Rattle.tokens.proofs.TokenLaws.{and-left}
 use Rattle.grammar.specs.Policies.{Root.Principal, Root.Action, Comparator, Comparator.Equal}
 use Rattle.grammar.specs.Policies.{TreeOf, both}
-use Rattle.grammar.specs.Rules.{mostInside}
+use Rattle.tokens.specs.Sizes.{mostInside}
 use Rattle.grammar.specs.Grammar.{sizes, Simple, Condition, Conjunction}
 use Rattle.placing.specs.Placed.{IsName, a-name, IsPath, one-name, one-more, Each, none-left, and-each}
 use Rattle.placing.specs.Said.{Word, treeWords}
@@ -39,7 +39,7 @@ abbrev pub space : List ℕ
 space = bytes " "
 
 -- a byte that makes no token longer is of no word
-calm-word : (c : ℕ) → calm c ≡ true → is WordBytes c ≡ false
+calm-word : (c : ℕ) → calm c ≡ true → isOf WordBytes c ≡ false
 unfolding calm
 calm-word c h = not-true _ (and-left _ _ h)
 
@@ -49,7 +49,7 @@ calm-word c h = not-true _ (and-left _ _ h)
 name-form : {n : Word} → IsName n → Form kinds.name n
 name-form (a-name {b} {rest} l a k) = subst (λ (i : ℕ). Form i (b ∷ rest)) k (a-word l a)
 
-name-apart : {n : Word} → IsName n → (c : ℕ) → is WordBytes c ≡ false → apart n c ≡ true
+name-apart : {n : Word} → IsName n → (c : ℕ) → isOf WordBytes c ≡ false → apart n c ≡ true
 unfolding apart
 name-apart (a-name l a k) c h = rw (l, h)
 
@@ -58,7 +58,7 @@ record PathLaid (p : Word) : Type 0 where
   tokens : List Written
   prints : PrintsPath [] tokens p
   text : laidOut tokens ≡ p
-  well : (q : List ℕ) → is WordBytes (getD q 0 0) ≡ false → WellWritten tokens q
+  well : (q : List ℕ) → isOf WordBytes (getD q 0 0) ≡ false → WellWritten tokens q
 
 path-laid : {p : Word} → IsPath p → PathLaid p
 unfolding written-opened
@@ -110,7 +110,7 @@ module _ (p : Word) (i : isPath p ≡ true) where
   unfolding attributeTokens written-opened
   attribute-text = rw (path-is .text)
 
-  attribute-well : (q : List ℕ) → is WordBytes (getD q 0 0) ≡ false → WellWritten attributeTokens q
+  attribute-well : (q : List ℕ) → isOf WordBytes (getD q 0 0) ≡ false → WellWritten attributeTokens q
   unfolding attributeTokens written-opened
   attribute-well q h = well-fixed (well-fixed (path-is .well q h) refl) refl
 

@@ -10,8 +10,8 @@ use lib.ListN.{length, length-append}
 use borrow.Author.Tests.{eqb-true, ne-eqb, leb-true, le-leb}
 use Rattle.slices.specs.Ascii.{bytes}
 use Rattle.tokens.specs.Bytes.{classOf, within, oneOf, letter, digit, mark, blank, textOnly}
-use Rattle.tokens.specs.Runs.{is}
-use Rattle.tokens.specs.Forms.{All, empty, next, SomeDigits, digits-from, Unsigned, whole, pointed, Number, plain, minus, digits}
+use Rattle.tokens.specs.Runs.{isOf}
+use Rattle.tokens.specs.Forms.{All, empty, next, SomeDigits, digits-from, Unsigned, whole, pointed, Number, signless, minus, digits}
 use Rattle.tokens.specs.declared.classes.Sort.the-variants.{Digits, Letters, WordBytes, StringBytes}
 use Rattle.tokens.proofs.TokenLaws.{never, and-left, and-right, or-cases, digit-byte, markBytes}
 
@@ -26,7 +26,7 @@ letter-tells false false false true n e = absurd (never e)
 letter-tells false false false false true e = absurd (never e)
 letter-tells false false false false false e = absurd (never e)
 
-letter-byte : (b : ℕ) → is Letters b ≡ true → (65 ≤ b) × (b ≤ 122)
+letter-byte : (b : ℕ) → isOf Letters b ≡ true → (65 ≤ b) × (b ≤ 122)
 unfolding classOf
 letter-byte b e =
     let l = letter-tells (within 65 90 b || within 97 122 b) (within 48 57 b) (oneOf (bytes " \t\n\r") b) (oneOf markBytes b) (ltb b 0x20 || eqb b 0x7f) e in
@@ -41,16 +41,16 @@ letter-byte b e =
     le-between : 97 ≤ b → 65 ≤ b
     le-between h = omega arith
 
-word-range : (b : ℕ) → is WordBytes b ≡ true → (45 ≤ b) × (b ≤ 122)
-word-range b e = go (is Letters b) (is Digits b) (eqb b 95) refl refl refl e
+word-range : (b : ℕ) → isOf WordBytes b ≡ true → (45 ≤ b) × (b ≤ 122)
+word-range b e = go (isOf Letters b) (isOf Digits b) (eqb b 95) refl refl refl e
   where
-    go : (l d u : Bool) → is Letters b ≡ l → is Digits b ≡ d → eqb b 95 ≡ u → (l || d || u || eqb b 45) ≡ true → (45 ≤ b) × (b ≤ 122)
+    go : (l d u : Bool) → isOf Letters b ≡ l → isOf Digits b ≡ d → eqb b 95 ≡ u → (l || d || u || eqb b 45) ≡ true → (45 ≤ b) × (b ≤ 122)
     go true d u p q r h = let t = letter-byte b p in (omega arith, omega arith)
     go false true u p q r h = let t = digit-byte b q in (omega arith, omega arith)
     go false false true p q r h = let t = eqb-true b 95 r in (omega arith, omega arith)
     go false false false p q r h = let t = eqb-true b 45 h in (omega arith, omega arith)
 
-word-string : (b : ℕ) → is WordBytes b ≡ true → is StringBytes b ≡ true
+word-string : (b : ℕ) → isOf WordBytes b ≡ true → isOf StringBytes b ≡ true
 word-string b e =
     let r = word-range b e in
     rw (le-leb 32 b (omega arith), ne-eqb b 127 (λ z. omega arith), ne-eqb b 34 (λ z. omega arith))
@@ -72,7 +72,7 @@ some-digits (digits-from e a) = all-digits (next e a)
 digits-append : (a b : List ℕ) → digits (a ++ b) ≡ digits a + digits b
 unfolding digits
 digits-append [] b = omega arith
-digits-append (c ∷ a) b = go (is Digits c) (digits-append a b)
+digits-append (c ∷ a) b = go (isOf Digits c) (digits-append a b)
   where
     go : (t : Bool) → digits (a ++ b) ≡ digits a + digits b → cond t (suc (digits (a ++ b))) (digits (a ++ b)) ≡ cond t (suc (digits a)) (digits a) + digits b
     go true e = omega arith
@@ -85,5 +85,5 @@ unsigned-long (pointed {w} {f} s t) = omega (arith, some-digits s, some-digits t
 
 pub number-long : {l : List ℕ} → Number l → length l ≤ digits l + 2
 unfolding digits classOf
-number-long (plain u) = let h = unsigned-long u in omega arith
+number-long (signless u) = let h = unsigned-long u in omega arith
 number-long (minus u) = let h = unsigned-long u in omega arith

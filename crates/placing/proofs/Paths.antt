@@ -13,7 +13,7 @@ use Rattle.slices.specs.Ascii.{bytes}
 use Rattle.slices.proofs.Equal.{same-decides}
 use Rattle.tokens.specs.Bytes.{classOf, letter, digit}
 use Rattle.tokens.specs.Kinds as kinds
-use Rattle.tokens.specs.Runs.{is}
+use Rattle.tokens.specs.Runs.{isOf}
 use Rattle.tokens.specs.Forms.{All, empty, next}
 use Rattle.tokens.specs.declared.classes.Sort.the-variants.{Blanks, Letters, WordBytes}
 use Rattle.tokens.proofs.TokenLaws.{and-left, and-right}
@@ -24,19 +24,19 @@ use Rattle.grammar.specs.Rules.{spanOf, admitted}
 use Rattle.grammar.specs.Grammar.{sizes, Path, firstPath, longerPath, spanned, first, NextName, APath}
 use Rattle.grammar.specs.Grammar as grammar
 use Rattle.tokens.specs.Blanks.{unblanked}
-use Rattle.placing.specs.Placed.{pathAt, IsName, a-name, one-name, one-more, PathPlaced}
+use Rattle.placing.specs.Placed.{unblankedAt, IsName, a-name, one-name, one-more, PathPlaced}
 use Rattle.placing.proofs.Standing.{between, length-between, name-form, dot-form, Lexed, Running, token}
 
 -- ---- without blanks
 
-blankless : (b : ℕ) (l : List ℕ) → is Blanks b ≡ false → unblanked (b ∷ l) ≡ b ∷ unblanked l
+blankless : (b : ℕ) (l : List ℕ) → isOf Blanks b ≡ false → unblanked (b ∷ l) ≡ b ∷ unblanked l
 unfolding unblanked
 blankless b l e = rw e
 
 pub unblanked-append : (a b : List ℕ) → unblanked (a ++ b) ≡ unblanked a ++ unblanked b
 unfolding unblanked
 unblanked-append [] b = refl
-unblanked-append (c ∷ a) b = go (is Blanks c) (unblanked-append a b)
+unblanked-append (c ∷ a) b = go (isOf Blanks c) (unblanked-append a b)
   where
     go : (t : Bool) → unblanked (a ++ b) ≡ unblanked a ++ unblanked b
         → cond t (unblanked (a ++ b)) (c ∷ unblanked (a ++ b)) ≡ cond t (unblanked a) (c ∷ unblanked a) ++ unblanked b
@@ -48,14 +48,14 @@ unfolding unblanked
 unblanked-blanks empty = refl
 unblanked-blanks (next e a) = rw e (unblanked-blanks a)
 
-letter-no-blank : (b : ℕ) → is Letters b ≡ true → is Blanks b ≡ false
+letter-no-blank : (b : ℕ) → isOf Letters b ≡ true → isOf Blanks b ≡ false
 letter-no-blank b e = rw (eqb-true (classOf b) letter e)
 
-word-no-blank : (b : ℕ) → is WordBytes b ≡ true → is Blanks b ≡ false
+word-no-blank : (b : ℕ) → isOf WordBytes b ≡ true → isOf Blanks b ≡ false
 unfolding classOf
 word-no-blank b e = go (eqb (classOf b) letter) (eqb (classOf b) digit) (eqb b (code "_")) refl refl refl
   where
-    go : (l d u : Bool) → eqb (classOf b) letter ≡ l → eqb (classOf b) digit ≡ d → eqb b (code "_") ≡ u → is Blanks b ≡ false
+    go : (l d u : Bool) → eqb (classOf b) letter ≡ l → eqb (classOf b) digit ≡ d → eqb b (code "_") ≡ u → isOf Blanks b ≡ false
     go true d u p q r = letter-no-blank b p
     go false true u p q r = rw (eqb-true (classOf b) digit q)
     go false false true p q r = rw (eqb-true b (code "_") r)
@@ -107,13 +107,13 @@ admitted-few Action used x e s = let a = admitted-action used x e in omega (arit
 -- it lies in the text, and its bytes are counted
 pub record Walked (text : List ℕ) (root : Root) (p : Path) : Type 0 where
   pub placed : PathPlaced text root (spanned p)
-  pub counted : p .used ≡ length (pathAt text (spanned p))
+  pub counted : p .used ≡ length (unblankedAt text (spanned p))
 
 module _ {text : List ℕ} {root : Root} where
   first-walked : {at : ℕ} {x : Lexeme} → Lexed text at x → x .kind ≡ kinds.name → admitted root 0 x ≡ true → Walked text root (firstPath x)
   first-walked {at} {x} l k a =
       let name = name-form (l .form (omega arith)) k in
-      let here : pathAt text (spanOf x) ≡ x .bytes = rw (← l .bytes) (unblanked-name name) in
+      let here : unblankedAt text (spanOf x) ≡ x .bytes = rw (← l .bytes) (unblanked-name name) in
       record {
         placed = record {
           lies = record { some = l .some; high = l .high };
@@ -140,10 +140,10 @@ module _ {text : List ℕ} {root : Root} where
         dot,
         unblanked-name name,
       ) in
-      let here : pathAt text (span (p .start) (x .end)) ≡ pathAt text (spanned p) ++ kinds.dot ∷ x .bytes =
+      let here : unblankedAt text (span (p .start) (x .end)) ≡ unblankedAt text (spanned p) ++ kinds.dot ∷ x .bytes =
       rw (between-joins text (p .start) (p .end) (x .end) (omega arith) (omega arith), unblanked-append, two) in
-      let size : length (pathAt text (span (p .start) (x .end))) ≡ p .used + 1 + size x =
-      omega (arith, ap length here, length-append (pathAt text (spanned p)) (kinds.dot ∷ x .bytes), size-is l, w .counted) in
+      let size : length (unblankedAt text (span (p .start) (x .end))) ≡ p .used + 1 + size x =
+      omega (arith, ap length here, length-append (unblankedAt text (spanned p)) (kinds.dot ∷ x .bytes), size-is l, w .counted) in
       record {
         placed = record {
           lies = record { some = omega arith; high = l .high };

@@ -7,7 +7,7 @@ use Prim.Native.Nat.{ℕ}
 use lib.Dec.{eqb}
 use lib.ListN.{getD}
 use borrow.Author.Tests.{eqb-true}
-use Rattle.tokens.specs.Runs.{is}
+use Rattle.tokens.specs.Runs.{isOf}
 use Rattle.tokens.specs.Words.{wordKind}
 use Rattle.tokens.specs.Forms.{All, empty, next, marks, Form, a-word, a-mark}
 use Rattle.tokens.specs.declared.classes.Sort.{Sort}
@@ -19,34 +19,34 @@ use Rattle.spelling.specs.Spelling.{apart, calm}
 use Rattle.spelling.specs.Layout.{Written, written, laidOut, readAs, standing, WellWritten, one}
 use Rattle.spelling.proofs.Apart.{calm-apart}
 
-all-of : (sort : Sort) (l : List ℕ) → every (is sort) l ≡ true → All sort l
+all-of : (sort : Sort) (l : List ℕ) → every (isOf sort) l ≡ true → All sort l
 unfolding every
 all-of sort [] e = empty
-all-of sort (b ∷ l) e = next (and-left _ _ e) (all-of sort l (and-right (is sort b) _ e))
+all-of sort (b ∷ l) e = next (and-left _ _ e) (all-of sort l (and-right (isOf sort b) _ e))
 
 -- bytes that are a word of this kind
 isWord : ℕ → List ℕ → Bool
 isWord kind [] = false
-isWord kind (b ∷ l) = is Letters b && (every (is WordBytes) l && eqb (wordKind (b ∷ l)) kind)
+isWord kind (b ∷ l) = isOf Letters b && (every (isOf WordBytes) l && eqb (wordKind (b ∷ l)) kind)
 
 word-form : (kind : ℕ) (l : List ℕ) → isWord kind l ≡ true → Form kind l
 unfolding isWord
 word-form kind [] e = absurd (never e)
 word-form kind (b ∷ l) e =
-    let rest = and-right (is Letters b) _ e in
-    subst (λ (k : ℕ). Form k (b ∷ l)) (eqb-true (wordKind (b ∷ l)) kind (and-right (every (is WordBytes) l) _ rest))
+    let rest = and-right (isOf Letters b) _ e in
+    subst (λ (k : ℕ). Form k (b ∷ l)) (eqb-true (wordKind (b ∷ l)) kind (and-right (every (isOf WordBytes) l) _ rest))
     (a-word (and-left _ _ e) (all-of WordBytes l (and-left _ _ rest)))
 
 -- a word or a mark of its kind behind blanks, that the next byte makes no longer
 unfoldable pub isFixed : Written → ℕ → Bool
 unfolding isWord
-isFixed x b = every (is Blanks) (x .blanks) && ((isWord (x .kind) (x .bytes) || isAmong marks (x .kind) (x .bytes)) && apart (x .bytes) b)
+isFixed x b = every (isOf Blanks) (x .blanks) && ((isWord (x .kind) (x .bytes) || isAmong marks (x .kind) (x .bytes)) && apart (x .bytes) b)
 
 module _ {xs : List Written} {q : List ℕ} (w : WellWritten xs q) where
   pub well-fixed : {x : Written} → isFixed x (getD (laidOut xs ++ q) 0 0) ≡ true → WellWritten (x ∷ xs) q
   unfolding isFixed
   well-fixed {x} e =
-      let rest = and-right (every (is Blanks) (x .blanks)) _ e in
+      let rest = and-right (every (isOf Blanks) (x .blanks)) _ e in
       let form = and-left _ _ rest in
       one (all-of Blanks (x .blanks) (and-left _ _ e))
       (⊎-elim (λ (h : isWord (x .kind) (x .bytes) ≡ true). word-form (x .kind) (x .bytes) h)

@@ -25,7 +25,7 @@ use Rattle.grammar.specs.Grammar.{sizes, Path, APath, rooted, Attribute, AnOper
 use Rattle.grammar.specs.Grammar.{Condition, Conjunction, Conditions}
 use Rattle.grammar.specs.Grammar.{Typed, ResourceRest, ActionRest, When, PolicyRest}
 use Rattle.grammar.specs.Grammar as grammar
-use Rattle.placing.specs.Placed.{bytesAt, quotedAt, pathAt}
+use Rattle.placing.specs.Placed.{bytesAt, quotedAt, unblankedAt}
 use Rattle.placing.specs.Said.{Word, literalWords, listWords, operandWords, treeWords, partWords, actionWords, conditionWords, policyWords, wordsOf}
 use Rattle.placing.proofs.Paths.{unblanked-append, unblanked-blanks, unblanked-name, lone-dot}
 use Rattle.spelling.specs.Layout.{Written, written, laidOut, readAs, lexemeOf, standing}
@@ -173,7 +173,7 @@ path-bytes (printing.PrintsPath.more {xs = xs} {p = p} {n = m} {c = c} {d = d} k
 
 -- so they are in every text that has them
 path-says : {b : List ℕ} {xs : List Written} {p : Word} (t : List ℕ) (at : ℕ) → PrintsPath b xs p → HasAt t at (laidOut xs)
-    → pathAt t (span (at + length b) (past at xs)) ≡ p
+    → unblankedAt t (span (at + length b) (past at xs)) ≡ p
 path-says {b} {xs} t at k h =
     let s = path-starts k in
     let l = s .0 in

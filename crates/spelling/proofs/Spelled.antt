@@ -13,7 +13,7 @@ use Rattle.reading.proofs.Listed.{tokens-are, one-list}
 use Rattle.grammar.specs.Policies.{Policy}
 use Rattle.grammar.specs.Grammar.{RuleText, sizes, SaysPolicies}
 use Rattle.placing.specs.Placed.{Each, none-left, and-each}
-use Rattle.spelling.specs.Spelling.{Spelling, said, saidBy, calm}
+use Rattle.spelling.specs.Spelling.{Spelling, lexemeSays, spellingSays, calm}
 use Rattle.spelling.specs.Layout.{Written, laidOut, standing, WellWritten, none, one, Sized, singly, spelled}
 use Rattle.spelling.proofs.Apart.{form-longest, calm-apart}
 use Rattle.spelling.proofs.Laid.{Laid, Laid.blank, Laid.before, Fine, fine, read-fitting, read-sized, form-next, behind-token, laid-stand, tokens-laid}
@@ -65,25 +65,25 @@ singly-well a (x ∷ y ∷ xs) = one a (x .form) (calm-apart (x .bytes) 32 refl)
 pub tokens-spelled : (xs : List Spelling) → tokensOf (spelled xs) ≡ standing 0 (singly [] xs)
 tokens-spelled xs = tokens-laid-out (singly-well empty xs)
 
-said-standing : (at : ℕ) (b : List ℕ) (xs : List Spelling) → map said (standing at (singly b xs)) ≡ map saidBy xs
+said-standing : (at : ℕ) (b : List ℕ) (xs : List Spelling) → map lexemeSays (standing at (singly b xs)) ≡ map spellingSays xs
 unfolding standing singly
 said-standing at b [] = refl
 said-standing at b (x ∷ xs) =
     rw (read-fitting (x .kind) (x .bytes) (x .fits))
-    (ap (λ (l : List (ℕ × List ℕ)). saidBy x ∷ l) (said-standing (at + length b + length (x .bytes)) (32 ∷ []) xs))
+    (ap (λ (l : List (ℕ × List ℕ)). spellingSays x ∷ l) (said-standing (at + length b + length (x .bytes)) (32 ∷ []) xs))
 
 -- apart from their places: with these kinds and bytes
-pub said-spelled : (xs : List Spelling) → map said (tokensOf (spelled xs)) ≡ map saidBy xs
-said-spelled xs = ap (map said) (tokens-spelled xs) ∙ said-standing 0 [] xs
+pub said-spelled : (xs : List Spelling) → map lexemeSays (tokensOf (spelled xs)) ≡ map spellingSays xs
+said-spelled xs = ap (map lexemeSays) (tokens-spelled xs) ∙ said-standing 0 [] xs
 
 -- ---- the spellings of a text
 
-spell : {at : ℕ} {text : List ℕ} {ts : List Lexeme} → Laid at text ts → (xs : List Spelling) × (map said ts ≡ map saidBy xs)
+spell : {at : ℕ} {text : List ℕ} {ts : List Lexeme} → Laid at text ts → (xs : List Spelling) × (map lexemeSays ts ≡ map spellingSays xs)
 spell (Laid.blank a) = ([], refl)
 spell (Laid.before {kind = kind} {p = p} a l f k) =
     let r = spell k in
     (record { kind = kind; bytes = p; form = l .form; fits = f } ∷ r .0, ap (λ (l : List (ℕ × List ℕ)). (kind, p) ∷ l) (r .1))
 
 -- a text without refused tokens has spellings, and with single blanks between them it says the same tokens
-pub spellings : (text : List ℕ) → Fine (tokensOf text) → (xs : List Spelling) × (map said (tokensOf text) ≡ map saidBy xs)
+pub spellings : (text : List ℕ) → Fine (tokensOf text) → (xs : List Spelling) × (map lexemeSays (tokensOf text) ≡ map spellingSays xs)
 spellings text f = spell (tokens-laid text f)

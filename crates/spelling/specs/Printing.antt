@@ -14,7 +14,7 @@ use Rattle.grammar.specs.Policies.{Comparator, Comparator.Equal, Comparator.Not
 use Rattle.grammar.specs.Policies.{Span, Root, Root.Principal, Root.Resource, Root.Env, Root.Action, LiteralOf, attribute, Policy, PolicyOf}
 use Rattle.grammar.specs.Rules.{literalOf}
 use Rattle.grammar.specs.Grammar.{Attribute, RuleText, sizes}
-use Rattle.placing.specs.Placed.{pathAt, IsName}
+use Rattle.placing.specs.Placed.{unblankedAt, IsName}
 use Rattle.placing.specs.Said.{Word, literalWords, wordsOf}
 use Rattle.spelling.specs.Layout.{Written, written, laidOut, readAs, lexemeOf, standing}
 
@@ -91,7 +91,7 @@ abbrev pub RootedPath : Reading (Root × Span)
 RootedPath i r a = Attribute sizes i r (attribute (a .0) (a .1))
 
 abbrev pub rootedWords : List ℕ → Root × Span → Root × Word
-rootedWords t a = (a .0, pathAt t (a .1))
+rootedWords t a = (a .0, unblankedAt t (a .1))
 
 -- Policies are printed as these tokens, as a whole rule text.
 pub record PrintsText (xs : List Written) (ws : List (PolicyOf Word)) : Type 0 where

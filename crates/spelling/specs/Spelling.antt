@@ -7,7 +7,7 @@ use lib.Dec.{eqb}
 use lib.ListN.{length, getD}
 use Rattle.tokens.specs.Forms.{Form, sizeOf, mostOf}
 use Rattle.tokens.specs.Kinds as kinds
-use Rattle.tokens.specs.Runs.{is}
+use Rattle.tokens.specs.Runs.{isOf}
 use Rattle.tokens.specs.Tokens.{beforeEquals}
 use Rattle.tokens.specs.declared.classes.Sort.the-variants.{Digits, Letters, WordBytes}
 use Rattle.reading.specs.Lexemes.{Lexeme}
@@ -35,13 +35,13 @@ saidBy x = (x .kind, x .bytes)
 -- no `=` behind a mark that may have one. A number with a fraction needs no care for a point; the test asks it all the same.
 unfoldable pub apart : List ℕ → ℕ → Bool
 apart p b =
-    cond (is Letters (getD p 0 0)) (not (is WordBytes b))
-    (cond (is Digits (getD p 0 0) || eqb (getD p 0 0) (code "-")) (not (is Digits b) && not (eqb b (code ".")))
+    cond (isOf Letters (getD p 0 0)) (not (isOf WordBytes b))
+    (cond (isOf Digits (getD p 0 0) || eqb (getD p 0 0) (code "-")) (not (isOf Digits b) && not (eqb b (code ".")))
     (not (eqb (length p) 1 && (beforeEquals (getD p 0 0) && eqb b (code "=")))))
 
 -- a byte that makes no token longer: of no word, no point and no `=`
 unfoldable pub calm : ℕ → Bool
-calm b = not (is WordBytes b) && (not (eqb b (code ".")) && not (eqb b (code "=")))
+calm b = not (isOf WordBytes b) && (not (eqb b (code ".")) && not (eqb b (code "=")))
 
 -- the last of some tokens, if there is one, is `;`
 unfoldable pub closed : List Lexeme → Bool
