@@ -144,13 +144,28 @@ static void lookup(void) { wrong |= desk_lookup(LENT(bag), 2, LENT("c")).kind !=
 static void string(void) { wrong |= desk_string(LENT(bag), 2, LENT("c")).length != 5; }
 static void rows(void) { wrong |= desk_rows(LENT(question)) != 4; }
 
+// Locks with every form of a test, of one test and of sixteen, and with what is refused, in each part that is lent; all of them are one call here, so that the most counts.
+static void lock(void) {
+    static const char words[] = "\1" "a\1" "a\1" "\1" "b\3" "b.b\2" "\1" "c\1" "c\3" "\2" "if\5" "level\3";
+    static const char *const locks[] = {"a:x", "b:x-1_y", "c>3", "c >= -0.12345678901234", " c < 3 & if<=3\n", "a:x&b:y&c>1&if<2&a:x&b:y&c>1&if<2&a:x&b:y&c>1&if<2&a:x&b:y&c>1&if<2"};
+    static const char *const refused[] = {"", "a", "a:", "c:3", "a>3", "d:x", "a:x&", "a:x y", "a\"x", "\"", "c>1234567890123456", "c>x", "c>\"x\"", "a:x&b:y&c>1&if<2&a:x&b:y&c>1&if<2&a:x&b:y&c>1&if<2&a:x&b:y&c>1&if<2&a:x"};
+    static uint8_t room[1000];
+    for (size_t i = 0; i < COUNT(locks); i++) wrong |= desk_lock(LENT(words), (const uint8_t *)locks[i], strlen(locks[i]), LENT("\5teach\0"), LENT("shaft:A"), room, sizeof room).refusal != 0;
+    for (size_t i = 0; i < COUNT(refused); i++) wrong |= desk_lock(LENT(words), (const uint8_t *)refused[i], strlen(refused[i]), LENT("\5teach\0"), LENT("shaft:A"), room, sizeof room).refusal != DESK_REFUSED_LOCK;
+    wrong |= desk_lock(LENT("\1" "a\2" "if\1"), LENT("a:x"), LENT("\1x"), LENT("y"), room, sizeof room).refusal != DESK_REFUSED_LOCK;
+    wrong |= desk_lock(LENT("\1" "a\1" "a\1" "\1" "a\1" "a\1"), LENT("a:x"), LENT("\1x"), LENT("y"), room, sizeof room).refusal != DESK_REFUSED_LOCK;
+    wrong |= desk_lock(LENT(words), LENT("a:x"), LENT("\2x"), LENT("y"), room, sizeof room).refusal != DESK_REFUSED_LOCK;
+    wrong |= desk_lock(LENT(words), LENT("a:x"), LENT("\1x"), LENT("\n"), room, sizeof room).refusal != DESK_REFUSED_LOCK;
+    wrong |= desk_lock(LENT(words), LENT("a:x"), LENT("\1x"), LENT("y"), room, 10).refusal != DESK_REFUSED_PERMIT_ROOM;
+}
+
 // The calls that are lent a text, and those that are not; the most that each may take, and the most that it took, on which text.
 static struct call {
     const char *name;
     void (*call)(void);
     size_t limit, most;
     struct nesting deepest;
-} calls[] = {{"compile", compile, 14500, 0, {0}}, {"begins", begins, 14500, 0, {0}}, {"decide", decide, 16000, 0, {0}}, {"tally", tally, 17500, 0, {0}}, {"sheet", page, 17500, 0, {0}}, {"lookup", lookup, 1000, 0, {0}}, {"string", string, 1000, 0, {0}}, {"rows", rows, 1000, 0, {0}}};
+} calls[] = {{"compile", compile, 14500, 0, {0}}, {"begins", begins, 14500, 0, {0}}, {"decide", decide, 16000, 0, {0}}, {"tally", tally, 17500, 0, {0}}, {"sheet", page, 17500, 0, {0}}, {"lookup", lookup, 1000, 0, {0}}, {"string", string, 1000, 0, {0}}, {"rows", rows, 1000, 0, {0}}, {"lock", lock, 3000, 0, {0}}};
 enum { WITH_TEXT = 5, CALLS = COUNT(calls) };
 static size_t most_of_sort[WITH_TEXT][SORTS];   // the most with leaves of each sort, and with which leaf
 static int leaf_of_sort[WITH_TEXT][SORTS];

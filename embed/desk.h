@@ -13,9 +13,9 @@ extern "C" {
 #define DESK_LAID_OUT _Static_assert
 #endif
 
-#define DESK_VERSION "1.1"
+#define DESK_VERSION "1.2"
 #define DESK_VERSION_MAJOR 1
-#define DESK_VERSION_MINOR 1
+#define DESK_VERSION_MINOR 2
 
 /* Outcomes of a decision and of a listed row. Yes is ALLOWED or SYSTEM. */
 #define DESK_ALLOWED 1u
@@ -95,6 +95,20 @@ extern "C" {
 #define DESK_TALLY_SUMS 8u
 #define DESK_TALLY_COUNTS 612u
 
+/* Refusals of a lock. */
+#define DESK_REFUSED_LOCK 28u
+#define DESK_REFUSED_PERMIT_ROOM 29u
+
+/* A lock: the words of its vocabulary, its tests; the longest permit. */
+#define DESK_MOST_LOCK_WORDS 16u
+#define DESK_MOST_TESTS 16u
+#define DESK_MOST_PERMIT 5651u
+
+/* Sorts of a vocabulary's words. */
+#define DESK_SORT_EQUALITY 1u
+#define DESK_SORT_MEMBERSHIP 2u
+#define DESK_SORT_NUMBER 3u
+
 /* What compiling answers: the refusal with its line and column, or the policies and the bytes of the table that they use. */
 typedef struct {
     uint32_t refusal;
@@ -160,6 +174,16 @@ size_t desk_rows(const uint8_t *question, size_t question_length);
 
 /* The tally of so many requests over one question. `requests` has subject, action and resource of each, each behind a length byte. `counts` has nine groups of 68 numbers, one for each of eight requests and the sums: the rows of outcome 1 to 4, then those that policy 1 to 64 decides. Answers the refusal's number, 0 where nothing is refused; a refusal changes nothing. */
 uint32_t desk_tally(const uint8_t *text, size_t text_length, const uint8_t *table, size_t table_length, const uint8_t *question, size_t question_length, size_t many, const uint8_t *requests, size_t requests_length, uint32_t counts[612]);
+
+/* What writing a lock's permit answers: the permit's length. */
+typedef struct {
+    uint32_t refusal;
+    size_t length;
+} DeskLock;
+DESK_LAID_OUT(sizeof(DeskLock) == 16 && offsetof(DeskLock, refusal) == 0 && offsetof(DeskLock, length) == 8, "DeskLock");
+
+/* Writes the permit that a lock says over the start of the room. The bytes past it stay, and a refusal changes nothing. */
+DeskLock desk_lock(const uint8_t *vocabulary, size_t vocabulary_length, const uint8_t *lock, size_t lock_length, const uint8_t *actions, size_t actions_length, const uint8_t *resource, size_t resource_length, uint8_t *room, size_t room_length);
 
 #undef DESK_LAID_OUT
 #ifdef __cplusplus

@@ -2,7 +2,7 @@
 //! lend is as the desk asks for it. Link with libdesk.a.
 #![allow(dead_code)]
 
-pub const VERSION: &str = "1.1";
+pub const VERSION: &str = "1.2";
 
 // Outcomes of a decision and of a listed row. Yes is ALLOWED or SYSTEM.
 pub const ALLOWED: u32 = 1;
@@ -82,6 +82,20 @@ pub const TALLY_GROUP: usize = 68;
 pub const TALLY_SUMS: usize = 8;
 pub const TALLY_COUNTS: usize = 612;
 
+// Refusals of a lock.
+pub const REFUSED_LOCK: u32 = 28;
+pub const REFUSED_PERMIT_ROOM: u32 = 29;
+
+// A lock: the words of its vocabulary, its tests; the longest permit.
+pub const MOST_LOCK_WORDS: usize = 16;
+pub const MOST_TESTS: usize = 16;
+pub const MOST_PERMIT: usize = 5651;
+
+// Sorts of a vocabulary's words.
+pub const SORT_EQUALITY: u8 = 1;
+pub const SORT_MEMBERSHIP: u8 = 2;
+pub const SORT_NUMBER: u8 = 3;
+
 /// What compiling answers: the refusal with its line and column, or the policies and the bytes of the table that they use.
 #[repr(C)]
 #[derive(Clone, Copy, Debug, PartialEq)]
@@ -129,6 +143,14 @@ pub struct DeskPage {
     pub next: usize,
 }
 
+/// What writing a lock's permit answers: the permit's length.
+#[repr(C)]
+#[derive(Clone, Copy, Debug, PartialEq)]
+pub struct DeskLock {
+    pub refusal: u32,
+    pub length: usize,
+}
+
 extern "C" {
     fn desk_compile(text: *const u8, text_length: usize, table: *mut u8, table_length: usize) -> DeskCompiled;
     fn desk_begins(text: *const u8, text_length: usize, table: *const u8, table_length: usize) -> bool;
@@ -138,6 +160,7 @@ extern "C" {
     fn desk_sheet(text: *const u8, text_length: usize, table: *const u8, table_length: usize, question: *const u8, question_length: usize, subject: *const u8, subject_length: usize, action: *const u8, action_length: usize, resource: *const u8, resource_length: usize, start: usize, sheet: *mut u8, sheet_length: usize, at: usize) -> DeskPage;
     fn desk_rows(question: *const u8, question_length: usize) -> usize;
     fn desk_tally(text: *const u8, text_length: usize, table: *const u8, table_length: usize, question: *const u8, question_length: usize, many: usize, requests: *const u8, requests_length: usize, counts: *mut u32) -> u32;
+    fn desk_lock(vocabulary: *const u8, vocabulary_length: usize, lock: *const u8, lock_length: usize, actions: *const u8, actions_length: usize, resource: *const u8, resource_length: usize, room: *mut u8, room_length: usize) -> DeskLock;
 }
 
 /// Compiles a text into the table. The bytes past those used stay, and a refusal changes nothing.
@@ -178,4 +201,9 @@ pub fn rows(question: &[u8]) -> usize {
 /// The tally of so many requests over one question. `requests` has subject, action and resource of each, each behind a length byte. `counts` has nine groups of 68 numbers, one for each of eight requests and the sums: the rows of outcome 1 to 4, then those that policy 1 to 64 decides. Answers the refusal's number, 0 where nothing is refused; a refusal changes nothing.
 pub fn tally(text: &[u8], table: &[u8], question: &[u8], many: usize, requests: &[u8], counts: &mut [u32; 612]) -> u32 {
     unsafe { desk_tally(text.as_ptr(), text.len(), table.as_ptr(), table.len(), question.as_ptr(), question.len(), many, requests.as_ptr(), requests.len(), counts.as_mut_ptr()) }
+}
+
+/// Writes the permit that a lock says over the start of the room. The bytes past it stay, and a refusal changes nothing.
+pub fn lock(vocabulary: &[u8], lock: &[u8], actions: &[u8], resource: &[u8], room: &mut [u8]) -> DeskLock {
+    unsafe { desk_lock(vocabulary.as_ptr(), vocabulary.len(), lock.as_ptr(), lock.len(), actions.as_ptr(), actions.len(), resource.as_ptr(), resource.len(), room.as_mut_ptr(), room.len()) }
 }

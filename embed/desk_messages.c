@@ -28,6 +28,8 @@ const char *desk_message(uint32_t refusal) {
     case DESK_REFUSED_SHEET_ROOM: return "The sheet has fewer than 6 bytes from the named byte on.";
     case DESK_REFUSED_START: return "The start row is above the number of rows.";
     case DESK_REFUSED_REQUESTS: return "A tally takes one to eight requests: lend at least one, and ask for those past the eighth in another call.";
+    case DESK_REFUSED_LOCK: return "The lock, its vocabulary, its actions or its resource is not of the form that locks have.";
+    case DESK_REFUSED_PERMIT_ROOM: return "The permit of this lock is longer than its room.";
     default: return "No refusal of the desk has this number.";
     }
 }

@@ -1,5 +1,6 @@
 /* What stands beside the archive and is optional: a sentence for each refusal (desk_messages.c), a writer of bags and a reader of lists (desk_bags.c), a writer of the requests of
-   a tally and readers of its counts (desk_tallies.c). Like the desk they need no heap, no globals and of a C library memcpy alone. They are ordinary C, not proved; embed/run tests them. */
+   a tally and readers of its counts (desk_tallies.c), a writer of the vocabularies and action lists of locks (desk_locks.c). Like the desk they need no heap, no globals and of a C
+   library memcpy alone. They are ordinary C, not proved; embed/run tests them. */
 #ifndef DESK_MORE_H
 #define DESK_MORE_H
 #include "desk_slices.h"
@@ -26,8 +27,8 @@ typedef enum {
     DESK_WROTE,
     DESK_WROTE_NO_ROOM, /* the lent bytes, or the most that a bag may have, are used up */
     DESK_WROTE_MANY,    /* the section has as many entries as it may, the list as many strings, or the tally as many requests */
-    DESK_WROTE_TWICE,   /* the section has this path already; for a list, has it with no list */
-    DESK_WROTE_PATH,    /* no root, or no path of a bag: a name that is none, a reserved word, too long */
+    DESK_WROTE_TWICE,   /* the section has this path already; for a list, has it with no list; the vocabulary has this word already */
+    DESK_WROTE_PATH,    /* no root, or no path of a bag: a name that is none, a reserved word, too long; a word or a path of a vocabulary that is empty or too long */
     DESK_WROTE_VALUE    /* a string that is too long, a number that is not finite, or a part of a request that is too long */
 } DeskWrote;
 
@@ -75,6 +76,29 @@ static inline DeskRequests desk_requests_written(const DeskRequestsWriter *w) { 
 /* How many rows have an outcome, and how many a policy decides: of a request, the first at group 0, or of all at group DESK_TALLY_SUMS. 0 where there is no such group, outcome or policy. */
 uint32_t desk_tally_outcome(const DeskCounts *counts, size_t group, uint32_t outcome);
 uint32_t desk_tally_policy(const DeskCounts *counts, size_t group, size_t policy);
+
+/* ---- desk_locks.c */
+
+/* A vocabulary or an action list that is being written into memory that the caller lends. Between two calls, bytes and length are one, of so many words or actions. */
+typedef struct {
+    uint8_t *bytes;
+    size_t room;
+    size_t length;
+    size_t many;
+} DeskLockWriter;
+
+/* No word and no action yet. So many bytes are enough for every vocabulary, and for every action list. */
+#define DESK_VOCABULARY_ROOM (DESK_MOST_LOCK_WORDS * (3 + DESK_MOST_WORD + DESK_MOST_PATH))
+#define DESK_ACTIONS_ROOM (DESK_MOST_LITERALS * (1 + DESK_MOST_TEXT_STRING))
+void desk_lock_begin(DeskLockWriter *w, void *bytes, size_t room);
+
+/* A word more, with its path and sort; an action more. Lengths, numbers and repeated words are looked at here, all else by desk_lock. */
+DeskWrote desk_lock_word(DeskLockWriter *w, const void *word, size_t length, DeskPath path, uint8_t sort);
+DeskWrote desk_lock_action(DeskLockWriter *w, const void *action, size_t length);
+
+/* What was written. */
+static inline DeskVocabulary desk_vocabulary_written(const DeskLockWriter *w) { return desk_vocabulary(w->bytes, w->length); }
+static inline DeskActions desk_actions_written(const DeskLockWriter *w) { return desk_actions(w->bytes, w->length); }
 
 #ifdef __cplusplus
 }

@@ -110,6 +110,42 @@ typedef struct {
     uint32_t at[612];
 } DeskCounts;
 
+typedef struct {
+    const uint8_t *bytes;
+    size_t length;
+} DeskVocabulary;
+static inline DeskVocabulary desk_vocabulary(const void *bytes, size_t length) {
+    DeskVocabulary s = {(const uint8_t *)bytes, length};
+    return s;
+}
+
+typedef struct {
+    const uint8_t *bytes;
+    size_t length;
+} DeskLockText;
+static inline DeskLockText desk_lock_text(const void *bytes, size_t length) {
+    DeskLockText s = {(const uint8_t *)bytes, length};
+    return s;
+}
+
+typedef struct {
+    const uint8_t *bytes;
+    size_t length;
+} DeskActions;
+static inline DeskActions desk_actions(const void *bytes, size_t length) {
+    DeskActions s = {(const uint8_t *)bytes, length};
+    return s;
+}
+
+typedef struct {
+    uint8_t *bytes;
+    size_t length;
+} DeskRoom;
+static inline DeskRoom desk_room(void *bytes, size_t length) {
+    DeskRoom s = {(uint8_t *)bytes, length};
+    return s;
+}
+
 static inline DeskCompiled desk_compile_of(DeskText text, DeskTableRoom table) { return desk_compile(text.bytes, text.length, table.bytes, table.length); }
 static inline bool desk_begins_of(DeskText text, DeskTable table) { return desk_begins(text.bytes, text.length, table.bytes, table.length); }
 static inline DeskDecision desk_decide_of(DeskText text, DeskTable table, DeskBag bag, DeskSubject subject, DeskAction action, DeskResource resource) { return desk_decide(text.bytes, text.length, table.bytes, table.length, bag.bytes, bag.length, subject.bytes, subject.length, action.bytes, action.length, resource.bytes, resource.length); }
@@ -118,4 +154,5 @@ static inline DeskString desk_string_of(DeskBag bag, uint8_t root, DeskPath path
 static inline DeskPage desk_sheet_of(DeskText text, DeskTable table, DeskQuestion question, DeskSubject subject, DeskAction action, DeskResource resource, size_t start, DeskSheetRoom sheet, size_t at) { return desk_sheet(text.bytes, text.length, table.bytes, table.length, question.bytes, question.length, subject.bytes, subject.length, action.bytes, action.length, resource.bytes, resource.length, start, sheet.bytes, sheet.length, at); }
 static inline size_t desk_rows_of(DeskQuestion question) { return desk_rows(question.bytes, question.length); }
 static inline uint32_t desk_tally_of(DeskText text, DeskTable table, DeskQuestion question, size_t many, DeskRequests requests, DeskCounts *counts) { return desk_tally(text.bytes, text.length, table.bytes, table.length, question.bytes, question.length, many, requests.bytes, requests.length, counts->at); }
+static inline DeskLock desk_lock_of(DeskVocabulary vocabulary, DeskLockText lock, DeskActions actions, DeskResource resource, DeskRoom room) { return desk_lock(vocabulary.bytes, vocabulary.length, lock.bytes, lock.length, actions.bytes, actions.length, resource.bytes, resource.length, room.bytes, room.length); }
 #endif

@@ -1,7 +1,7 @@
-// The desk in a C program: document 01's example. It compiles the rules, decides one request, looks attributes up, prints the sheet page by page, and tallies it
-// for two requests. It reads nothing from outside and needs no heap: all memory is the arrays below, lent to the calls. example.out has what it prints. Every thing that is
-// lent has a type of its own (desk_slices.h), so that the compiler finds swapped arguments; the bag is written with desk_bags.c, the requests of the tally with desk_tallies.c, and
-// desk_messages.c has the sentences of refusals.
+// The desk in a C program: document 01's example. It compiles the rules, decides one request, looks attributes up, prints the sheet page by page, tallies it
+// for two requests, and prints a lock's permit. It reads nothing from outside and needs no heap: all memory is the arrays below, lent to the calls. example.out has what it
+// prints. Every thing that is lent has a type of its own (desk_slices.h), so that the compiler finds swapped arguments; the bag is written with desk_bags.c, the requests of the
+// tally with desk_tallies.c, the words and actions of the lock with desk_locks.c, and desk_messages.c has the sentences of refusals.
 #include "desk_more.h"
 #include <stdio.h>
 
@@ -62,6 +62,19 @@ static int print_tally(DeskText text, DeskTable compiled, size_t policies, DeskS
     return 0;
 }
 
+// A caretaker's lock as a permit, in words and actions that are written with desk_locks.c.
+static int print_permit(void) {
+    static uint8_t words[DESK_VOCABULARY_ROOM], list[DESK_ACTIONS_ROOM], permit[DESK_MOST_PERMIT];
+    DeskLockWriter vocabulary, actions;
+    desk_lock_begin(&vocabulary, words, sizeof words);
+    desk_lock_begin(&actions, list, sizeof list);
+    if (desk_lock_word(&vocabulary, DESK_WORDS("firm"), desk_path(DESK_WORDS("firm")), DESK_SORT_EQUALITY) != DESK_WROTE || desk_lock_word(&vocabulary, DESK_WORDS("grade"), desk_path(DESK_WORDS("grade")), DESK_SORT_NUMBER) != DESK_WROTE || desk_lock_action(&actions, DESK_WORDS("teach")) != DESK_WROTE) return 1;
+    DeskLock l = desk_lock_of(desk_vocabulary_written(&vocabulary), desk_lock_text(DESK_WORDS("firm:own & grade>=3")), desk_actions_written(&actions), desk_resource(DESK_WORDS("shaft:A")), desk_room(permit, sizeof permit));
+    if (l.refusal != 0) return refused(l.refusal);
+    printf("%.*s\n", (int)l.length, (const char *)permit);
+    return 0;
+}
+
 int main(void) {
     DeskText text = desk_text(DESK_WORDS(rules));
     DeskSubject who = desk_subject(DESK_WORDS("person:K7"));
@@ -87,5 +100,5 @@ int main(void) {
     DeskString s = desk_string_of(bag, DESK_ROOT_PRINCIPAL, hired);
     printf("principal.hired: \"%.*s\"\n", (int)s.length, (const char *)bag.bytes + s.start);
 
-    return print_sheet(text, compiled, who, what, which) || print_tally(text, compiled, c.policies, who, what, which);
+    return print_sheet(text, compiled, who, what, which) || print_tally(text, compiled, c.policies, who, what, which) || print_permit();
 }

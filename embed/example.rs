@@ -42,4 +42,9 @@ fn main() {
         print!("{}: allowed {}, forbidden {}, neither {}, system {};", whose, outcomes[0], outcomes[1], outcomes[2], outcomes[3]);
         println!(" policy 1 decides {}, policy 2 decides {}", policies[0], policies[1]);
     }
+
+    let mut permit = [0u8; desk::MOST_PERMIT];
+    let l = desk::lock(b"\x04firm\x04firm\x01\x05grade\x05grade\x03", b"firm:own & grade>=3", b"\x05teach", b"shaft:A", &mut permit);
+    assert_eq!(l.refusal, 0);
+    println!("{}", String::from_utf8_lossy(&permit[..l.length]));
 }

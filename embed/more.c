@@ -1,4 +1,4 @@
-// What stands beside the archive, tried: the writer of bags, the reader of lists, the writer of requests and the readers of counts, the sentences. Prints how many checks were made; a check that fails is printed and ends it with
+// What stands beside the archive, tried: the writer of bags, the reader of lists, the writer of requests and the readers of counts, the writer of vocabularies and action lists, the sentences. Prints how many checks were made; a check that fails is printed and ends it with
 // status 1. embed/run builds it also with the compiler's checks for memory and arithmetic.
 #include "desk_more.h"
 #include <stdio.h>
@@ -137,16 +137,58 @@ static void tallies(void) {
     CHECK(desk_tally_outcome(&counts, 1, 0) == 0 && desk_tally_outcome(&counts, 1, 5) == 0 && desk_tally_policy(&counts, 1, 0) == 0 && desk_tally_policy(&counts, DESK_TALLY_SUMS, 65) == 0);
 }
 
+// The writer of vocabularies and action lists: docs/LOCKS.md has these bytes.
+static void locks(void) {
+    static uint8_t bytes[DESK_VOCABULARY_ROOM + 1];
+    static const char most[DESK_MOST_TEXT_STRING + 1] = "wwwwwwwwwwwwwwwwwwwwwwwwwwwwwwwwwwwwwwwwwwwwwwwwwwwwwwwwwwwwwwww";
+    static const char vocabulary[] = "\4firm\4firm\1\4flag\5flags\2\5grade\5grade\3";
+    static const char list[] = "\5teach\4read";
+    DeskLockWriter v;
+    desk_lock_begin(&v, bytes, sizeof vocabulary - 1);
+    CHECK(desk_lock_word(&v, DESK_WORDS("firm"), PATH("firm"), DESK_SORT_EQUALITY) == DESK_WROTE);
+    CHECK(desk_lock_word(&v, DESK_WORDS("flag"), PATH("flags"), DESK_SORT_MEMBERSHIP) == DESK_WROTE);
+    CHECK(desk_lock_word(&v, DESK_WORDS("grade"), PATH("grade"), DESK_SORT_NUMBER) == DESK_WROTE);
+    CHECK(desk_lock_word(&v, DESK_WORDS("g"), PATH("g"), DESK_SORT_NUMBER) == DESK_WROTE_NO_ROOM);
+    CHECK(desk_lock_word(&v, DESK_WORDS("flag"), PATH("g"), DESK_SORT_NUMBER) == DESK_WROTE_TWICE);
+    CHECK(desk_lock_word(&v, DESK_WORDS(""), PATH("g"), DESK_SORT_NUMBER) == DESK_WROTE_PATH);
+    CHECK(desk_lock_word(&v, most, DESK_MOST_WORD + 1, PATH("g"), DESK_SORT_NUMBER) == DESK_WROTE_PATH);
+    CHECK(desk_lock_word(&v, most, 1, desk_path(most, DESK_MOST_PATH + 1), DESK_SORT_NUMBER) == DESK_WROTE_PATH);
+    CHECK(v.many == 3 && v.length == sizeof vocabulary - 1 && memcmp(bytes, vocabulary, v.length) == 0);
+    desk_lock_begin(&v, bytes, sizeof list - 1);
+    CHECK(desk_lock_action(&v, DESK_WORDS("teach")) == DESK_WROTE && desk_lock_action(&v, DESK_WORDS("read")) == DESK_WROTE);
+    CHECK(desk_lock_action(&v, DESK_WORDS("")) == DESK_WROTE_NO_ROOM);
+    CHECK(desk_lock_action(&v, most, DESK_MOST_TEXT_STRING + 1) == DESK_WROTE_VALUE);
+    CHECK(v.many == 2 && v.length == sizeof list - 1 && memcmp(bytes, list, v.length) == 0);
+    // as many as there may be, each as long as it may be
+    char word[DESK_MOST_WORD];
+    memcpy(word, most, sizeof word);
+    desk_lock_begin(&v, bytes, DESK_VOCABULARY_ROOM);
+    for (int i = 0; i < (int)DESK_MOST_LOCK_WORDS; i++) {
+        word[sizeof word - 1] = (char)('a' + i);
+        CHECK(desk_lock_word(&v, word, sizeof word, desk_path(most, DESK_MOST_PATH), DESK_SORT_EQUALITY) == DESK_WROTE);
+    }
+    CHECK(v.length == DESK_VOCABULARY_ROOM && desk_lock_word(&v, DESK_WORDS("w"), PATH("p"), DESK_SORT_EQUALITY) == DESK_WROTE_MANY);
+    static uint8_t actions[DESK_ACTIONS_ROOM], permit[DESK_MOST_PERMIT];
+    DeskLockWriter a;
+    desk_lock_begin(&a, actions, sizeof actions);
+    for (int i = 0; i < (int)DESK_MOST_LITERALS; i++) CHECK(desk_lock_action(&a, "x", i > 0) == DESK_WROTE);
+    CHECK(desk_lock_action(&a, DESK_WORDS("x")) == DESK_WROTE_MANY);
+    char lock[DESK_MOST_WORD + 2];
+    memcpy(lock, word, sizeof word);
+    memcpy(lock + sizeof word, ":v", 2);
+    CHECK(desk_lock_of(desk_vocabulary_written(&v), desk_lock_text(lock, sizeof lock), desk_actions_written(&a), desk_resource(DESK_WORDS("shaft:A")), desk_room(permit, sizeof permit)).refusal == 0);
+}
+
 // A sentence for each refusal, no two alike.
 static void sentences(void) {
     int different = 0, there = 0;
-    for (unsigned r = DESK_REFUSED_LONG_TEXT; r <= DESK_REFUSED_REQUESTS; r++) {
+    for (unsigned r = DESK_REFUSED_LONG_TEXT; r <= DESK_REFUSED_PERMIT_ROOM; r++) {
         bool is = r <= DESK_REFUSED_LONG_PATH || r >= DESK_REFUSED_OTHER_TABLE;
         there += is == (strcmp(desk_message(r), desk_message(99)) != 0);
         for (unsigned s = DESK_REFUSED_LONG_TEXT; s < r; s++) different += strcmp(desk_message(r), desk_message(s)) != 0;
     }
-    CHECK(there == 27);
-    CHECK(different == 27 * 26 / 2 - 3); // 17, 18 and 19 are no refusals
+    CHECK(there == 29);
+    CHECK(different == 29 * 28 / 2 - 3); // 17, 18 and 19 are no refusals
     CHECK(strcmp(desk_message(DESK_REFUSED_COLON), "A colon stands outside a string.") == 0);
 }
 
@@ -156,6 +198,7 @@ int main(void) {
     refused();
     filled();
     tallies();
+    locks();
     sentences();
     printf("%d checks, %d failed\n", made, failed);
     return failed != 0;

@@ -1,5 +1,5 @@
-// Each call refused, and that a refusal gives its number, zeros elsewhere and changes nothing lent: the table, the sheet and the counts are compared with copies, what is
-// before and behind them too. Then slices of no bytes, as NULL. Prints how many checks were made; a check that fails is printed and ends it with status 1.
+// Each call refused, and that a refusal gives its number, zeros elsewhere and changes nothing lent: the table, the sheet, the counts and the room of a permit are compared with
+// copies, what is before and behind them too. Then slices of no bytes, as NULL. Prints how many checks were made; a check that fails is printed and ends it with status 1.
 #include "desk.h"
 #include <stdio.h>
 #include <string.h>
@@ -95,6 +95,36 @@ static void tallies(void) {
     CHECK(desk_tally(TEXT, table, 400, QUESTION, 2, LENT(SYSTEM GOOD), counts) == DESK_REFUSED_OTHER_TABLE);
 }
 
+#define WORDS LENT("\4firm\1f\1\5grade\1g\3")
+#define ACTIONS LENT("\5teach")
+static int no_permit(DeskLock l, unsigned refusal) { return l.refusal == refusal && l.length == 0; }
+
+// lock: 28 for each part that is lent, then 29
+static void locks(void) {
+    uint8_t *room = lent + 300;
+    CHECK(no_permit(desk_lock(LENT("\4fir"), LENT("firm:own"), ACTIONS, LENT("shaft:A"), room, 300), DESK_REFUSED_LOCK));
+    CHECK(no_permit(desk_lock(LENT("\4firm\2if\1"), LENT("firm:own"), ACTIONS, LENT("shaft:A"), room, 300), DESK_REFUSED_LOCK));
+    CHECK(no_permit(desk_lock(LENT("\4firm\1f\4"), LENT("firm:own"), ACTIONS, LENT("shaft:A"), room, 300), DESK_REFUSED_LOCK));
+    CHECK(no_permit(desk_lock(LENT("\4firm\1f\1\4firm\1g\1"), LENT("firm:own"), ACTIONS, LENT("shaft:A"), room, 300), DESK_REFUSED_LOCK));
+    CHECK(no_permit(desk_lock(WORDS, LENT("firm:own &"), ACTIONS, LENT("shaft:A"), room, 300), DESK_REFUSED_LOCK));
+    CHECK(no_permit(desk_lock(WORDS, LENT("flag:own"), ACTIONS, LENT("shaft:A"), room, 300), DESK_REFUSED_LOCK));
+    CHECK(no_permit(desk_lock(WORDS, LENT("grade:3"), ACTIONS, LENT("shaft:A"), room, 300), DESK_REFUSED_LOCK));
+    CHECK(no_permit(desk_lock(WORDS, LENT("grade>1234567890123456"), ACTIONS, LENT("shaft:A"), room, 300), DESK_REFUSED_LOCK));
+    CHECK(no_permit(desk_lock(WORDS, LENT("firm:own"), LENT("\6teach"), LENT("shaft:A"), room, 300), DESK_REFUSED_LOCK));
+    CHECK(no_permit(desk_lock(WORDS, LENT("firm:own"), NONE, LENT("shaft:A"), room, 300), DESK_REFUSED_LOCK));
+    CHECK(no_permit(desk_lock(WORDS, LENT("firm:own"), ACTIONS, LENT("shaft:\"A"), room, 300), DESK_REFUSED_LOCK));
+    CHECK(no_permit(desk_lock(WORDS, LENT("firm:own &"), ACTIONS, LENT("shaft:A"), room, 0), DESK_REFUSED_LOCK));
+    CHECK(no_permit(desk_lock(WORDS, LENT("firm:own"), ACTIONS, LENT("shaft:A"), room, 91), DESK_REFUSED_PERMIT_ROOM));
+    CHECK(no_permit(desk_lock(WORDS, LENT("firm:own"), ACTIONS, LENT("shaft:A"), NONE), DESK_REFUSED_PERMIT_ROOM));
+    CHECK(no_permit(desk_lock(NONE, NONE, NONE, NONE, NONE), DESK_REFUSED_LOCK));
+    // 92 bytes are enough; what stands before and behind them stays
+    uint8_t own[100];
+    memset(own, 0xAA, sizeof own);
+    DeskLock l = desk_lock(WORDS, LENT("firm:own"), ACTIONS, LENT("shaft:A"), own + 4, 92);
+    CHECK(l.refusal == 0 && l.length == 92);
+    CHECK(memcmp(own, "\xAA\xAA\xAA\xAApermit(principal, action in [\"teach\"], resource == \"shaft:A\") when { principal.f == \"own\" };\xAA\xAA\xAA\xAA", sizeof own) == 0);
+}
+
 static void nulls(void) {
     CHECK(compiled(desk_compile(NONE, NONE), 0, 0, 0, 0));
     CHECK(desk_begins(NONE, NONE));
@@ -118,6 +148,7 @@ int main(void) {
     memcpy(same, numbers, sizeof numbers);
     refusals();
     tallies();
+    locks();
     nulls();
     printf("%d checks, %d failed\n", made, failed);
     return failed != 0;

@@ -222,11 +222,57 @@ static void tallies(void) {
     CHECK(counts[2 * DESK_TALLY_GROUP - 1] == 1 && counts[DESK_TALLY_COUNTS - 1] == 1 && counts[DESK_TALLY_GROUP * DESK_TALLY_SUMS] == 2);
 }
 
+// ---- locks
+
+// A lock of so many tests of a value of so many bytes, over so many words and paths of so many bytes, with so many actions of so many bytes; the room has so many.
+static DeskLock locked(size_t words, size_t path, size_t tests, size_t value, size_t actions, size_t action, size_t room) {
+    static uint8_t permit[DESK_MOST_PERMIT];
+    begin();
+    for (size_t i = 0; i < words; i++) byte(1), byte('a' + (unsigned)i), byte((unsigned)path), times(path, "p"), byte(DESK_SORT_MEMBERSHIP);
+    size_t lock = length;
+    for (size_t i = 0; i < tests; i++) put(i > 0 ? "&a:" : "a:"), times(value, "v");
+    size_t list = length;
+    for (size_t i = 0; i < actions; i++) byte((unsigned)action), times(action, "x");
+    size_t resource = length;
+    times(action, "r");
+    return desk_lock(built, lock, built + lock, list - lock, built + list, resource - list, built + resource, length - resource, permit, room);
+}
+
+static unsigned tested(const char *word, unsigned sort, const char *lock) {
+    static uint8_t permit[200];
+    begin();
+    byte((unsigned)strlen(word)), put(word), byte(1), byte('a'), byte(sort);
+    return desk_lock(built, length, (const uint8_t *)lock, strlen(lock), LENT("\1x"), LENT("y"), permit, sizeof permit).refusal;
+}
+
+static void locks(void) {
+    CHECK(locked(DESK_MOST_LOCK_WORDS, 1, 1, 1, 1, 1, 200).refusal == 0);
+    CHECK(locked(DESK_MOST_LOCK_WORDS + 1, 1, 1, 1, 1, 1, 200).refusal == DESK_REFUSED_LOCK);
+    CHECK(locked(1, 1, DESK_MOST_TESTS, 1, 1, 1, 1000).refusal == 0);
+    CHECK(locked(1, 1, DESK_MOST_TESTS + 1, 1, 1, 1, 1000).refusal == DESK_REFUSED_LOCK);
+    CHECK(locked(1, 1, 1, 1, DESK_MOST_LITERALS, 1, 1000).refusal == 0);
+    CHECK(locked(1, 1, 1, 1, DESK_MOST_LITERALS + 1, 1, 1000).refusal == DESK_REFUSED_LOCK);
+    CHECK(locked(1, DESK_MOST_PATH + 1, 1, 1, 1, 1, 1000).refusal == DESK_REFUSED_LOCK);
+    CHECK(locked(1, 1, 1, DESK_MOST_TEXT_STRING + 1, 1, 1, 1000).refusal == DESK_REFUSED_LOCK);
+    CHECK(locked(1, 1, 1, 1, 1, DESK_MOST_TEXT_STRING + 1, 1000).refusal == DESK_REFUSED_LOCK);
+    // the longest permit there is, and its room
+    DeskLock l = locked(DESK_MOST_LOCK_WORDS, DESK_MOST_PATH, DESK_MOST_TESTS, DESK_MOST_TEXT_STRING, DESK_MOST_LITERALS, DESK_MOST_TEXT_STRING, DESK_MOST_PERMIT);
+    CHECK(l.refusal == 0 && l.length == DESK_MOST_PERMIT);
+    l = locked(DESK_MOST_LOCK_WORDS, DESK_MOST_PATH, DESK_MOST_TESTS, DESK_MOST_TEXT_STRING, DESK_MOST_LITERALS, DESK_MOST_TEXT_STRING, DESK_MOST_PERMIT - 1);
+    CHECK(l.refusal == DESK_REFUSED_PERMIT_ROOM && l.length == 0);
+    // the sorts
+    CHECK(tested("w", DESK_SORT_EQUALITY, "w:v") == 0 && tested("w", DESK_SORT_EQUALITY, "w>3") == DESK_REFUSED_LOCK);
+    CHECK(tested("w", DESK_SORT_MEMBERSHIP, "w:v") == 0 && tested("w", DESK_SORT_MEMBERSHIP, "w>3") == DESK_REFUSED_LOCK);
+    CHECK(tested("w", DESK_SORT_NUMBER, "w>3") == 0 && tested("w", DESK_SORT_NUMBER, "w:3") == DESK_REFUSED_LOCK);
+    CHECK(tested("w", DESK_SORT_NUMBER + 1, "w:3") == DESK_REFUSED_LOCK && tested("w", 0, "w:3") == DESK_REFUSED_LOCK);
+}
+
 int main(void) {
     texts();
     bags();
     answers();
     tallies();
+    locks();
     printf("%d checks, %d failed\n", made, failed);
     return failed != 0;
 }

@@ -6,5 +6,6 @@ second="${CARGO_TARGET_DIR:-$folder/target}/release/second"
 [ -x "$second" ] || cargo build --quiet --release --locked --offline --manifest-path "$folder/Cargo.toml" --package second >&2
 case $1 in
     sheet) exec "$second" sheet . ;;
+    caretaker) exec "$second" caretaker . ;;
     *) exec "$second" ask "$2" . ;;
 esac

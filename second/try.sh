@@ -1,6 +1,6 @@
 #!/usr/bin/env bash
 # Tries the desk for people as people use it, answered by the proved programs: right questions, mistakes and their messages, two at once. After
-# rt check sheet ask, from anywhere:
+# rt check sheet ask caretaker, from anywhere:
 #
 #   second/try.sh
 #
@@ -220,6 +220,50 @@ printf '%stest "own"\nprincipal.hired = "own"\nexpect forbidden\n' "$request" >"
 tried 1 'expected forbidden, but it is not permitted' "$desk" test "$work/tests.txt" --rules "$root/examples/worked/policy.txt"
 printf 'test "own"\n' >"$work/tests.txt"
 tried 2 'tests.txt:1:1: this test has no expect' "$desk" test "$work/tests.txt"
+
+# Locks: the example's permits are as stored, and do what its tests say; each reason of 28, and 29.
+"$desk" lock "$root/examples/lock" >"$work/permits" 2>&1 || true
+tried 0 '' cmp "$work/permits" "$root/examples/lock/permits.txt"
+tried 0 '3 policies, 3 permits and 0 forbids' "$desk" check "$work/permits"
+tried 0 '11 tests, 0 failed' "$desk" test "$root/examples/lock/tests.txt" --rules "$work/permits"
+tried 1 'Refused, number 29. The permit has 158 bytes, and its room 157.' "$desk" lock "$root/examples/lock" --room 157
+tried 0 'usage: ./desk lock WHERE' "$desk" lock --help
+tried 2 'there is no file' "$desk" lock "$work/no.txt"
+tried 2 '--room needs a number of bytes' "$desk" lock "$root/examples/lock" --room many
+head='word firm = principal.firm, equality
+word flag = principal.flags, membership
+word grade = principal.grade, number
+actions = "teach"
+resource = "shaft:A"
+'
+many() { local count=$1 line=$2 index; for ((index = 0; index < count; index++)); do printf '%b' "${line//N/$index}"; done; }
+while IFS='~' read -r lines lock words; do
+    [[ $lines != *MANY* ]] || lines=${lines/MANY/$(many 14 'word wN = principal.a, number\n')}
+    printf '%s%b\nlock = %s\n' "$head" "$lines" "${lock/LONG/$(many 128 v)}" >"$work/lock.txt"
+    tried 1 "Refused, number 28. $words" "$desk" lock "$work/lock.txt"
+done <<'CASES'
+~~The lock ends where a test must stand: a word of the vocabulary, which has firm, flag, grade.
+~firm:own &~The lock ends where a test must stand
+~!flag:taught~A lock has no !, | or brackets
+~firm:own && grade>3~A test must begin here (tests are joined by a single &)
+~level>3~The vocabulary has no word level; it has firm, flag, grade.
+~grad>3~The vocabulary has no word grad; it has firm, flag, grade: did you mean grade?
+~firm = own~Behind the word must stand : and a value.
+~grade==3~Behind the word must stand >, >=, < or <= and a number.
+~grade:3~This word is a number: behind it must stand
+~firm>3~This word is compared by equality: behind it must stand
+~flag>3~This word asks for membership in a list: behind it must stand
+~firm:"own"~A value must stand here
+~grade>=x~A number must stand here
+~grade>=3x~Behind a test must stand & and another test, or the end of the lock.
+~firm:LONG~This value has 128 bytes
+~grade>1234567890123456~This number has 16 digits
+word 1st = principal.a, number~firm:own~This is no word
+word firm = principal.a, number~firm:own~The vocabulary has the word firm already.
+word a = principal.in, number~firm:own~This is no path
+MANY~firm:own~This is the 17th word
+actions = "a\\x22"~firm:own~This is no string of rule texts
+CASES
 
 # Two at once, as they are called: each with a folder of its own, so that each proves what is missing, one after the other.
 unset DESK_WORK

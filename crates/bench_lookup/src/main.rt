@@ -16,21 +16,12 @@ fn told(answer: Answer) -> u64
     }
 }
 
-// The sum goes into the last byte, past the bag, before each call, so the compiler can neither drop a call nor take one for all.
-fn stamp(bytes: &mut [u8], sum: u64) {
-    let n = bytes.len();
-    if 0 < n {
-        let last = n - 1;
-        bytes[last] = (sum % 256) as u8;
-    }
-}
-
-// The bag is the first `size` bytes.
+// The bag is the first `size` bytes; the last one is past it.
 fn look_up_once(bytes: &mut [u8], size: usize, root: u8, path: &[u8], sum: u64) -> u64
     requires { ⌜ (size ≤ length (now bytes)) × (sum < 1000003) ⌝ }
     ensures { λ r. ⌜ r < 1000003 ⌝ }
 {
-    stamp(bytes, sum);
+    vectors::stamp(bytes, sum);
     let answer = lookup(&bytes[..size], root, path);
     (sum + told(answer)) % 1000003
 }

@@ -5,7 +5,7 @@ ghost use Rattle.targets.specs.Matching.{request};
 ghost use Rattle.deciding.specs.Answers.{decideSaid};
 ghost use Rattle.deciding.specs.declared.Answer.the-variants.{Decided};
 ghost use Rattle.desk.specs.Answers.{beginsSays, decidedAs, decideSays, lookupSays, stringSays, rowsSay};
-ghost use Rattle.desk.specs.Promises.{CompileAllows, SheetAllows, StringAllows, TallyAllows};
+ghost use Rattle.desk.specs.Promises.{CompileAllows, SheetAllows, StringAllows, TallyAllows, LockAllows};
 use compiling::Compiled;
 use meaning::Decision;
 
@@ -238,4 +238,35 @@ pub extern "C" fn desk_tally<'a>(
 {
     let number = tallies::tally(text, table, question, many, requests, counts);
     number as u32
+}
+
+// What writing a lock's permit answers: the permit's length.
+#[repr(C)]
+pub struct DeskLock {
+    pub refusal: u32,
+    pub length: usize,
+}
+
+// Writes the permit that a lock says over the start of the room. The bytes past it stay, and a refusal changes nothing.
+#[no_mangle]
+pub extern "C" fn desk_lock(
+    vocabulary: &[u8],
+    lock: &[u8],
+    actions: &[u8],
+    resource: &[u8],
+    room: &mut [u8],
+) -> DeskLock
+    ensures { λ r. ⌜ LockAllows (now (vocabulary .entry)) (now (lock .entry)) (now (actions .entry)) (now (resource .entry))
+        (now (room .entry)) (now (room .exit)) r ⌝ }
+{
+    match locks::lock(vocabulary, lock, actions, resource, room) {
+        locks::Answer::Written(length) => DeskLock {
+            refusal: 0,
+            length: length,
+        },
+        locks::Answer::Refused(number) => DeskLock {
+            refusal: number as u32,
+            length: 0,
+        },
+    }
 }

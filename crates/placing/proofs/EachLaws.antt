@@ -1,5 +1,7 @@
 -- Laws of `Each`. Assumes nothing.
-use mathlib.Core.List.{List, [], _∷_, _++_}
+use mathlib.Core.Path.{_≡_, refl}
+use mathlib.Core.List.{List, [], _∷_, _++_, List·Memᴰ, List·Memᴰ·head, List·Memᴰ·tail, List·Memᴰ·not-nil, List·Memᴰ·cases-cons}
+use mathlib.Core.Logic.{⊎-elim}
 use Rattle.placing.specs.Placed.{Each, none-left, and-each}
 
 module _ {A : Type 0} {P : A → Type 0} where
@@ -26,3 +28,17 @@ module _ {A : Type 0} {P : A → Type 0} where
 pub each-as : {A : Type 0} {P Q : A → Type 0} {l : List A} → ((x : A) → P x → Q x) → Each P l → Each Q l
 each-as f none-left = none-left
 each-as f (and-each p h) = and-each (f _ p) (each-as f h)
+
+-- of two properties a third
+pub each-both : {A : Type 0} {P Q R : A → Type 0} {l : List A} → ((x : A) → P x → Q x → R x) → Each P l → Each Q l → Each R l
+each-both f none-left h = none-left
+each-both f (and-each p k) h = and-each (f _ p (each-first h)) (each-both f k (each-rest h))
+
+-- by the members of the list
+pub each-in : {A : Type 0} {P : A → Type 0} (l : List A) → ((x : A) → List·Memᴰ x l → P x) → Each P l
+each-in [] f = none-left
+each-in (x ∷ l) f = and-each (f x (List·Memᴰ·head refl)) (each-in l (λ y m. f y (List·Memᴰ·tail m)))
+
+pub each-of : {A : Type 0} {P : A → Type 0} {l : List A} → Each P l → (x : A) → List·Memᴰ x l → P x
+each-of none-left x m = absurd (List·Memᴰ·not-nil m)
+each-of (and-each {a = a} {l = l} p h) x m = ⊎-elim (λ (e : x ≡ a). rw e p) (λ (n : List·Memᴰ x l). each-of h x n) (List·Memᴰ·cases-cons m)

@@ -33,7 +33,7 @@ blankless : (b : ℕ) (l : List ℕ) → isOf Blanks b ≡ false → unblanked (
 unfolding unblanked
 blankless b l e = rw e
 
-unblanked-append : (a b : List ℕ) → unblanked (a ++ b) ≡ unblanked a ++ unblanked b
+pub unblanked-append : (a b : List ℕ) → unblanked (a ++ b) ≡ unblanked a ++ unblanked b
 unfolding unblanked
 unblanked-append [] b = refl
 unblanked-append (c ∷ a) b = go (isOf Blanks c) (unblanked-append a b)
@@ -43,7 +43,7 @@ unblanked-append (c ∷ a) b = go (isOf Blanks c) (unblanked-append a b)
     go true e = e
     go false e = rw e
 
-unblanked-blanks : {l : List ℕ} → All Blanks l → unblanked l ≡ []
+pub unblanked-blanks : {l : List ℕ} → All Blanks l → unblanked l ≡ []
 unfolding unblanked
 unblanked-blanks empty = refl
 unblanked-blanks (next e a) = rw e (unblanked-blanks a)
@@ -65,10 +65,10 @@ unblanked-word : {l : List ℕ} → All WordBytes l → unblanked l ≡ l
 unblanked-word empty = unfold unblanked in refl
 unblanked-word (next {b} {rest} e a) = blankless b rest (word-no-blank b e) ∙ ap (λ (l : List ℕ). b ∷ l) (unblanked-word a)
 
-unblanked-name : {l : List ℕ} → IsName l → unblanked l ≡ l
+pub unblanked-name : {l : List ℕ} → IsName l → unblanked l ≡ l
 unblanked-name (a-name {b} {rest} e a k) = blankless b rest (letter-no-blank b e) ∙ ap (λ (l : List ℕ). b ∷ l) (unblanked-word a)
 
-lone-dot : unblanked (kinds.dot ∷ []) ≡ kinds.dot ∷ []
+pub lone-dot : unblanked (kinds.dot ∷ []) ≡ kinds.dot ∷ []
 unfolding unblanked classOf
 lone-dot = refl
 

@@ -5,15 +5,6 @@ ghost use lib.ListN.{length};
 use desk::DeskPage;
 use libc::STDOUT_FILENO;
 
-// The sheet before the call: byte n is n mod 251.
-fn fill(sheet: &mut [u8]) {
-    let mut i = 0;
-    while i < sheet.len() {
-        sheet[i] = (i % 251) as u8;
-        i += 1;
-    }
-}
-
 fn report(answer: DeskPage, sheet: &[u8]) {
     if 0 < answer.refusal {
         io::write_all(STDOUT_FILENO, b"R ");
@@ -64,7 +55,7 @@ fn page<'a>(
     lent: &mut [u8],
     at: usize,
 ) {
-    fill(lent);
+    vectors::fill(lent);
     let answer = desk::desk_sheet(
         text,
         table,

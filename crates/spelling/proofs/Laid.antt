@@ -1,14 +1,18 @@
 -- A text as blanks and tokens one after the other; such a text has these tokens, and a text whose tokens are all well formed is such a text. Assumes nothing.
 use mathlib.Core.Path.{_≡_, refl, ap, _∙_, sym, subst}
+use mathlib.Core.Bool.{Bool, true, false, cond}
 use mathlib.Core.List.{List, [], _∷_, _++_, append-assoc, append-nil}
 use Prim.Native.Nat.{ℕ, _+_, _-_, _≤_}
 use native.Mathlib.Omega.{arith}
+use lib.Dec.{leb}
 use lib.ListN.{length, take, drop, length-append, take-append-drop}
 use lib.Seq.{take-append-seam, drop-append-seam, length-take-le}
+use borrow.Author.Tests.{le-leb, leb-true, leb-false}
 use Rattle.tokens.specs.Bytes.{classOf}
+use Rattle.tokens.specs.Kinds as kinds
 use Rattle.tokens.specs.Runs.{isOf}
 use Rattle.tokens.specs.Tokens.{token}
-use Rattle.tokens.specs.Forms.{All, next, sizeOf, mostOf, Longest, Stands, end-of-text, a-token, too-long, a-colon, bad-byte, unended, bad-inside, StandsAt}
+use Rattle.tokens.specs.Forms.{All, Form, sizeOf, mostOf, Longest, Stands, end-of-text, a-token, too-long, a-colon, bad-byte, unended, bad-inside, StandsAt}
 use Rattle.tokens.specs.declared.reader.Token.{Token}
 use Rattle.tokens.specs.declared.classes.Sort.the-variants.{Blanks}
 use Rattle.reading.specs.Lexemes.{Lexeme, lexeme, tokensOf, TokensOf, ended, goes-on}
@@ -17,6 +21,7 @@ use Rattle.tokens.proofs.Longest.{longest-token, one-token}
 use Rattle.tokens.specs.Tokens.{tokenAt}
 use Rattle.reading.proofs.Listed.{tokens-stand, tokens-are}
 use Rattle.spelling.specs.Spelling.{lexemeAt}
+use Rattle.spelling.specs.Layout.{readAs}
 use Rattle.spelling.proofs.Apart.{form-first, form-kind}
 
 -- From a place on a text is blanks; or blanks, a token within its size that is the longest there, and such a text behind it.
@@ -37,14 +42,44 @@ own-bytes text pre p q start e h =
 
 -- ---- such a text has these tokens
 
--- a token behind blanks, and the list from its end on
-pub token-next : (text pre : List ℕ) {at kind : ℕ} {b p : List ℕ} (q : List ℕ) {ts : List Lexeme} → text ≡ pre ++ (b ++ (p ++ q)) → at ≡ length pre
-    → All Blanks b
-    → Longest kind p (p ++ q) → sizeOf kind p ≤ mostOf kind → TokensOf text (at + length b + length p) ts
-    → TokensOf text at (lexemeAt (at + length b) kind p ∷ ts)
-token-next text pre {at} {kind} {b} {p} q {ts} e h a l f k =
+-- what stands where a form is the longest: a token, or one that is too long
+read-stands : {start kind : ℕ} {p l : List ℕ} → Longest kind p l → Stands start l (token (readAs kind p) start (start + length p))
+unfolding readAs
+read-stands {start} {kind} {p} {l} f = go (leb (sizeOf kind p) (mostOf kind)) refl
+  where
+    go : (t : Bool) → leb (sizeOf kind p) (mostOf kind) ≡ t → Stands start l (token (cond t kind kinds.tooLong) start (start + length p))
+    go true e = a-token f (leb-true (sizeOf kind p) (mostOf kind) e)
+    go false e = too-long f (leb-false (sizeOf kind p) (mostOf kind) e)
+
+read-some : {kind : ℕ} {p : List ℕ} → Form kind p → readAs kind p ≡ kinds.endOfText → ⊥
+unfolding readAs
+read-some {kind} {p} f = go (leb (sizeOf kind p) (mostOf kind))
+  where
+    go : (t : Bool) → cond t kind kinds.tooLong ≡ 0 → ⊥
+    go true e = let k = form-kind f in omega arith
+    go false e = omega arith
+
+-- within its size it is read as what it is
+pub read-fitting : (kind : ℕ) (p : List ℕ) → sizeOf kind p ≤ mostOf kind → readAs kind p ≡ kind
+unfolding readAs
+read-fitting kind p f = rw (le-leb (sizeOf kind p) (mostOf kind) f)
+
+-- and what is read as no refusal is within its size
+pub read-sized : (kind : ℕ) (p : List ℕ) → 7 ≤ readAs kind p → sizeOf kind p ≤ mostOf kind
+unfolding readAs
+read-sized kind p = go (leb (sizeOf kind p) (mostOf kind)) refl
+  where
+    go : (t : Bool) → leb (sizeOf kind p) (mostOf kind) ≡ t → 7 ≤ cond t kind kinds.tooLong → sizeOf kind p ≤ mostOf kind
+    go true e h = leb-true (sizeOf kind p) (mostOf kind) e
+    go false e h = absurd (omega arith)
+
+-- a form behind blanks, and the list from its end on
+pub form-next : (text pre : List ℕ) {at kind : ℕ} {b p : List ℕ} (q : List ℕ) {ts : List Lexeme} → text ≡ pre ++ (b ++ (p ++ q)) → at ≡ length pre
+    → All Blanks b → Longest kind p (p ++ q) → TokensOf text (at + length b + length p) ts
+    → TokensOf text at (lexemeAt (at + length b) (readAs kind p) p ∷ ts)
+form-next text pre {at} {kind} {b} {p} q {ts} e h a l k =
     let start = at + length b in
-    let t = token kind start (start + length p) in
+    let t = token (readAs kind p) start (start + length p) in
     let here : text ≡ (pre ++ b) ++ (p ++ q) = e ∙ sym (append-assoc pre b (p ++ q)) in
     let own = own-bytes text (pre ++ b) p q start here (omega (arith, length-append pre b)) in
     let stands : StandsAt text at t = record {
@@ -53,17 +88,22 @@ token-next text pre {at} {kind} {b} {p} q {ts} e h a l f k =
       parts = rw (e, h) (drop-append-seam pre (b ++ (p ++ q)));
       passed = a;
       no-blank = form-first (l .form) q;
-      stands = a-token l f;
+      stands = read-stands l;
     } in
-    let some : kind ≡ 0 → ⊥ = λ z. let y = form-kind (l .form) in omega arith in
-    let all : TokensOf text at (lexeme text t ∷ ts) = goes-on stands some k in
+    let all : TokensOf text at (lexeme text t ∷ ts) = goes-on stands (read-some (l .form)) k in
     rw own at all
+
+-- a token within its size
+pub token-next : (text pre : List ℕ) {at kind : ℕ} {b p : List ℕ} (q : List ℕ) {ts : List Lexeme} → text ≡ pre ++ (b ++ (p ++ q)) → at ≡ length pre
+    → All Blanks b → Longest kind p (p ++ q) → sizeOf kind p ≤ mostOf kind → TokensOf text (at + length b + length p) ts
+    → TokensOf text at (lexemeAt (at + length b) kind p ∷ ts)
+token-next text pre {kind = kind} {p = p} q e h a l f k = rw (read-fitting kind p f) at (form-next text pre q e h a l k)
 
 -- what is before the rest of a text, behind a token
 pub behind-token : (text pre b p q : List ℕ) → text ≡ pre ++ (b ++ (p ++ q)) → text ≡ ((pre ++ b) ++ p) ++ q
 behind-token text pre b p q e = e ∙ simp append-assoc
 
-laid-stand : (text pre : List ℕ) {at : ℕ} {rest : List ℕ} {ts : List Lexeme} → text ≡ pre ++ rest → at ≡ length pre → Laid at rest ts → TokensOf text at ts
+pub laid-stand : (text pre : List ℕ) {at : ℕ} {rest : List ℕ} {ts : List Lexeme} → text ≡ pre ++ rest → at ≡ length pre → Laid at rest ts → TokensOf text at ts
 unfolding classOf
 laid-stand text pre {at} e h (blank {b = b} a) =
     let stands : StandsAt text at (token 0 (at + length b) (at + length b)) = record {

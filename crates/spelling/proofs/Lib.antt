@@ -6,3 +6,6 @@ pub mod Inner
 pub mod Pieced
 pub mod MoveLaws
 pub mod Texts
+pub mod Fixed
+pub mod Printing
+pub mod Productions

@@ -1,6 +1,6 @@
--- Texts that are spelled token by token, with single blanks between. Definitions only.
+-- Tokens, spelled, and what may stand behind them. Definitions only.
 use mathlib.Core.Bool.{Bool, true, cond, not, _&&_, _||_}
-use mathlib.Core.List.{List, [], _∷_, _++_}
+use mathlib.Core.List.{List, [], _∷_}
 use Prim.Native.Nat.{ℕ, _+_, _≤_}
 use Prim.Native.Char.{code}
 use lib.Dec.{eqb}
@@ -20,20 +20,9 @@ pub record Spelling : Type 0 where
   pub form : Form kind bytes
   pub fits : sizeOf kind bytes ≤ mostOf kind
 
--- tokens with single blanks between them
-unfoldable pub spelled : List Spelling → List ℕ
-spelled [] = []
-spelled (x ∷ []) = x .bytes
-spelled (x ∷ y ∷ xs) = x .bytes ++ code " " ∷ spelled (y ∷ xs)
-
 -- a token that starts at a place
 abbrev pub lexemeAt : ℕ → ℕ → List ℕ → Lexeme
 lexemeAt start kind p = record { kind = kind; start = start; end = start + length p; bytes = p }
-
--- tokens that start at a place, each one byte behind the one before
-unfoldable pub spaced : ℕ → List Spelling → List Lexeme
-spaced at [] = []
-spaced at (x ∷ xs) = lexemeAt at (x .kind) (x .bytes) ∷ spaced (at + length (x .bytes) + 1) xs
 
 -- what a token says, apart from its place; and what a spelling does
 abbrev pub lexemeSays : Lexeme → ℕ × List ℕ

@@ -86,6 +86,24 @@ pub fn sum_of(bytes: &[u8]) -> u64
     sum
 }
 
+// Room before it is lent: byte n is n mod 251.
+pub fn fill(room: &mut [u8]) {
+    let mut i = 0;
+    while i < room.len() {
+        room[i] = (i % 251) as u8;
+        i += 1;
+    }
+}
+
+// A sum goes into the last byte of a buffer before each call that is counted, past what is lent to it, so the compiler can neither drop a call nor take one for all.
+pub fn stamp(bytes: &mut [u8], sum: u64) {
+    let n = bytes.len();
+    if 0 < n {
+        let last = n - 1;
+        bytes[last] = (sum % 256) as u8;
+    }
+}
+
 // The length of the next part.
 fn part_size() -> usize
     ensures { λ r. ⌜ r < 65536 ⌝ }

@@ -6,6 +6,7 @@ pub mod compile;
 pub mod deciding;
 #[cfg(test)]
 mod example;
+pub mod locks;
 pub mod numbers;
 pub mod patterns;
 pub mod plans;

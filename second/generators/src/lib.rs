@@ -5,6 +5,7 @@ pub mod condition_texts;
 pub mod damaged_texts;
 pub mod examples;
 pub mod literals;
+pub mod lock_bytes;
 pub mod policy_texts;
 pub mod random;
 pub mod requests;

@@ -7,6 +7,7 @@ use std::process::{self, Command, Stdio};
 use std::sync::atomic::{AtomicUsize, Ordering};
 
 use definitions::asking::{self, Case};
+use definitions::locks::{self, Lent};
 
 use crate::command::{not_asked, Done};
 
@@ -20,6 +21,8 @@ pub trait Answers {
     fn decide(&self, text: &[u8], cases: &[Case]) -> Done<String>;
     /// What `ask tally` prints for these three files.
     fn tally(&self, text: &[u8], question: &[u8], requests: &[u8]) -> Done<String>;
+    /// What `caretaker` prints for what is lent, with a room of so many bytes.
+    fn lock(&self, lent: Lent, room: usize) -> Done<Vec<u8>>;
 }
 
 /// The variable that names the program which runs the proved programs: `./desk` sets it.
@@ -33,6 +36,10 @@ pub struct Programs;
 
 impl Programs {
     fn run(&self, words: &[&str], files: &[(&str, &[u8])]) -> Done<String> {
+        Ok(String::from_utf8_lossy(&self.run_for_bytes(words, files)?).into_owned())
+    }
+
+    fn run_for_bytes(&self, words: &[&str], files: &[(&str, &[u8])]) -> Done<Vec<u8>> {
         let runner = match env::var_os(RUNNER) {
             Some(runner) => runner,
             None => {
@@ -59,7 +66,7 @@ impl Programs {
             Ok(output) if output.stdout.is_empty() && !output.status.success() => {
                 not_asked(format!("the proved program {} gave no answer", words[0]))
             }
-            Ok(output) => Ok(String::from_utf8_lossy(&output.stdout).into_owned()),
+            Ok(output) => Ok(output.stdout),
         }
     }
 }
@@ -80,6 +87,17 @@ impl Answers for Programs {
 
     fn tally(&self, text: &[u8], question: &[u8], requests: &[u8]) -> Done<String> {
         self.run(&["ask", "tally"], &[("policy.txt", text), ("question.bin", question), ("requests.bin", requests)])
+    }
+
+    fn lock(&self, lent: Lent, room: usize) -> Done<Vec<u8>> {
+        let files = [
+            ("vocabulary.bin", lent.vocabulary),
+            ("lock.txt", lent.lock),
+            ("actions.bin", lent.actions),
+            ("resource.txt", lent.resource),
+            ("room.bin", &vec![0; room]),
+        ];
+        self.run_for_bytes(&["caretaker"], &files)
     }
 }
 
@@ -194,6 +212,21 @@ pub fn decide(desk: &dyn Answers, text: &[u8], cases: &[Case]) -> Done<Result<Ve
     Ok(Ok(answers))
 }
 
+/// A lock's permit, or its refusal.
+pub fn lock(desk: &dyn Answers, lent: Lent, room: usize) -> Done<Result<String, Refused>> {
+    let printed = desk.lock(lent, room)?;
+    let [proved, own] = [&printed, &locks::printed(lent, room)].map(|said| String::from_utf8_lossy(said).into_owned());
+    hold(&proved, &own)?;
+    let line = match String::from_utf8(printed) {
+        Ok(line) => line.trim_end_matches('\n').to_string(),
+        Err(_) => return not_asked("the permit has bytes that are no UTF-8: it cannot be printed as text"),
+    };
+    Ok(match read_refused(&line) {
+        Some(refused) => Err(refused),
+        None => Ok(line),
+    })
+}
+
 #[cfg(test)]
 pub mod tests {
     use super::*;
@@ -218,6 +251,10 @@ pub mod tests {
         fn tally(&self, text: &[u8], question: &[u8], requests: &[u8]) -> Done<String> {
             Ok(asking::printed_tally(text, question, requests))
         }
+
+        fn lock(&self, lent: Lent, room: usize) -> Done<Vec<u8>> {
+            Ok(locks::printed(lent, room))
+        }
     }
 
     /// Answers always the same.
@@ -239,6 +276,10 @@ pub mod tests {
         fn tally(&self, _: &[u8], _: &[u8], _: &[u8]) -> Done<String> {
             Ok(self.0.to_string())
         }
+
+        fn lock(&self, _: Lent, _: usize) -> Done<Vec<u8>> {
+            Ok(self.0.into())
+        }
     }
 
     #[test]
@@ -251,6 +292,13 @@ pub mod tests {
         for wrong in ["", "compiled 2 20\n", "refused 10 1 1\n", "decided 1 2\n", "decided 1 1\ndecided 1 1\n"] {
             assert!(check(&Wrong(wrong), text).is_err(), "{}", wrong);
             assert!(decide(&Wrong(wrong), text, &[case.clone()]).is_err(), "{}", wrong);
+        }
+        let lent = Lent { vocabulary: b"\x01a\x01b\x01", lock: b"a:c", actions: b"\x01d", resource: b"e" };
+        let permit = "permit(principal, action in [\"d\"], resource == \"e\") when { principal.b == \"c\" };";
+        assert_eq!(lock(&StandIn, lent, 100), Ok(Ok(permit.to_string())));
+        assert_eq!(lock(&StandIn, lent, 9), Ok(Err(Refused { number: 29, line: 0, column: 0 })));
+        for wrong in ["", "refused 28 0 0\n", "permit(principal, action, resource);\n", permit] {
+            assert!(lock(&Wrong(wrong), lent, 100).is_err(), "{}", wrong);
         }
     }
 }

@@ -46,6 +46,7 @@ pub struct Words {
     pub row: Option<usize>,
     pub request: Option<usize>,
     pub lines: bool,
+    pub room: Option<usize>,
     pub table: bool,
     pub forbidden: bool,
     pub missing_is_empty: bool,
@@ -82,6 +83,10 @@ impl Words {
                 "--request" => match value().map(|number| number.parse()) {
                     Some(Ok(number)) => read.request = Some(number),
                     _ => return usage("--request needs the number of a request, from 1".to_string()),
+                },
+                "--room" => match value().map(|number| number.parse::<u16>()) {
+                    Some(Ok(number)) => read.room = Some(usize::from(number)),
+                    _ => return usage("--room needs a number of bytes, at most 65,535".to_string()),
                 },
                 _ => match value().map(|number| number.parse()) {
                     Some(Ok(number)) => read.row = Some(number),

@@ -692,3 +692,51 @@ fn the_examples_have_no_stale_files() {
         assert_eq!(said.status, 0, "{}", all(&said));
     }
 }
+
+const WORDS: &str = "word firm = principal.firm, equality\nword grade = principal.grade, number\n\
+    actions = \"teach\"\nresource = \"shaft:A\"\n";
+
+// Locks: permits that compile, or the reasons, and no permit where one is refused.
+#[test]
+fn locks_are_permits() {
+    let folder = Folder::new(&[
+        ("lock.txt", &format!("{}lock = firm:own\nlock = grade>=3\n", WORDS)),
+        ("bad.txt", &format!("{}lock = firm:own\nlock = grade:3\nlock = level>3\n", WORDS)),
+        ("none.txt", WORDS),
+    ]);
+    let said = folder.says(&["lock", "@"]);
+    assert_eq!(said.status, 0);
+    let head = "permit(principal, action in [\"teach\"], resource == \"shaft:A\") when { principal.";
+    assert_eq!(said.out, format!("{}firm == \"own\" }};\n{}grade >= 3 }};\n", head, head));
+    fs::write(folder.path("policy.txt"), said.out).unwrap();
+    assert!(folder.says(&["check", "@"]).out.contains("2 policies, 2 permits and 0 forbids"));
+    let said = folder.says(&["lock", "@bad.txt"]);
+    assert_eq!(said.status, 1);
+    assert!(!said.out.contains("permit("));
+    for words in
+        ["Refused, number 28.", "bad.txt, line 6, column 13:", "    lock = grade:3\n                ^", "no word level"]
+    {
+        assert!(said.out.contains(words), "{}: {}", words, said.out);
+    }
+    let said = folder.says(&["lock", "@lock.txt", "--room", "10"]);
+    assert_eq!(said.status, 1);
+    assert!(said.out.starts_with("Refused, number 29.\nThe permit has 95 bytes, and its room 10."), "{}", said.out);
+    assert_eq!(folder.says(&["lock", "@lock.txt", "--room", "95"]).status, 0);
+    assert_eq!(folder.says(&["lock", "@none.txt"]).status, 2);
+    assert!(folder.says(&["lock", "@", "--room", "x"]).warnings[0].contains("--room needs a number of bytes"));
+}
+
+#[test]
+fn the_example_of_locks_is_as_stored() {
+    let folder = Path::new(env!("CARGO_MANIFEST_DIR")).join("../../examples/lock");
+    let said = run(&StandIn, &["lock", &folder.to_string_lossy()]).unwrap();
+    assert_eq!(said.out, fs::read_to_string(folder.join("permits.txt")).unwrap());
+    for permit in said.out.lines() {
+        assert!(include_str!("../../../docs/LOCKS.md").contains(permit), "{}", permit);
+    }
+    let tests = folder.join("tests.txt");
+    let rules = folder.join("permits.txt");
+    let words = ["test", &tests.to_string_lossy(), "--rules", &rules.to_string_lossy()];
+    let said = run(&StandIn, &words).unwrap();
+    assert!(said.status == 0 && said.out.contains(", 0 failed"), "{}", said.out);
+}

@@ -4,7 +4,9 @@ use std::fs;
 use std::path::Path;
 
 use definitions::compile::policies_of;
+use definitions::locks::{permit_of, NO_LOCK};
 use definitions::policies::{Effect, Policy};
+use definitions::tokens::place_of;
 
 use crate::answers::{self, Answer, Answers, Refused};
 use crate::asked::{file_name, read_asked, write_made, Asked, RULES};
@@ -13,8 +15,10 @@ use crate::command::{not_asked, read_file, Done, Said, Words};
 use crate::diffing::{diff, diff_text};
 use crate::doubts::{doubts, doubts_of_all};
 use crate::explaining::{conclusion, disarmed, explained};
+use crate::lock_reasons::{doubts_of, no_room, sentence_of};
+use crate::locking::{read_locks, LockFile, LockLine};
 use crate::page;
-use crate::places::wrong_in_text;
+use crate::places::{wrong_in_text, PlaceShown};
 use crate::plain;
 use crate::printed::{check_belongs, read_printed, Listed, Printed};
 use crate::record::record_of;
@@ -192,10 +196,7 @@ fn add_doubts(asked: &mut Asked) -> Vec<Policy> {
 /// `check`: whether a rule text compiles.
 pub fn check(desk: &dyn Answers, words: &[&str]) -> Done<Said> {
     let words = Words::read(words, &[], 1..=1)?;
-    let mut name = words.names[0].clone();
-    if Path::new(&name).is_dir() {
-        name = Path::new(&name).join(RULES).to_string_lossy().into_owned();
-    }
+    let name = in_folder(&words.names[0], RULES);
     let text = read_file(&name)?;
     match answers::check(desk, &text)? {
         Ok(policies) => {
@@ -212,6 +213,15 @@ pub fn check(desk: &dyn Answers, words: &[&str]) -> Done<Said> {
             )))
         }
         Err(refused) => Ok(Said::refused(refused_rules(&name, &text, refused)?)),
+    }
+}
+
+/// The file of this name in a folder, or the file that is named.
+fn in_folder(name: &str, file: &str) -> String {
+    if Path::new(name).is_dir() {
+        Path::new(name).join(file).to_string_lossy().into_owned()
+    } else {
+        name.to_string()
     }
 }
 
@@ -389,4 +399,49 @@ pub fn read(words: &[&str]) -> Done<Said> {
         Ok(form) => Ok(Said::answered(text_of(&form))),
         Err(bad) => not_asked(format!("{}: byte {}: {}", name, bad.at, bad.what)),
     }
+}
+
+/// The name of a folder's file of locks, and the bytes of the longest permit.
+const LOCKS: &str = "lock.txt";
+const LONGEST_PERMIT: usize = 5_651;
+
+/// `lock`: the permits of a file's locks, or why one is refused.
+pub fn lock(desk: &dyn Answers, words: &[&str]) -> Done<Said> {
+    let words = Words::read(words, &["--room"], 1..=1)?;
+    let name = in_folder(&words.names[0], LOCKS);
+    let text = read_file(&name)?;
+    let file = read_locks(&text).or_else(|wrong| not_asked(wrong_in_text(&name, &text, &wrong)))?;
+    let room = words.room.unwrap_or(LONGEST_PERMIT);
+    let mut said = Said::default();
+    let mut refusals = String::new();
+    for line in &file.locks {
+        let lent = file.lent(line);
+        match answers::lock(desk, lent.lent(), room)? {
+            Ok(permit) => {
+                said.out += &format!("{}\n", permit);
+                for doubt in doubts_of(&lent, line) {
+                    if !said.warnings.contains(&doubt) {
+                        said.warnings.push(doubt);
+                    }
+                }
+            }
+            Err(refused) => refusals += &refused_lock(&file, line, (&name, &text), (refused.number, room))?,
+        }
+    }
+    Ok(if refusals.is_empty() { said } else { Said::refused(refusals) })
+}
+
+/// A refusal of a lock, with its reason and its place in the file of this name.
+fn refused_lock(file: &LockFile, line: &LockLine, named: (&str, &[u8]), refused: (usize, usize)) -> Done<String> {
+    let ((name, text), (number, room)) = (named, refused);
+    let (at, meaning) = match permit_of(file.lent(line).lent()) {
+        Err(flaw) if number == usize::from(NO_LOCK) => (file.place(line, &flaw), sentence_of(file, line, &flaw)),
+        Ok(permit) => (line.lock.at, no_room(permit.text().len(), room)),
+        Err(_) => {
+            return not_asked(format!("the proved program refuses with {}, and what explains it with 28", number))
+        }
+    };
+    let place = place_of(text, at);
+    let shown = RefusalShown { number, meaning, place: PlaceShown::new(text, place.line, place.column) };
+    Ok(shown.text(name))
 }

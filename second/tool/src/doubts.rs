@@ -296,7 +296,7 @@ fn literals(leaf: &Condition) -> Vec<Literal> {
 }
 
 /// `: did you mean ..?`, if some name is near: of three letters at most one differs.
-fn nearest(name: &str, names: &[String]) -> String {
+pub fn nearest(name: &str, names: &[String]) -> String {
     let own = |name: &str| name.split('.').last().map_or(0, str::len);
     let is_near = |far: usize, other: &str| far <= 2 && far * 3 <= own(name).min(own(other));
     let near = names.iter().map(|other| (distance(name, other), other)).filter(|(far, other)| is_near(*far, other));

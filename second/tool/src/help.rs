@@ -8,7 +8,7 @@ pub struct Help {
     pub more: &'static str,
 }
 
-pub const COMMANDS: [Help; 9] = [
+pub const COMMANDS: [Help; 10] = [
     Help {
         name: "sheet",
         usage: "WHERE [--rules FILE] [--request N] [--table | --html FILE] [--forbidden]",
@@ -95,6 +95,21 @@ subject, action and resource of each, each behind a byte with its length.",
         line: "print the question or bag in a file of bytes as text",
         more: "Writing that text gives the same bytes again.",
     },
+    Help {
+        name: "lock",
+        usage: "WHERE [--room N]",
+        line: "the permit of a lock in the caretaker's short form, ready for a rule text",
+        more: "\
+WHERE is a text file, or a folder with lock.txt: the vocabulary's words, and actions, a resource and a lock, or several:
+    word firm = principal.firm, equality
+    word flag = principal.flags, membership
+    word grade = principal.grade, number
+    actions = \"teach\", \"read\"
+    resource = \"shaft:A\"
+    lock = firm:own & flag:taught & grade>=3
+Each lock is printed as a permit, one a line; if one is refused, none is. docs/LOCKS.md tells more.
+  --room N   the bytes that the permit may have; without it, as many as the longest permit has",
+    },
 ];
 
 const STATUS: &str =
@@ -107,7 +122,7 @@ pub fn overview() -> String {
         text += &format!("  {:<8} {}\n", command.name, command.line);
     }
     text + &format!(
-        "\n./desk COMMAND --help tells more. docs/QUESTIONS.md has the form of questions, bags and tests.\n{}\n",
+        "\n./desk COMMAND --help tells more. docs/QUESTIONS.md has the form of questions, bags and tests, docs/LOCKS.md that of locks.\n{}\n",
         STATUS
     )
 }

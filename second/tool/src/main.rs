@@ -14,6 +14,8 @@ mod explaining;
 mod form;
 mod help;
 mod holes;
+mod lock_reasons;
+mod locking;
 mod page;
 mod places;
 mod plain;
@@ -75,6 +77,7 @@ fn run(desk: &dyn Answers, words: &[&str]) -> Done<Said> {
         "test" => commands::test(desk, rest),
         "diff" => commands::difference(desk, rest),
         "write" => commands::write(rest),
+        "lock" => commands::lock(desk, rest),
         _ => commands::read(rest),
     }
 }

@@ -458,6 +458,17 @@ impl<'a> Reader<'a> {
     /// A string in one line, with its escapes.
     pub fn string(&mut self) -> Read<Vec<u8>> {
         let start = self.at;
+        let string = self.long_string()?;
+        if string.len() > usize::from(LONGEST_STRING) {
+            let what = format!("this string has {} bytes; expected at most {}", string.len(), LONGEST_STRING);
+            return wrong(start, what);
+        }
+        Ok(string)
+    }
+
+    /// A string of any length.
+    pub fn long_string(&mut self) -> Read<Vec<u8>> {
+        let start = self.at;
         self.at += 1;
         let mut string = Vec::new();
         loop {
@@ -475,10 +486,6 @@ impl<'a> Reader<'a> {
                 }
                 Some(byte) => string.push(*byte),
             }
-        }
-        if string.len() > usize::from(LONGEST_STRING) {
-            let what = format!("this string has {} bytes; expected at most {}", string.len(), LONGEST_STRING);
-            return wrong(start, what);
         }
         Ok(string)
     }

@@ -34,8 +34,8 @@ pub fn standard_input() -> Result<Vec<u8>, Failure> {
     Ok(bytes)
 }
 
-pub fn print(text: &str) -> Result<(), Failure> {
-    io::stdout().write_all(text.as_bytes()).map_err(|error| failed("standard output", error))
+pub fn print(text: impl AsRef<[u8]>) -> Result<(), Failure> {
+    io::stdout().write_all(text.as_ref()).map_err(|error| failed("standard output", error))
 }
 
 /// What could not be read or written, and why.

@@ -3,6 +3,7 @@
 use definitions::bags::{path_without_blanks, read_bag, Bag, Content, Value};
 use definitions::compile::{compile as compile_text, policies_of, policies_said_by};
 use definitions::deciding::{Facts, Request};
+use definitions::locks::permit_of;
 use definitions::numbers::value_of;
 use definitions::patterns::reached;
 use definitions::questions::{read_question, Question};
@@ -15,6 +16,7 @@ use crate::bags_vectors;
 use crate::begins_vectors;
 use crate::compile_vectors::{self, room_of};
 use crate::decide_vectors;
+use crate::lock_vectors::{self, lent_of};
 use crate::number_vectors;
 use crate::pattern_vectors;
 use crate::questions_vectors;
@@ -327,6 +329,35 @@ fn group(counts: &[u32], number: usize) -> String {
         .map(|index| format!("policy {} decides {}", index + 1, policies[index]))
         .collect();
     format!("rows of outcomes 1 to 4: {:?}; [{}]\n", outcomes, deciding.join(", "))
+}
+
+/// A typed lock: the parts of a lock vector.
+pub fn read_lock(typed: &[u8]) -> Option<Vector> {
+    read_parts(typed, 9).filter(|vector| vector[4].len() == 2)
+}
+
+/// What is lent; the permit, or the reason of 28 and its place; and the bag and the request.
+pub fn lock(vector: &Vector) -> String {
+    let mut lines = String::new();
+    for (name, part) in ["vocabulary", "lock", "actions", "resource", "room"].iter().zip(vector) {
+        lines.push_str(&format!("{} ({} bytes): {}\n", name, part.len(), part.escape_ascii()));
+    }
+    match permit_of(lent_of(vector)) {
+        Ok(permit) => {
+            let text = permit.text();
+            lines.push_str(&format!("permit ({} bytes):\n{}\n", text.len(), text.escape_ascii()));
+        }
+        Err(flaw) => lines.push_str(&format!("28: {:?} at byte {} of {:?}\n", flaw.reason, flaw.at, flaw.part)),
+    }
+    for (name, part) in ["subject", "action", "resource"].iter().zip(&vector[6..9]) {
+        lines.push_str(&format!("{} ({} bytes): {}\n", name, part.len(), part.escape_ascii()));
+    }
+    match read_bag(&vector[5]) {
+        Some(bag) => lines.push_str(&sections(&bag)),
+        None => lines.push_str(&format!("not a bag: {}\n", vector[5].escape_ascii())),
+    }
+    lines.push_str(&format!("answer: {}\n", lock_vectors::answer(vector)));
+    lines
 }
 
 /// The text and the request of a decide or sheet vector, and whether the table is the text's.

@@ -7,6 +7,7 @@ mod compile_vectors;
 mod decide_vectors;
 mod explain;
 mod folders;
+mod lock_vectors;
 mod number_vectors;
 mod packing;
 mod pattern_vectors;
@@ -22,7 +23,7 @@ use std::fs;
 use std::io;
 use std::path::Path;
 
-use definitions::{asking, compile, deciding, sheets};
+use definitions::{asking, compile, deciding, locks, sheets};
 
 use command::{failed, print, standard_input, Failure};
 use vector::Vector;
@@ -38,8 +39,9 @@ const USAGE: &str = "usage:
   second ask check DIR                       print what `ask check` prints for policy.txt in DIR
   second ask decide DIR                      print what `ask decide` prints for policy.txt and cases.bin in DIR
   second ask tally DIR                       print what `ask tally` prints for policy.txt, question.bin and requests.bin in DIR
-SORT is tokens, number, like, compile, begins, bag, question, view, decide, sheet or tally; README.md says what the
-input of each is";
+  second caretaker DIR                       print what `caretaker` prints for the files in DIR
+SORT is tokens, number, like, compile, begins, bag, question, view, decide, sheet, tally or lock; README.md says what
+the input of each is";
 
 /// The bytes of the sheets that `second sheet` lends.
 const PAGE_BYTES: usize = 6_000;
@@ -81,6 +83,7 @@ fn run(words: &[&str]) -> Result<(), Failure> {
             print(&decided(&text, &bag, &request))
         }
         ["ask", word @ ("check" | "decide" | "tally"), directory] => ask(word, directory),
+        ["caretaker", directory] => caretaker(directory),
         _ => Err(Failure::Usage),
     }
 }
@@ -100,9 +103,17 @@ fn ask(word: &str, directory: &str) -> Result<(), Failure> {
     print(&asking::printed_decide(&text, &cases))
 }
 
+/// What the program `caretaker` prints for the files of a folder.
+fn caretaker(directory: &str) -> Result<(), Failure> {
+    let names = ["vocabulary.bin", "lock.txt", "actions.bin", "resource.txt", "room.bin"];
+    let [vocabulary, lock, actions, resource, room] = files(directory, names)?;
+    let lent = locks::Lent { vocabulary: &vocabulary, lock: &lock, actions: &actions, resource: &resource };
+    print(&locks::printed(lent, room.len()))
+}
+
 /// The files' bytes; a missing file is empty.
-fn files(directory: &str, names: [&str; 3]) -> Result<[Vec<u8>; 3], Failure> {
-    let mut all = [Vec::new(), Vec::new(), Vec::new()];
+fn files<const N: usize>(directory: &str, names: [&str; N]) -> Result<[Vec<u8>; N], Failure> {
+    let mut all = names.map(|_| Vec::new());
     for (bytes, name) in all.iter_mut().zip(names) {
         let path = Path::new(directory).join(name);
         match fs::read(&path) {

@@ -12,7 +12,12 @@ pub fn sum_of(bytes: &[u8]) -> u64 {
 
 /// A vector's request; its parts are text, table, bag or question, and then these.
 pub fn request_of(vector: &Vector) -> Request<'_> {
-    Request { subject: &vector[3], action: &vector[4], resource: &vector[5] }
+    request_in(&vector[3..6])
+}
+
+/// The request in three parts.
+pub fn request_in(parts: &[Vec<u8>]) -> Request<'_> {
+    Request { subject: &parts[0], action: &parts[1], resource: &parts[2] }
 }
 
 /// Add a part after its length in 2 bytes.

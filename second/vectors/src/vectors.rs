@@ -11,6 +11,7 @@ use crate::begins_vectors;
 use crate::compile_vectors;
 use crate::decide_vectors;
 use crate::explain;
+use crate::lock_vectors;
 use crate::number_vectors;
 use crate::packing::{Packer, Unpacker};
 use crate::pattern_vectors;
@@ -49,7 +50,7 @@ pub struct Sort {
 }
 
 /// All sorts of vectors.
-pub static SORTS: [Sort; 11] = [
+pub static SORTS: [Sort; 12] = [
     Sort {
         name: "tokens",
         explain_word: "tokens",
@@ -181,6 +182,18 @@ pub static SORTS: [Sort; 11] = [
         answer: tally_vectors::answer,
         read_typed: explain::read_tally,
         explain: explain::tally,
+    },
+    Sort {
+        name: "lock",
+        explain_word: "lock",
+        parts: 9,
+        packed: true,
+        count: 20_000,
+        fixed: lock_vectors::fixed,
+        random: lock_vectors::random,
+        answer: lock_vectors::answer,
+        read_typed: explain::read_lock,
+        explain: explain::lock,
     },
 ];
 

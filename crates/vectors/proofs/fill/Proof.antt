@@ -1,16 +1,16 @@
--- `sheet_vectors::fill` is safe and ends. Assumes nothing.
+-- `vectors::fill` is safe and ends. Assumes nothing.
 use Prim.Native.Nat.{_-_}
 use mathlib.Core.Path.{_≡_}
 use borrow.Author.Needs.{needs}
 use lib.ListN.{length}
-use Rattle.sheet_vectors.proofs.fill.Statement.{statement}
-use Rattle.sheet_vectors.proofs.fill.Tie as tie
+use Rattle.vectors.proofs.fill.Statement.{statement}
+use Rattle.vectors.proofs.fill.Tie as tie
 
 abbrev Inv-loop : tie.InvT-loop
-Inv-loop sheet₀ i₀ sheet i = length sheet ≡ length sheet₀
+Inv-loop room₀ i₀ room i = length room ≡ length room₀
 
 abbrev μ-loop : tie.MeasureT-loop
-μ-loop sheet₀ i₀ sheet i = length sheet₀ - i
+μ-loop room₀ i₀ room i = length room₀ - i
 
 pub fill-spec : {M : Type 1} → statement M
 fill-spec =

@@ -1,0 +1,15 @@
+use native.Mathlib.Omega.{arith}
+use borrow.Author.Needs.{needs}
+use Rattle.locks.specs.Reading.{goesWith}
+use Rattle.locks.proofs.tests.goes_with.Statement.{statement}
+use Rattle.locks.proofs.tests.goes_with.Tie as tie
+use Rattle.locks.proofs.tests.goes_with.Reads as reads
+use Rattle.locks.proofs.tests.goes_with.Lts as lts
+
+-- src/tests.rt:49:1
+returns : tie.Need-returns
+unfolding goesWith
+returns c = search needs
+
+pub goes-with-spec : {M : Type 1} → statement M
+goes-with-spec = tie.close (tie.spec returns)

@@ -1,0 +1,5 @@
+pub mod Means
+pub mod Values
+pub mod Tests
+pub mod Says
+pub mod Examples

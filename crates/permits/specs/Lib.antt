@@ -1,0 +1,3 @@
+pub mod Permits
+pub mod Meaning
+pub mod Promise

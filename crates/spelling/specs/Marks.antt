@@ -1,0 +1,19 @@
+-- How strings and comparators are written. Definitions only.
+use mathlib.Core.List.{List, [], _∷_, _++_}
+use Prim.Native.Nat.{ℕ}
+use Rattle.slices.specs.Ascii.{bytes}
+use Rattle.tokens.specs.Forms.{quote}
+use Rattle.grammar.specs.Policies.{Comparator, Comparator.Equal, Comparator.NotEqual, Comparator.More, Comparator.AtLeast, Comparator.Less, Comparator.AtMost}
+
+-- a string with its quotes
+abbrev pub quoted : List ℕ → List ℕ
+quoted s = quote ∷ (s ++ quote ∷ [])
+
+-- a comparator's mark
+unfoldable pub markOf : Comparator → List ℕ
+markOf Equal = bytes "=="
+markOf NotEqual = bytes "!="
+markOf More = bytes ">"
+markOf AtLeast = bytes ">="
+markOf Less = bytes "<"
+markOf AtMost = bytes "<="
