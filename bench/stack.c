@@ -8,7 +8,8 @@
 //   every word of two levels, repeated so, around the leaves of each sort that took most, and every word of three around those that took most of all;
 //   4,000 texts whose levels, chain and leaf are drawn by chance, the same in every run;
 //   then, in the texts that took most, every other level at every place, every other chain in the braces and every other leaf, until nothing takes more;
-//   and a chain of 1,301 conditions, which is to take no more than the leaves without levels.
+//   a chain of 1,301 conditions, which is to take no more than the leaves without levels;
+//   and the deepest of these texts with `like` and one to five stars, which are to take no more than with none.
 #include "desk.h"
 #include <stdio.h>
 #include <stdlib.h>
@@ -165,12 +166,14 @@ static struct call {
     void (*call)(void);
     size_t limit, most;
     struct nesting deepest;
-} calls[] = {{"compile", compile, 14500, 0, {0}}, {"begins", begins, 14500, 0, {0}}, {"decide", decide, 16000, 0, {0}}, {"tally", tally, 17500, 0, {0}}, {"sheet", page, 17500, 0, {0}}, {"lookup", lookup, 1000, 0, {0}}, {"string", string, 1000, 0, {0}}, {"rows", rows, 1000, 0, {0}}, {"lock", lock, 3000, 0, {0}}};
+} calls[] = {{"compile", compile, 14500, 0, {0}}, {"begins", begins, 14500, 0, {0}}, {"decide", decide, 15000, 0, {0}}, {"tally", tally, 17500, 0, {0}}, {"sheet", page, 17000, 0, {0}}, {"lookup", lookup, 1000, 0, {0}}, {"string", string, 1000, 0, {0}}, {"rows", rows, 1000, 0, {0}}, {"lock", lock, 3000, 0, {0}}};
 enum { WITH_TEXT = 5, CALLS = COUNT(calls) };
 static size_t most_of_sort[WITH_TEXT][SORTS];   // the most with leaves of each sort, and with which leaf
 static int leaf_of_sort[WITH_TEXT][SORTS];
 static size_t most_of_row[STEPS + 2][WITH_TEXT]; // with each level repeated, without levels, and of the chain
 enum { NO_LEVELS = STEPS, LONG_CHAIN = STEPS + 1 };
+enum { MOST_STARS = 5 };
+static size_t of_stars[MOST_STARS + 1][WITH_TEXT]; // the deepest nesting around `like`, by the stars of its pattern
 static size_t round_a_call; // what a call of nothing takes
 static long tried;
 
@@ -314,6 +317,24 @@ static void try_long_chain(void) {
         }
 }
 
+// The same nesting around `like`, with none to five stars.
+static void try_stars(const struct nesting *n) {
+    static const char *const patterns[MOST_STARS + 1] = {"abcde", "*abcde", "*a*bcde", "*a*b*cde", "*a*b*c*de", "*a*b*c*d*e"};
+    for (int stars = 0; stars <= MOST_STARS; stars++) {
+        struct nesting m = *n;
+        m.leaf = leaf_count;
+        leaf(LIKE, "\"abcde\" like \"", patterns[stars], "\"");
+        leaf_count--;
+        write_text(&m);
+        measure_all(false, of_stars[stars], NULL);
+        for (int i = 0; i < WITH_TEXT; i++)
+            if (of_stars[stars][i] > of_stars[0][i]) {
+                fprintf(stderr, "%s takes %zu bytes of stack with %d stars, and %zu with none\n", calls[i].name, of_stars[stars][i], stars, of_stars[0][i]);
+                wrong = true;
+            }
+    }
+}
+
 static void search(void) {
     for (int l = 0; l < leaf_count; l++) {
         struct nesting flat = {0, 0, {0}, l};
@@ -329,6 +350,7 @@ static void search(void) {
     try_drawn(4000);
     for (int i = 0; i < WITH_TEXT; i++)
         while (try_others(calls[i].deepest)) {}
+    try_stars(&calls[WITH_TEXT - 1].deepest);
 }
 
 // ---- what is printed
@@ -381,6 +403,7 @@ static void print_all(void) {
     printf("| no level"), print_row(most_of_row[NO_LEVELS]);
     printf("| a chain of 1,301 conditions"), print_row(most_of_row[LONG_CHAIN]);
     for (int i = 0; i < STEPS; i++) printf("| 31 times "), print_round(&steps[i], true), print_row(most_of_row[i]);
+    for (int stars = 0; stars <= MOST_STARS; stars += MOST_STARS) printf("| the sheet's deepest nesting around `like` with %s", stars == 0 ? "no star" : "five stars"), print_row(of_stars[stars]);
     print_head("most bytes of stack", CALLS);
     printf("| measured |");
     for (int i = 0; i < CALLS; i++) printf(" %zu |", calls[i].most);

@@ -4,7 +4,7 @@ use mathlib.Core.Logic.{_↔_, _≢_}
 use mathlib.Core.List.{List, [], _∷_}
 use Prim.Native.Nat.{ℕ, _+_, _<_, _≤_}
 use native.Mathlib.Omega.{arith}
-use mathlib.Core.Bool.{Bool, true, false, not, _&&_}
+use mathlib.Core.Bool.{Bool, true, false, not}
 use lib.Dec.{eqb}
 use lib.ListN.{length, getD, drop, length-drop, drop-of-length-le}
 use borrow.Author.Tests.{eqb-true, eqb-false, eq-eqb, ne-eqb, not-true}
@@ -12,11 +12,10 @@ use Rattle.slices.specs.Decides.{Decides}
 use Rattle.slices.proofs.Decided.{yes-to}
 use Rattle.slices.proofs.Rest.{rest-at}
 use Rattle.patterns.specs.Like.{star, questionMark, colon, Admits, itself, any, Matches, ends, one, none, more}
-use Rattle.patterns.specs.Likes.{bars}
 
 -- ---- Admits
 
-mark-not : {c : ℕ} → Admits questionMark c → c ≢ colon
+pub mark-not : {c : ℕ} → Admits questionMark c → c ≢ colon
 mark-not (itself n m) = absurd (m refl)
 mark-not (any n) = n
 
@@ -30,7 +29,7 @@ pub only-itself : {x c : ℕ} → x ≢ questionMark → Admits x c → x ≡ c
 only-itself n (itself _ _) = refl
 only-itself n (any _) = absurd (n refl)
 
-never-star : {x c : ℕ} → Admits x c → x ≢ star
+pub never-star : {x c : ℕ} → Admits x c → x ≢ star
 never-star (itself n m) = n
 never-star (any n) = λ e. omega arith
 
@@ -52,7 +51,7 @@ itself-admits x c n m = record {
 
 -- ---- Matches, by the heads of its lists
 
-no-star-admits : {c : ℕ} → Admits star c → ⊥
+pub no-star-admits : {c : ℕ} → Admits star c → ⊥
 no-star-admits a = never-star a refl
 
 pub nothing-left : {x : ℕ} {p : List ℕ} → x ≢ star → Matches (x ∷ p) [] → ⊥
@@ -102,37 +101,9 @@ module _ (p s : List ℕ) (i j : ℕ) (hi : i < length p) where
 
 -- ---- a match of a star and the pattern p with what is left of a string s from j on, where p alone does not match that
 
-pub star-last : (p s : List ℕ) (j : ℕ) → length s ≤ j → Matches (star ∷ p) (drop j s) ↔ Matches p (drop j s)
-star-last p s j hj = rw (drop-of-length-le s) (star-ends, none)
-
 module _ (p s : List ℕ) (j : ℕ) (hj : j < length s) (f : Matches p (drop j s) → ⊥) where
   pub star-stops : getD s j 0 ≡ colon → Matches (star ∷ p) (drop j s) → ⊥
   star-stops e = rw (rest-at s j) (λ m. star-takes (rw (rest-at s j) at f) m .0 e)
 
   pub star-on : getD s j 0 ≢ colon → Matches (star ∷ p) (drop j s) ↔ Matches (star ∷ p) (drop (j + 1) s)
   star-on n = rw (rest-at s j) ((λ m. star-takes (rw (rest-at s j) at f) m .1), more n)
-
--- ---- a pattern whose first byte rules out a string that begins with c
-
-pub bars-nothing : (p : List ℕ) (c : ℕ) → length p ≡ 0 → true ≡ bars p c
-unfolding bars
-bars-nothing [] c e = refl
-bars-nothing (x ∷ p) c e = absurd (omega arith)
-
-pub bars-first : (p : List ℕ) (c : ℕ) → (length p ≡ 0 → ⊥) → (not (eqb (getD p 0 0) c) && not (eqb (getD p 0 0) star) && not (eqb (getD p 0 0) questionMark)) ≡ bars p c
-unfolding bars
-bars-first [] c n = absurd (n refl)
-bars-first (x ∷ p) c n = refl
-
-none-begins : {c : ℕ} {s : List ℕ} (p : List ℕ) → bars p c ≡ true → Matches p (c ∷ s) → ⊥
-unfolding bars
-none-begins {c} (x ∷ p) b m = go (eqb x c) (eqb x star) (eqb x questionMark) refl refl refl b
-  where
-    go : (i j k : Bool) → eqb x c ≡ i → eqb x star ≡ j → eqb x questionMark ≡ k → (not i && not j && not k) ≡ true → ⊥
-    go false false false e f g q = eqb-false x c e (only-itself (eqb-false x questionMark g) (head-admits (eqb-false x star f) m))
-    go true j k e f g q = let z : _≡_ {A = ℕ} 0 1 = cc in omega arith
-    go false true k e f g q = let z : _≡_ {A = ℕ} 0 1 = cc in omega arith
-    go false false true e f g q = let z : _≡_ {A = ℕ} 0 1 = cc in omega arith
-
-pub barred-at : (p s : List ℕ) (j : ℕ) → j < length s → bars p (getD s j 0) ≡ true → Matches p (drop j s) → ⊥
-barred-at p s j hj b = rw (rest-at s j) (none-begins p b)

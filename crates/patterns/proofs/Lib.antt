@@ -1,4 +1,5 @@
 pub mod Laws
+pub mod LastStar
 pub mod Computed
 pub mod Cases
 pub mod Opened

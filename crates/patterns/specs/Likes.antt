@@ -24,8 +24,3 @@ unfoldable pub likes : List ℕ → List ℕ → Bool
 likes [] [] = true
 likes [] (c ∷ s) = false
 likes (x ∷ p) s = cond (eqb x star) (runs (likes p) s) (steps x (likes p) s)
-
--- whether a pattern's first character, if any, rules out every string that begins with c
-unfoldable pub bars : List ℕ → ℕ → Bool
-bars [] c = true
-bars (x ∷ p) c = not (eqb x c) && not (eqb x star) && not (eqb x questionMark)

@@ -1,9 +1,10 @@
 // The patterns of `like`: `*` stands for any run of bytes without a colon, `?` for one byte but a colon.
 ghost use mathlib.Core.Path.{_≡_};
 ghost use mathlib.Core.List.{_∷_};
+ghost use Prim.Native.Nat.{_+_, _<_};
+ghost use lib.ListN.{length};
 ghost use Rattle.slices.specs.Decides.{Decides};
 ghost use Rattle.patterns.specs.Like.{star, Admits, Matches};
-ghost use Rattle.patterns.specs.Likes.{bars};
 
 // Whether the pattern's byte x is no `*` and matches the byte c.
 fn admits(x: u8, c: u8) -> bool
@@ -18,59 +19,72 @@ fn admits(x: u8, c: u8) -> bool
     false
 }
 
+// Where the next character stands, after the one at `at`: a character is a byte.
+fn next_character(string: &[u8], at: usize) -> usize
+    requires { ⌜ at < length (now string) ⌝ }
+    ensures { λ r. ⌜ r ≡ at + 1 ⌝ }
+{
+    at + 1
+}
+
 // Whether the pattern matches the whole string.
 pub fn like(pattern: &[u8], string: &[u8]) -> bool
     ensures { λ r. ⌜ Decides (Matches (now (pattern .entry)) (now (string .entry))) r ⌝ }
 {
-    let mut i = 0;
-    while i < pattern.len() {
-        if pattern[i] == b'*' {
-            let next = i + 1;
-            return after_star(&pattern[next..], &string[i..]);
+    let mut p = 0;
+    let mut s = 0;
+    while p < pattern.len() {
+        let x = pattern[p];
+        if x == b'*' {
+            let from = p + 1;
+            return after_star(&pattern[from..], &string[s..]);
         }
-        if i == string.len() {
+        if s == string.len() {
             return false;
         }
-        if !admits(pattern[i], string[i]) {
+        if !admits(x, string[s]) {
             return false;
         }
-        i += 1;
+        p = next_character(pattern, p);
+        s = next_character(string, s);
     }
-    i == string.len()
+    s == string.len()
 }
 
-// Whether the pattern matches no string that begins with the byte c, by its first byte.
-fn is_barred(pattern: &[u8], c: u8) -> bool
-    ensures { λ r. ⌜ r ≡ bars (now (pattern .entry)) c ⌝ }
-{
-    if pattern.len() == 0 {
-        return true;
-    }
-    let x = pattern[0];
-    (x != c) & (x != b'*') & (x != b'?')
-}
-
-// Whether `*` and then the pattern `rest` match the whole string. The rest is tried only where its first byte does not rule that out.
+// Whether `*` and then the pattern `rest` match the whole string. Only the run of the last `*` met is made longer; a string that ends too early
+// for that run ends too early for every longer one.
 fn after_star(rest: &[u8], string: &[u8]) -> bool
     ensures { λ r. ⌜ Decides (Matches (star ∷ now (rest .entry)) (now (string .entry))) r ⌝ }
 {
-    let mut i = 0;
-    while i < string.len() {
-        let c = string[i];
-        if is_barred(rest, c) {
-            if c == b':' {
+    // The last `*` met stands for what ends at `run`, and the pattern goes on at `from`; p and s are how far that went.
+    let mut from = 0;
+    let mut run = 0;
+    let mut p = 0;
+    let mut s = 0;
+    loop {
+        if p < rest.len() {
+            if rest[p] == b'*' {
+                p += 1;
+                from = p;
+                run = s;
+                continue;
+            }
+            if s == string.len() {
                 return false;
             }
-            i += 1;
-            continue;
-        }
-        if like(rest, &string[i..]) {
+            if admits(rest[p], string[s]) {
+                p = next_character(rest, p);
+                s = next_character(string, s);
+                continue;
+            }
+        } else if s == string.len() {
             return true;
         }
-        if c == b':' {
+        if string[run] == b':' {
             return false;
         }
-        i += 1;
+        run = next_character(string, run);
+        p = from;
+        s = run;
     }
-    like(rest, &string[i..])
 }
