@@ -25,7 +25,7 @@ use Rattle.table.specs.Layout.{entrySize, bytesOf, held, startsWith}
 use Rattle.table.proofs.Holding.{length-bytesOf, starts-itself, starts-decides, held-starts}
 use Rattle.parts.specs.Answers.{refusalAt}
 use Rattle.compiling.specs.Outcome.{saidOf, mostBytes, roomFor, said, compiledBytes, nowhere, spotOf, foundBy, foundOf, toldOf, compiledOf, tableBy, tableAfter, beginsBy, beginsOf, heldBy, heldOf}
-use Rattle.compiling.specs.Promise.{ZerosElsewhere, AcceptedExactly, UnfitExactly, startOf, RefusedThere, RefusedExactly, bytesSaid, bytesFor, BytesOfPolicies, TextAlone, NothingChanged, NoPoliciesNoBytes, OneResult, Begun, BeginsExactly, CompiledBegins, EnoughRoom, Holds, HeldRightly}
+use Rattle.compiling.specs.Promise.{ZerosElsewhere, AcceptedExactly, UnfitExactly, startOf, firstLength, RefusedThere, RefusedExactly, bytesSaid, bytesFor, BytesOfPolicies, TextAlone, NothingChanged, NoPoliciesNoBytes, OneResult, Begun, BeginsExactly, CompiledBegins, EnoughRoom, Holds, HeldRightly}
 use Rattle.compiling.specs.declared.Found.{Found}
 use Rattle.compiling.specs.declared.Found.the-variants.{Accepted, Unfit, Turned}
 use Rattle.compiling.specs.declared.Spot.{Spot}
@@ -128,7 +128,7 @@ sized text room number e = go (foundOf text room) e
     go : (x : Found) → toldOf text x ≡ Refused number nowhere → x ≡ Unfit number
     go (Accepted p n) e = absurd (let z : _≡_ {A = ℕ} 0 1 = cc in omega arith)
     go (Unfit n) e = cc
-    go (Turned f) e = absurd (let y : spotOf text (f .start) ≡ nowhere = cc in let z : placeOf text (f .start) .line ≡ 0 = ap (λ (s : Spot). s .line) y in let y = line-from (take (f .start) text) (place 1 1) (omega arith) in omega arith)
+    go (Turned f) e = absurd (let y : spotOf text (f .start) (f .size) ≡ nowhere = cc in let z : placeOf text (f .start) .line ≡ 0 = ap (λ (s : Spot). s .line) y in let y = line-from (take (f .start) text) (place 1 1) (omega arith) in omega arith)
 
 unfit-is : (text : List ℕ) (room number : ℕ) → foundOf text room ≡ Unfit number
     → ((mostBytes < length text) × (number ≡ 1)) ⊎ (((length text ≤ mostBytes) × (room < roomFor text)) × (number ≡ 2))
@@ -161,6 +161,11 @@ unfolding refusalAt startOf
 start-is text n [] = refl
 start-is text n (x ∷ r) = refl
 
+size-is : (text : List ℕ) (n : ℕ) (r : List Lexeme) → refusalAt text n r .size ≡ firstLength r
+unfolding refusalAt firstLength
+size-is text n [] = refl
+size-is text n (x ∷ r) = refl
+
 number-is : (text : List ℕ) (n : ℕ) (r : List Lexeme) → refusalAt text n r .number ≡ n
 unfolding refusalAt
 number-is text n [] = refl
@@ -177,14 +182,14 @@ refused-at text (refuse n r) number at q e =
       listed = tokens-stand text;
       rest = r;
       refused = refused-exactly (tokensOf text) r number .0 (q ∙ rw same);
-      place-is = let x : spotOf text (refusalAt text n r .start) ≡ at = cc in ap (spotOf text) (sym (start-is text n r)) ∙ x;
+      place-is = let x : spotOf text (refusalAt text n r .start) (refusalAt text n r .size) ≡ at = cc in rw (← start-is text n r, ← size-is text n r) x;
     }
 
 -- what the refusal of these tokens is told as
 told-there : (text : List ℕ) (number : ℕ) (at : Spot) → RefusedThere text number at → toldOf text (foundBy text (said text)) ≡ Refused number at
 unfolding toldOf foundBy said lowest.RefusedExactly
 told-there text number at t =
-    rw (tokens-are text (t .listed), refused-exactly (t .tokens) (t .rest) number .1 (t .refused), number-is text number (t .rest), start-is text number (t .rest), t .place-is)
+    rw (tokens-are text (t .listed), refused-exactly (t .tokens) (t .rest) number .1 (t .refused), number-is text number (t .rest), start-is text number (t .rest), size-is text number (t .rest), t .place-is)
 
 pub refused-there : RefusedExactly
 unfolding RefusedExactly compiledOf

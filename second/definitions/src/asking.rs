@@ -46,7 +46,7 @@ pub fn read_cases(bytes: &[u8]) -> Option<Vec<Case>> {
 pub fn printed_check(text: &[u8]) -> String {
     match compile(text, ROOM_FOR_EACH_BYTE * text.len()) {
         Ok(compiled) => format!("compiled {} {}\n", compiled.policies.len(), compiled.table.len()),
-        Err(refusal) => refused(refusal),
+        Err(refusal) => refusal.printed(),
     }
 }
 
@@ -54,22 +54,18 @@ pub fn printed_check(text: &[u8]) -> String {
 pub fn printed_decide(text: &[u8], cases: &[Case]) -> String {
     let compiled = match compile(text, ROOM_FOR_EACH_BYTE * text.len()) {
         Ok(compiled) => compiled,
-        Err(refusal) => return refused(refusal),
+        Err(refusal) => return refusal.printed(),
     };
     let mut lines = String::new();
     for case in cases {
         let [subject, action, resource] = &case.request;
         let line = match decide(text, &compiled.table, &case.bag, Request { subject, action, resource }) {
             Ok(decision) => format!("decided {} {}\n", decision.outcome, decision.policy),
-            Err(number) => format!("refused {} 0 0\n", number),
+            Err(number) => Refusal::without_place(number).printed(),
         };
         lines.push_str(&line);
     }
     lines
-}
-
-fn refused(refusal: Refusal) -> String {
-    format!("refused {} {} {}\n", refusal.number, refusal.line, refusal.column)
 }
 
 #[cfg(test)]
@@ -93,10 +89,10 @@ mod tests {
     fn each_case_has_a_line() {
         let text = b"permit(principal,action,resource);";
         assert_eq!(printed_check(text), "compiled 1 20\n");
-        assert_eq!(printed_check(b"permit"), "refused 10 1 7\n");
+        assert_eq!(printed_check(b"permit"), "refused 10 1 7 0\n");
         let cases =
             [case("person:K7", &[0, 0, 0]), case("dog:1", &[0, 0, 0]), case("system", &[]), case("tool:1", &[])];
-        assert_eq!(printed_decide(text, &cases), "decided 1 1\nrefused 21 0 0\ndecided 4 0\nrefused 24 0 0\n");
-        assert_eq!(printed_decide(b"permit", &cases), "refused 10 1 7\n");
+        assert_eq!(printed_decide(text, &cases), "decided 1 1\nrefused 21 0 0 0\ndecided 4 0\nrefused 24 0 0 0\n");
+        assert_eq!(printed_decide(b"permit", &cases), "refused 10 1 7 0\n");
     }
 }

@@ -227,7 +227,7 @@ fn what_was_made_of_the_text_must_be_what_it_says() {
 fn a_missing_file_is_empty_for_the_sheet_program_alone() {
     let folder = Folder::new(&[]);
     let said = folder.says(&["sheet", "@", "--missing-is-empty"]);
-    assert_eq!((said.out.as_str(), said.status), ("refused 24 0 0\n", 1));
+    assert_eq!((said.out.as_str(), said.status), ("refused 24 0 0 0\n", 1));
     for name in ["policy.txt", "question.bin", "request.txt"] {
         assert!(all(&said).contains(&format!("{}: it is taken as empty", name)), "{}", all(&said));
     }
