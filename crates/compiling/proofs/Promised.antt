@@ -1,5 +1,5 @@
 -- The promises of specs/Promise. Assumes nothing.
-use mathlib.Core.Path.{_≡_, refl, _∙_, sym, ap}
+use mathlib.Core.Path.{_≡_, refl, _∙_, sym, ap, ap₂}
 use mathlib.Core.Logic.{_⊎_, inl, inr, ⊎-elim}
 use mathlib.Core.Bool.{Bool, true, false, cond}
 use mathlib.Core.List.{List, [], _∷_, _++_}
@@ -182,7 +182,9 @@ refused-at text (refuse n r) number at q e =
       listed = tokens-stand text;
       rest = r;
       refused = refused-exactly (tokensOf text) r number .0 (q ∙ rw same);
-      place-is = let x : spotOf text (refusalAt text n r .start) (refusalAt text n r .size) ≡ at = cc in rw (← start-is text n r, ← size-is text n r) x;
+      place-is =
+          let x : spotOf text (refusalAt text n r .start) (refusalAt text n r .size) ≡ at = cc in
+          ap₂ (spotOf text) (sym (start-is text n r)) (sym (size-is text n r)) ∙ x;
     }
 
 -- what the refusal of these tokens is told as
