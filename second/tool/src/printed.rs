@@ -31,9 +31,7 @@ pub fn read_printed(bytes: &[u8]) -> Result<Printed, String> {
     }
     let rows = match numbers_after("rows", first, 1) {
         Some(numbers) => numbers[0],
-        None => {
-            return Err("line 1 of the sheet's output: expected rows and a number, or refused and four".to_string())
-        }
+        None => return Err("line 1 of the sheet's output: expected rows and a number, or refused and four".to_string()),
     };
     let mut listed: Vec<Listed> = Vec::new();
     for (index, line) in lines.iter().enumerate().skip(1) {
