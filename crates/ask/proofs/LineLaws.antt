@@ -17,7 +17,7 @@ use Rattle.desk.specs.Promises.{CompileAllows}
 use Rattle.desk.specs.declared.DeskCompiled.{DeskCompiled}
 use Rattle.desk.specs.declared.DeskDecision.{DeskDecision}
 use Rattle.desk.proofs.Promised.{demand-two}
-use Rattle.ask.specs.Lines.{compiledWord, decidedWord, compiledLine, decidedLine, caseLine, caseLines, linesFrom, casesFrom, CaseAnswered, CasesAnswered, answeredFor}
+use Rattle.ask.specs.Lines.{compiledWord, decidedWord, compiledLine, decidedLine, caseLine, caseLines, caseLinesFrom, casesFrom, CaseAnswered, CasesAnswered, answeredFor}
 use Rattle.ask.specs.declared.Step.{Step}
 
 -- ---- a line
@@ -61,7 +61,7 @@ none-yet text table s at new h = record { lines = refl; counted = omega arith; h
 
 -- the lines from a place on are the first case's and those behind it
 from-here : (text table s : List ℕ) (at next : ℕ) → at < length s → drop next s ≡ pastCase (drop at s)
-    → linesFrom text table s at ≡ caseLine text table (caseOf (drop at s)) ++ linesFrom text table s next
+    → caseLinesFrom text table s at ≡ caseLine text table (caseOf (drop at s)) ++ caseLinesFrom text table s next
 unfolding caseLines
 from-here text table s at next h e =
     ap (caseLines text table) (first-case (drop at s) (omega (arith, length-drop at s)))
@@ -75,8 +75,8 @@ pub one-more : {text table s : List ℕ} {at : ℕ} {old new : List ℕ} {answer
     → filled + 92 ≤ length old → CasesAnswered text table s at new (answered + 1) step
 one-more {text} {table} {s} {at} {old} {new} {answered} {next} {filled} {step} p h c room = record {
   lines = p .lines ∙ ap (λ (l : List ℕ). take filled old ++ l) (from-here text table s next (step .next) h (c .rest))
-      ∙ sym (append-assoc (take filled old) (caseLine text table (caseOf (drop next s))) (linesFrom text table s (step .next)))
-      ∙ ap (λ (l : List ℕ). l ++ linesFrom text table s (step .next)) (sym (c .line .filled));
+      ∙ sym (append-assoc (take filled old) (caseLine text table (caseOf (drop next s))) (caseLinesFrom text table s (step .next)))
+      ∙ ap (λ (l : List ℕ). l ++ caseLinesFrom text table s (step .next)) (sym (c .line .filled));
   counted = omega (arith, p .counted, count-here s next (step .next) h (c .rest));
   high = c .high;
   inside = omega (arith, c .short, c .line .long);

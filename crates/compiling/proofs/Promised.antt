@@ -19,13 +19,14 @@ use Rattle.grammar.specs.Parser.{atEnd, read-text}
 use Rattle.grammar.specs.Lowest as lowest
 use Rattle.reading.proofs.Listed.{tokens-stand, tokens-are}
 use Rattle.grammar.proofs.Exactly.{says-exactly}
-use Rattle.grammar.proofs.Rows.{refused-exactly}
+use Rattle.grammar.proofs.Rows.{tokens-refused-exactly}
 use Rattle.table.specs.Entries.{policiesEntries}
 use Rattle.table.specs.Layout.{entrySize, bytesOf, held, startsWith}
 use Rattle.table.proofs.Holding.{length-bytesOf, starts-itself, starts-decides, held-starts}
 use Rattle.parts.specs.Answers.{refusalAt}
-use Rattle.compiling.specs.Outcome.{saidOf, mostBytes, roomFor, said, compiledBytes, nowhere, spotOf, foundBy, foundOf, toldOf, compiledOf, tableBy, tableAfter, beginsBy, beginsOf, heldBy, heldOf}
-use Rattle.compiling.specs.Promise.{ZerosElsewhere, AcceptedExactly, UnfitExactly, startOf, firstLength, RefusedThere, RefusedExactly, bytesSaid, bytesFor, BytesOfPolicies, TextAlone, NothingChanged, NoPoliciesNoBytes, OneResult, Begun, BeginsExactly, CompiledBegins, EnoughRoom, Holds, HeldRightly}
+use Rattle.compiling.specs.Outcome.{compileSaid, roomFor, said, compiledBytes, nowhere, spotOf, foundBy, foundOf, toldOf, compiledOf, tableBy, tableAfter, beginsBy, beginsOf, heldBy, heldOf}
+use Rattle.tokens.specs.Sizes.{mostTextBytes}
+use Rattle.compiling.specs.Promise.{ZerosElsewhere, AcceptedExactly, UnfitExactly, tokenStart, firstLength, RefusedThere, RefusedExactly, bytesSaid, bytesFor, BytesOfPolicies, TextAlone, NothingChanged, NoPoliciesNoBytes, OneCompiled, Begun, BeginsExactly, CompiledBegins, EnoughRoom, TableHolds, HeldRightly}
 use Rattle.compiling.specs.declared.Found.{Found}
 use Rattle.compiling.specs.declared.Found.the-variants.{Accepted, Unfit, Turned}
 use Rattle.compiling.specs.declared.Spot.{Spot}
@@ -68,7 +69,7 @@ length-compiled ps = length-bytesOf (policiesEntries 0 ps)
 
 -- what an accepted text has
 record Compiles (text : List ℕ) (room policies bytes : ℕ) : Type 0 where
-  short : length text ≤ mostBytes
+  short : length text ≤ mostTextBytes
   roomy : roomFor text ≤ room
   value : List Policy
   is : said text ≡ took value []
@@ -91,7 +92,7 @@ compiles text room policies bytes e =
 
 -- ---- acceptance
 
-took-answer : (text : List ℕ) (room : ℕ) (ps : List Policy) (r : List Lexeme) → length text ≤ mostBytes → roomFor text ≤ room → said text ≡ took ps r
+took-answer : (text : List ℕ) (room : ℕ) (ps : List Policy) (r : List Lexeme) → length text ≤ mostTextBytes → roomFor text ≤ room → said text ≡ took ps r
     → compiledOf text room ≡ Policies (length ps) (length (compiledBytes ps))
 unfolding compiledOf toldOf foundBy
 took-answer text room ps r l h e = rw (fitting text room l h, e, length-compiled ps)
@@ -131,13 +132,13 @@ sized text room number e = go (foundOf text room) e
     go (Turned f) e = absurd (let y : spotOf text (f .start) (f .size) ≡ nowhere = cc in let z : placeOf text (f .start) .line ≡ 0 = ap (λ (s : Spot). s .line) y in let y = line-from (take (f .start) text) (place 1 1) (omega arith) in omega arith)
 
 unfit-is : (text : List ℕ) (room number : ℕ) → foundOf text room ≡ Unfit number
-    → ((mostBytes < length text) × (number ≡ 1)) ⊎ (((length text ≤ mostBytes) × (room < roomFor text)) × (number ≡ 2))
+    → ((mostTextBytes < length text) × (number ≡ 1)) ⊎ (((length text ≤ mostTextBytes) × (room < roomFor text)) × (number ≡ 2))
 unfolding foundOf foundBy choose
-unfit-is text room number e = go (ltb mostBytes (length text)) refl (ltb room (roomFor text)) refl (said text) e
+unfit-is text room number e = go (ltb mostTextBytes (length text)) refl (ltb room (roomFor text)) refl (said text) e
   where
-    go : (a : Bool) → ltb mostBytes (length text) ≡ a → (b : Bool) → ltb room (roomFor text) ≡ b → (p : reader.Answer (List Policy))
+    go : (a : Bool) → ltb mostTextBytes (length text) ≡ a → (b : Bool) → ltb room (roomFor text) ≡ b → (p : reader.Answer (List Policy))
         → choose a (λ _. Unfit 1) (λ _. choose b (λ _. Unfit 2) (λ _. foundBy text p)) ≡ Unfit number
-        → ((mostBytes < length text) × (number ≡ 1)) ⊎ (((length text ≤ mostBytes) × (room < roomFor text)) × (number ≡ 2))
+        → ((mostTextBytes < length text) × (number ≡ 1)) ⊎ (((length text ≤ mostTextBytes) × (room < roomFor text)) × (number ≡ 2))
     go true x b y p e = inl (ltb-true _ _ x, cc)
     go false x true y p e = inr ((ltb-false _ _ x, ltb-true _ _ y), cc)
     go false x false y (took ps r) e = absurd (let z : _≡_ {A = ℕ} 0 1 = cc in omega arith)
@@ -156,8 +157,8 @@ unfit text room = (
   ),
 )
 
-start-is : (text : List ℕ) (n : ℕ) (r : List Lexeme) → refusalAt text n r .start ≡ startOf text r
-unfolding refusalAt startOf
+start-is : (text : List ℕ) (n : ℕ) (r : List Lexeme) → refusalAt text n r .start ≡ tokenStart text r
+unfolding refusalAt tokenStart
 start-is text n [] = refl
 start-is text n (x ∷ r) = refl
 
@@ -173,7 +174,7 @@ number-is text n (x ∷ r) = refl
 
 refused-at : (text : List ℕ) (p : reader.Answer (List Policy)) (number : ℕ) (at : Spot) → said text ≡ p → toldOf text (foundBy text p) ≡ Refused number at
     → RefusedThere text number at
-unfolding toldOf foundBy said lowest.RefusedExactly
+unfolding toldOf foundBy said lowest.TokensRefusedExactly
 refused-at text (took ps r) number at q e = absurd (let z : _≡_ {A = ℕ} 0 1 = cc in omega arith)
 refused-at text (refuse n r) number at q e =
     let same : number ≡ n = (let x : refusalAt text n r .number ≡ number = cc in sym x ∙ number-is text n r) in
@@ -181,7 +182,7 @@ refused-at text (refuse n r) number at q e =
       tokens = tokensOf text;
       listed = tokens-stand text;
       rest = r;
-      refused = refused-exactly (tokensOf text) r number .0 (q ∙ rw same);
+      refused = tokens-refused-exactly (tokensOf text) r number .0 (q ∙ rw same);
       place-is =
           let x : spotOf text (refusalAt text n r .start) (refusalAt text n r .size) ≡ at = cc in
           ap₂ (spotOf text) (sym (start-is text n r)) (sym (size-is text n r)) ∙ x;
@@ -189,9 +190,9 @@ refused-at text (refuse n r) number at q e =
 
 -- what the refusal of these tokens is told as
 told-there : (text : List ℕ) (number : ℕ) (at : Spot) → RefusedThere text number at → toldOf text (foundBy text (said text)) ≡ Refused number at
-unfolding toldOf foundBy said lowest.RefusedExactly
+unfolding toldOf foundBy said lowest.TokensRefusedExactly
 told-there text number at t =
-    rw (tokens-are text (t .listed), refused-exactly (t .tokens) (t .rest) number .1 (t .refused), number-is text number (t .rest), start-is text number (t .rest), size-is text number (t .rest), t .place-is)
+    rw (tokens-are text (t .listed), tokens-refused-exactly (t .tokens) (t .rest) number .1 (t .refused), number-is text number (t .rest), start-is text number (t .rest), size-is text number (t .rest), t .place-is)
 
 pub refused-there : RefusedExactly
 unfolding RefusedExactly compiledOf
@@ -199,7 +200,7 @@ refused-there text room number at l h =
     let f = ap (toldOf text) (fitting text room l h) in
     (λ e. refused-at text (said text) number at refl (sym f ∙ e), λ t. f ∙ told-there text number at t)
 
-table-said : (text old : List ℕ) (ps : List Policy) → length text ≤ mostBytes → roomFor text ≤ length old → said text ≡ took ps []
+table-said : (text old : List ℕ) (ps : List Policy) → length text ≤ mostTextBytes → roomFor text ≤ length old → said text ≡ took ps []
     → tableAfter text old ≡ compiledBytes ps ++ drop (length (compiledBytes ps)) old
 unfolding tableAfter tableBy choose
 table-said text old ps l h e = rw (le-ltb _ _ l, le-ltb _ _ h, e)
@@ -252,8 +253,8 @@ pub no-policies-no-bytes : NoPoliciesNoBytes
 unfolding NoPoliciesNoBytes
 no-policies-no-bytes text room bytes e = let k = compiles text room 0 bytes e in k .used ∙ no-entries (k .value) (k .many)
 
-pub one-result : OneResult
-unfolding OneResult
+pub one-result : OneCompiled
+unfolding OneCompiled
 one-result text old new new′ r r′ c d = (c .answered ∙ sym (d .answered), c .table ∙ sym (d .table))
 
 -- ---- a table that begins right
@@ -266,9 +267,9 @@ compiled-begins text old policies bytes e =
 
 begun-said : (text table : List ℕ) → beginsOf text table ≡ true → Begun text table
 unfolding beginsOf beginsBy choose said
-begun-said text table e = go (ltb mostBytes (length text)) refl (said text) refl e
+begun-said text table e = go (ltb mostTextBytes (length text)) refl (said text) refl e
   where
-    go : (a : Bool) → ltb mostBytes (length text) ≡ a → (p : reader.Answer (List Policy)) → said text ≡ p → choose a (λ _. false) (λ _. beginsBy table p) ≡ true → Begun text table
+    go : (a : Bool) → ltb mostTextBytes (length text) ≡ a → (p : reader.Answer (List Policy)) → said text ≡ p → choose a (λ _. false) (λ _. beginsBy table p) ≡ true → Begun text table
     go true x p q e = absurd (let z : _≡_ {A = ℕ} 0 1 = cc in omega arith)
     go false x (took ps r) q e =
         let n = nothing-left text ps r q in
@@ -288,10 +289,10 @@ held-starting table ps e = held-starts table 0 (policiesEntries 0 ps) ∙ e
 
 pub held-rightly : HeldRightly
 unfolding HeldRightly heldOf heldBy choose said
-held-rightly text table policies entries e = go (ltb mostBytes (length text)) refl (said text) refl e
+held-rightly text table policies entries e = go (ltb mostTextBytes (length text)) refl (said text) refl e
   where
-    at-bytes : (ps : List Policy) (r : List Lexeme) → ltb mostBytes (length text) ≡ false → said text ≡ took ps r → (b : Bool) → startsWith (compiledBytes ps) table ≡ b
-        → choose b (λ _. Right (length ps) (length (policiesEntries 0 ps))) (λ _. Wrong) ≡ Right policies entries → Holds text table policies entries
+    at-bytes : (ps : List Policy) (r : List Lexeme) → ltb mostTextBytes (length text) ≡ false → said text ≡ took ps r → (b : Bool) → startsWith (compiledBytes ps) table ≡ b
+        → choose b (λ _. Right (length ps) (length (policiesEntries 0 ps))) (λ _. Wrong) ≡ Right policies entries → TableHolds text table policies entries
     at-bytes ps r x q true z e =
         let n = nothing-left text ps r q in
         let all : said text ≡ took ps [] = q ∙ rw n in
@@ -309,13 +310,13 @@ held-rightly text table policies entries e = go (ltb mostBytes (length text)) re
         }
     at-bytes ps r x q false z e = absurd (let z : _≡_ {A = ℕ} 0 1 = cc in omega arith)
 
-    go : (a : Bool) → ltb mostBytes (length text) ≡ a → (p : reader.Answer (List Policy)) → said text ≡ p → choose a (λ _. Wrong) (λ _. heldBy table p) ≡ Right policies entries
-        → Holds text table policies entries
+    go : (a : Bool) → ltb mostTextBytes (length text) ≡ a → (p : reader.Answer (List Policy)) → said text ≡ p → choose a (λ _. Wrong) (λ _. heldBy table p) ≡ Right policies entries
+        → TableHolds text table policies entries
     go true x p q e = absurd (let z : _≡_ {A = ℕ} 0 1 = cc in omega arith)
     go false x (took ps r) q e = at-bytes ps r x q (startsWith (compiledBytes ps) table) refl e
     go false x (refuse n r) q e = absurd (let z : _≡_ {A = ℕ} 0 1 = cc in omega arith)
 
 pub zeros-elsewhere : ZerosElsewhere
-unfolding ZerosElsewhere saidOf
+unfolding ZerosElsewhere compileSaid
 zeros-elsewhere (Policies policies bytes) h = absurd (h refl)
 zeros-elsewhere (Refused number at) h = (refl, refl)

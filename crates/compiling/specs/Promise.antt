@@ -17,7 +17,8 @@ use Rattle.grammar.specs.Lowest.{RefusedBy}
 use Rattle.table.specs.Entries.{policiesEntries}
 use Rattle.slices.specs.Parts.{Begins}
 use Rattle.table.specs.Layout.{held}
-use Rattle.compiling.specs.Outcome.{mostBytes, roomFor, said, compiledBytes, nowhere, spotOf, compiledOf, saidOf, tableAfter, CompiledInto, heldOf}
+use Rattle.compiling.specs.Outcome.{roomFor, said, compiledBytes, nowhere, spotOf, compiledOf, compileSaid, tableAfter, CompiledInto, heldOf}
+use Rattle.tokens.specs.Sizes.{mostTextBytes}
 use Rattle.compiling.specs.Outcome.{beginsOf}
 use Rattle.compiling.specs.declared.Spot.{Spot}
 use Rattle.compiling.specs.declared.Compiled.{Compiled}
@@ -36,14 +37,14 @@ pub record Belongs (text : List ℕ) (policies bytes : ℕ) : Type 0 where
 -- A text that is not too long and is lent table enough is accepted exactly when its tokens belong to the grammar; it gets the number of its policies and of
 -- their bytes.
 unfoldable pub AcceptedExactly : Type 0
-AcceptedExactly = (text : List ℕ) (room policies bytes : ℕ) → length text ≤ mostBytes → roomFor text ≤ room
+AcceptedExactly = (text : List ℕ) (room policies bytes : ℕ) → length text ≤ mostTextBytes → roomFor text ≤ room
     → (compiledOf text room ≡ Policies policies bytes) ↔ Belongs text policies bytes
 
 -- Refusals 1 and 2 go by the lengths of text and table alone, and come first, 1 before 2; their place is 0, 0, and their length 0.
 unfoldable pub UnfitExactly : Type 0
 UnfitExactly = (text : List ℕ) (room : ℕ)
-    → ((compiledOf text room ≡ Refused 1 nowhere) ↔ (¬ (length text ≤ mostBytes)))
-    × ((compiledOf text room ≡ Refused 2 nowhere) ↔ ((length text ≤ mostBytes) × (¬ (roomFor text ≤ room))))
+    → ((compiledOf text room ≡ Refused 1 nowhere) ↔ (¬ (length text ≤ mostTextBytes)))
+    × ((compiledOf text room ≡ Refused 2 nowhere) ↔ ((length text ≤ mostTextBytes) × (¬ (roomFor text ≤ room))))
 
 -- ---- refusal
 
@@ -77,12 +78,12 @@ pub record Lengths (text : List ℕ) (number n : ℕ) (rest : List Lexeme) : Typ
 
 -- A text that is not too long and is lent table enough is refused by a number, with a line, a column and a length, exactly when that holds.
 unfoldable pub RefusedExactly : Type 0
-RefusedExactly = (text : List ℕ) (room number : ℕ) (at : Spot) → length text ≤ mostBytes → roomFor text ≤ room
+RefusedExactly = (text : List ℕ) (room number : ℕ) (at : Spot) → length text ≤ mostTextBytes → roomFor text ≤ room
     → (compiledOf text room ≡ Refused number at) ↔ RefusedThere text number at
 
 -- A refusal gives its number and place, and zeros for policies and bytes.
 unfoldable pub ZerosElsewhere : Type 0
-ZerosElsewhere = (r : Compiled) → (saidOf r .refusal ≡ 0 → ⊥) → (saidOf r .policies ≡ 0) × (saidOf r .bytes ≡ 0)
+ZerosElsewhere = (r : Compiled) → (compileSaid r .refusal ≡ 0 → ⊥) → (compileSaid r .policies ≡ 0) × (compileSaid r .bytes ≡ 0)
 
 -- ---- the table
 
@@ -124,7 +125,7 @@ OneResult = (text old new new′ : List ℕ) (r r′ : Compiled) → CompiledInt
 
 -- the text is a rule text of at most 8,192 bytes, and the table begins with the bytes that it compiles to
 pub record Begun (text table : List ℕ) : Type 0 where
-  pub short : length text ≤ mostBytes
+  pub short : length text ≤ mostTextBytes
   pub value : List Policy
   pub belongs : SaysPolicies text value
   pub begins : Begins (compiledBytes value) table
@@ -140,7 +141,7 @@ CompiledBegins = (text old : List ℕ) (policies bytes : ℕ) → compiledOf tex
 -- the text is a rule text of at most 8,192 bytes that says so many policies, and the table has their entries from its beginning on, no more of them than the
 -- text has bytes
 pub record Holds (text table : List ℕ) (policies entries : ℕ) : Type 0 where
-  pub short : length text ≤ mostBytes
+  pub short : length text ≤ mostTextBytes
   pub value : List Policy
   pub is : said text ≡ took value []
   pub belongs : SaysPolicies text value

@@ -20,12 +20,12 @@ use Rattle.tokens.proofs.FormLaws.{mark-passes}
 use Rattle.tokens.proofs.KindLaws.{kind-among}
 use Rattle.tokens.proofs.ReadLaws.{reads}
 use Rattle.tokens.proofs.Longest.{longest-token}
-use Rattle.reading.specs.Lexemes.{Lexeme, lexeme, size, choose, following, tokensUpTo, tokensFrom, tokensOf}
+use Rattle.reading.specs.Lexemes.{Lexeme, lexeme, size, choose, tokensAfter, tokensUpTo, tokensFrom, tokensOf}
 use Rattle.reading.proofs.Listed.{tokens-are}
 use Rattle.grammar.specs.Lowest.{Applies, no-token, reserved, bare, no-type, not-admitted, limit, AppliesAt, token, end}
 use Rattle.placing.specs.Placed.{Each, none-left, and-each}
 use Rattle.placing.proofs.EachLaws.{each-right}
-use Rattle.compiling.specs.Promise.{startOf, firstLength, RefusedThere, Lengths}
+use Rattle.compiling.specs.Promise.{tokenStart, firstLength, RefusedThere, Lengths}
 use Rattle.compiling.specs.declared.Spot.{Spot}
 
 -- ---- the kinds of a text's tokens, and their bytes
@@ -94,7 +94,7 @@ module _ (text : List ℕ) (at : ℕ) (h : at ≤ length text) where
       }
 
 kinded : (text : List ℕ) (n at : ℕ) → at ≤ length text → Each (Kinded text) (tokensUpTo n text at)
-unfolding tokensUpTo following choose
+unfolding tokensUpTo tokensAfter choose
 kinded text zero at h = none-left
 kinded text (suc n) at h = go (eqb (tokenAt text at .kind) 0) refl (kinded text n (tokenAt text at .end) (reads text at h .high))
   where
@@ -148,7 +148,7 @@ row-kind (limit low high a m) h = absurd (omega arith)
 
 length-said : {b : List Lexeme} {number count : ℕ} (t : List ℕ) (rest : List Lexeme) → Each (Kinded t) rest → AppliesAt b rest number
     → count ≡ firstLength rest → Lengths t number count rest
-unfolding firstLength startOf
+unfolding firstLength tokenStart
 length-said t [] none-left end e = record {
   counts = λ x on q. absurd (let z : _≡_ {A = ℕ} 0 1 = cc in omega arith);
   single = ⊎-elim (λ q. absurd (omega arith)) (λ q. absurd (omega arith));

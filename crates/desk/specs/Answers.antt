@@ -22,7 +22,7 @@ use Rattle.desk.specs.declared.DeskPage.{DeskPage}
 -- ---- compile(text, table)
 
 -- the refusal with its place and length, or the policies and bytes used
-abbrev pub compiledAs : compiling.Said → DeskCompiled
+abbrev pub compiledAs : compiling.CompileSaid → DeskCompiled
 compiledAs s =
     record { refusal = s .refusal; line = s .line; column = s .column; length = s .size; policies = s .policies; bytes = s .bytes }
 
@@ -32,7 +32,7 @@ spotSaid c = spot (c .line) (c .column) (c .length)
 
 -- what is answered
 unfoldable pub compileSays : List ℕ → List ℕ → DeskCompiled
-compileSays text table = compiledAs (compiling.saidOf (compiling.compiledOf text (length table)))
+compileSays text table = compiledAs (compiling.compileSaid (compiling.compiledOf text (length table)))
 
 -- the table afterwards
 abbrev pub compileLeaves : List ℕ → List ℕ → List ℕ
@@ -47,12 +47,12 @@ beginsSays text table = compiling.beginsOf text table
 -- ---- decide(text, table, bag, subject, action, resource)
 
 -- the refusal, or the outcome and the policy
-abbrev pub decidedAs : deciding.Said → DeskDecision
+abbrev pub decidedAs : deciding.DecideSaid → DeskDecision
 decidedAs s = record { refusal = s .refusal; outcome = s .outcome; policy = s .policy }
 
 -- what is answered
 unfoldable pub decideSays : List ℕ → List ℕ → List ℕ → Request → DeskDecision
-decideSays text table bag q = decidedAs (deciding.saidOf (deciding.answerOf text table bag q))
+decideSays text table bag q = decidedAs (deciding.decideSaid (deciding.decideAnswer text table bag q))
 
 -- the same, of what travels together
 abbrev pub decisionFor : DecideCall → DeskDecision
@@ -61,12 +61,12 @@ decisionFor c = decideSays (c .text) (c .table) (c .bag) (c .request)
 -- ---- lookup(bag, root, path), string(bag, root, path)
 
 -- the refusal, or the kind, the number and the place
-abbrev pub foundAs : lookups.Said → DeskValue
+abbrev pub foundAs : lookups.LookupSaid → DeskValue
 foundAs s = record { refusal = s .refusal; kind = s .kind; number = s .number; place = s .place }
 
 -- what the look-up answers
 unfoldable pub lookupSays : List ℕ → ℕ → List ℕ → DeskValue
-lookupSays bag root path = foundAs (lookups.said (lookups.lookupOf bag root path))
+lookupSays bag root path = foundAs (lookups.lookupSaid (lookups.lookupOf bag root path))
 
 -- where a string's bytes start, and how many they are; zeros for anything else
 unfoldable pub stringSays : List ℕ → ℕ → List ℕ → DeskString
@@ -75,7 +75,7 @@ stringSays bag root path = record { start = lookups.startOf (lookups.lookupOf ba
 -- ---- sheet(text, table, question, subject, action, resource, start, sheet, at)
 
 -- the refusal, or the rows written and the row to go on with
-abbrev pub listedAs : sheets.Said → DeskPage
+abbrev pub listedAs : sheets.SheetSaid → DeskPage
 listedAs s = record { refusal = s .refusal; written = s .written; next = s .next }
 
 -- what is answered

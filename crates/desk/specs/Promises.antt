@@ -14,7 +14,8 @@ use Rattle.slices.specs.Parts.{IsPart, part}
 use Rattle.numbers.specs.Bits.{numberAt}
 use Rattle.grammar.specs.Policies.{Policy}
 use Rattle.grammar.specs.Grammar.{SaysPolicies}
-use Rattle.compiling.specs.Outcome.{mostBytes, roomFor, compiledBytes, spot, nowhere}
+use Rattle.compiling.specs.Outcome.{roomFor, compiledBytes, spot, nowhere}
+use Rattle.tokens.specs.Sizes.{mostTextBytes}
 use Rattle.compiling.specs.Promise.{RefusedThere, Lengths, Begun}
 use Rattle.compiling.specs.declared.Spot.{Spot}
 use Rattle.bags.specs.Forms.{Contents, BagBytes, NoBag}
@@ -70,7 +71,7 @@ pub record DemandOne : Type 0 where
 
 -- the text has at most 8,192 bytes, and it is a rule text that says these policies
 pub record Says (text : List ℕ) (ps : List Policy) : Type 0 where
-  pub short : length text ≤ mostBytes
+  pub short : length text ≤ mostTextBytes
   pub belongs : SaysPolicies text ps
 
 -- the text is a rule text within the limits
@@ -317,10 +318,10 @@ pub record LookUps : Type 0 where
 
 -- when each number is given, and what stands beside it
 pub record Refusals : Type 0 where
-  pub too-long : (text table : List ℕ) → (compileSays text table .refusal ≡ 1) ↔ (mostBytes < length text)
-  pub no-room : (text table : List ℕ) → (compileSays text table .refusal ≡ 2) ↔ ((length text ≤ mostBytes) × (length table < roomFor text))
+  pub too-long : (text table : List ℕ) → (compileSays text table .refusal ≡ 1) ↔ (mostTextBytes < length text)
+  pub no-room : (text table : List ℕ) → (compileSays text table .refusal ≡ 2) ↔ ((length text ≤ mostTextBytes) × (length table < roomFor text))
   -- 3 to 16, where the sizes are right: exactly by the number, at the line and column, and with the length, of the one token at which a rule is first broken
-  pub token-exactly : (text table : List ℕ) (number line column size : ℕ) → length text ≤ mostBytes → roomFor text ≤ length table → 2 < number
+  pub token-exactly : (text table : List ℕ) (number line column size : ℕ) → length text ≤ mostTextBytes → roomFor text ≤ length table → 2 < number
       → (compileSays text table ≡ record { refusal = number; line = line; column = column; length = size; policies = 0; bytes = 0 })
       ↔ RefusedThere text number (spot line column size)
   pub decide-exactly : (c : DecideCall) (number : ℕ) → (decisionFor c .refusal ≡ number) ↔ DecideRefused c number

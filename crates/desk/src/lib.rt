@@ -2,7 +2,7 @@
 // numbers and values. No call has a `requires`: a caller is asked nothing that the types do not say. specs/Promises.antt states what is promised of them.
 ghost use mathlib.Core.Path.{_≡_};
 ghost use Rattle.targets.specs.Matching.{request};
-ghost use Rattle.deciding.specs.Answers.{saidOf};
+ghost use Rattle.deciding.specs.Answers.{decideSaid};
 ghost use Rattle.deciding.specs.declared.Answer.the-variants.{Decided};
 ghost use Rattle.desk.specs.Answers.{beginsSays, decidedAs, decideSays, lookupSays, stringSays, rowsSay};
 ghost use Rattle.desk.specs.Promises.{CompileAllows, SheetAllows, StringAllows};
@@ -87,7 +87,7 @@ pub extern "C" fn desk_begins(text: &[u8], table: &[u8]) -> bool
 
 // A decision by its outcome's number, with its policy.
 fn decided(d: Decision) -> DeskDecision
-    ensures { λ r. ⌜ r ≡ decidedAs (saidOf (Decided d)) ⌝ }
+    ensures { λ r. ⌜ r ≡ decidedAs (decideSaid (Decided d)) ⌝ }
 {
     match d {
         Decision::Allowed(policy) => DeskDecision {

@@ -11,21 +11,21 @@ use borrow.Author.Tests.{eqb-true, eqb-false, eq-eqb, ne-eqb, not-true}
 use Rattle.slices.specs.Decides.{Decides}
 use Rattle.slices.proofs.Decided.{yes-to}
 use Rattle.slices.proofs.Rest.{rest-at}
-use Rattle.patterns.specs.Like.{star, mark, colon, Admits, itself, any, Matches, ends, one, none, more}
+use Rattle.patterns.specs.Like.{star, questionMark, colon, Admits, itself, any, Matches, ends, one, none, more}
 
 -- ---- Admits
 
-pub mark-not : {c : ℕ} → Admits mark c → c ≢ colon
+pub mark-not : {c : ℕ} → Admits questionMark c → c ≢ colon
 mark-not (itself n m) = absurd (m refl)
 mark-not (any n) = n
 
-pub mark-admits : (c : ℕ) → Decides (Admits mark c) (not (eqb c colon))
+pub mark-admits : (c : ℕ) → Decides (Admits questionMark c) (not (eqb c colon))
 mark-admits c = record {
   sound = λ t. any (eqb-false c colon (not-true (eqb c colon) t));
   complete = λ a. ap not (ne-eqb c colon (mark-not a));
 }
 
-pub only-itself : {x c : ℕ} → x ≢ mark → Admits x c → x ≡ c
+pub only-itself : {x c : ℕ} → x ≢ questionMark → Admits x c → x ≡ c
 only-itself n (itself _ _) = refl
 only-itself n (any _) = absurd (n refl)
 
@@ -34,16 +34,16 @@ never-star (itself n m) = n
 never-star (any n) = λ e. omega arith
 
 pub same-admits : (x : ℕ) → Decides (Admits x x) (not (eqb x star))
-same-admits x = go (eqb x mark) refl
+same-admits x = go (eqb x questionMark) refl
   where
-    go : (b : Bool) → eqb x mark ≡ b → Decides (Admits x x) (not (eqb x star))
-    go true e = rw (eqb-true x mark e) (yes-to (any (λ e. omega arith)))
+    go : (b : Bool) → eqb x questionMark ≡ b → Decides (Admits x x) (not (eqb x star))
+    go true e = rw (eqb-true x questionMark e) (yes-to (any (λ e. omega arith)))
     go false e = record {
-      sound = λ t. itself (eqb-false x star (not-true (eqb x star) t)) (eqb-false x mark e);
+      sound = λ t. itself (eqb-false x star (not-true (eqb x star) t)) (eqb-false x questionMark e);
       complete = λ a. ap not (ne-eqb x star (never-star a));
     }
 
-pub itself-admits : (x c : ℕ) → x ≢ star → x ≢ mark → Decides (Admits x c) (eqb x c)
+pub itself-admits : (x c : ℕ) → x ≢ star → x ≢ questionMark → Decides (Admits x c) (eqb x c)
 itself-admits x c n m = record {
   sound = λ t. rw (← eqb-true x c t) (itself n m);
   complete = λ a. eq-eqb x c (only-itself m a);

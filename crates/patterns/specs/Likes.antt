@@ -3,11 +3,11 @@ use mathlib.Core.Bool.{Bool, true, false, not, _&&_, _||_, cond}
 use mathlib.Core.List.{List, [], _∷_}
 use Prim.Native.Nat.{ℕ}
 use lib.Dec.{eqb}
-use Rattle.patterns.specs.Like.{star, mark, colon}
+use Rattle.patterns.specs.Like.{star, questionMark, colon}
 
 -- whether a pattern's character that is no star stands for a character
 unfoldable pub stands : ℕ → ℕ → Bool
-stands x c = cond (eqb x mark) (not (eqb c colon)) (eqb x c)
+stands x c = cond (eqb x questionMark) (not (eqb c colon)) (eqb x c)
 
 -- such a character, and then what f tests
 unfoldable pub steps : ℕ → (List ℕ → Bool) → List ℕ → Bool

@@ -5,7 +5,7 @@ ghost use lib.ListN.{length, drop};
 ghost use Rattle.folder.specs.Added.{Added};
 ghost use Rattle.targets.specs.Matching.{request};
 ghost use Rattle.sheet.specs.Lines.{requestIn, EndsAt, GoesOnAt};
-ghost use Rattle.sheet.specs.Printed.{Accepted, PagePrinted, Counted, RowsPut, rowAt, pageRoom, allListed, printedFor};
+ghost use Rattle.sheet.specs.Printed.{Accepted, PagePrinted, ListedBefore, RowsPut, rowAt, pageRoom, allListed, printedFor};
 use compiling::Compiled;
 use compiling::compile;
 use folder::cases::wide;
@@ -159,7 +159,7 @@ fn print_pages<'a>(
     before: usize,
 ) -> usize
     requires { ⌜ Accepted (now text) (now table) (now question) (request (now subject) (now action) (now resource)) rows ⌝ }
-    requires { ⌜ Counted (now text) (now question) (request (now subject) (now action) (now resource)) rows first before ⌝ }
+    requires { ⌜ ListedBefore (now text) (now question) (request (now subject) (now action) (now resource)) rows first before ⌝ }
     ensures { λ r. ⌜ r ≡ allListed (now (text .entry)) (now (question .entry))
         (request (now (subject .entry)) (now (action .entry)) (now (resource .entry))) rows ⌝ }
 {
