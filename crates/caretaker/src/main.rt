@@ -8,8 +8,8 @@ use libc::STDOUT_FILENO;
 
 // Prints the line of a refusal, which has no place.
 fn print_refusal(number: u32) {
-    let mut out = [0u8; 71];
-    let n = put_refusal(&mut out, 0, number, 0, 0);
+    let mut out = [0u8; 92];
+    let n = put_refusal(&mut out, 0, number, 0, 0, 0);
     io::write_all(STDOUT_FILENO, &out[..n]);
 }
 
