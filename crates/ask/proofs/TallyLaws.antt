@@ -10,7 +10,7 @@ use lib.ListN.{length, getD, take, drop, length-drop}
 use lib.Seq.{take-all}
 use Rattle.compiling.specs.Outcome.{roomFor}
 use Rattle.tokens.specs.Sizes.{mostTextBytes}
-use Rattle.tallies.specs.Promise.{TallyCall, TallyRefused}
+use Rattle.tallies.specs.Promise.{TallyCall, TallyRefused, no-request, too-many, no-question, by-request}
 use Rattle.desk.specs.Answers.{compileSays, compileLeaves, tallySays}
 use Rattle.desk.specs.Promises.{CompileAllows}
 use Rattle.desk.specs.declared.DeskCompiled.{DeskCompiled}
@@ -68,14 +68,13 @@ module _ {text table after : List ℕ} {c : DeskCompiled} (p : CompileAllows tex
 
 -- ---- a tally that is not refused has at most eight requests
 
-pub requests-few : (text table question requests : List ℕ) {many n : ℕ} → n ≡ tallySays text table question many requests → n ≤ 0 → many ≤ 8
-requests-few text table question requests {many} e h = go (refusals .tally-exactly call 0 .0 (omega (arith, e))) refl
-  where
-    abbrev call : TallyCall
-    call = record { text = text; table = table; question = question; many = many; requests = requests; counts = [] }
+not-refused : (c : TallyCall) {number : ℕ} → TallyRefused c number → number ≡ 0 → c .many ≤ 8
+not-refused c (no-request m) z = absurd (omega (arith, z))
+not-refused c (too-many m) z = absurd (omega (arith, z))
+not-refused c (no-question l m q) z = absurd (omega (arith, z))
+not-refused c (by-request l m q r s) z = m
 
-    go : {number : ℕ} → TallyRefused call number → number ≡ 0 → many ≤ 8
-    go (no-request e) z = absurd (omega (arith, z))
-    go (too-many l) z = absurd (omega (arith, z))
-    go (no-question l m q) z = absurd (omega (arith, z))
-    go (by-request l m q r s) z = m
+pub requests-few : (text table question requests : List ℕ) {many n : ℕ} → n ≡ tallySays text table question many requests → n ≤ 0 → many ≤ 8
+requests-few text table question requests {many} e h =
+    let c : TallyCall = record { text = text; table = table; question = question; many = many; requests = requests; counts = [] } in
+    not-refused c (refusals .tally-exactly c 0 .0 (omega (arith, e))) refl

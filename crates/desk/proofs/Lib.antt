@@ -3,6 +3,7 @@ pub mod TextsPromised
 pub mod RequestsPromised
 pub mod LookUpsPromised
 pub mod SheetsPromised
+pub mod LocksPromised
 pub mod Promised
 pub mod Cases
 pub mod Grounded

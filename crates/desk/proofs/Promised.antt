@@ -9,13 +9,14 @@ use Rattle.pages.specs.Rows.{choicesAt}
 use Rattle.pages.proofs.Combinations.{row-below, choices-of-row, choices-combine, row-of-choices}
 use Rattle.pages.proofs.LineLaws.{sooner-row, row-sooner, row-read}
 use Rattle.desk.specs.Answers.{lookupSays}
-use Rattle.desk.specs.Promises.{DemandOne, DemandTwo, DemandThree, TheTallies, Means, LookUps, Refusals, OneResult}
+use Rattle.desk.specs.Promises.{DemandOne, DemandTwo, DemandThree, TheTallies, Means, LookUps, Refusals, Locks, OneResult}
 use Rattle.desk.proofs.RefusalNumbers.{lengths}
 use Rattle.desk.proofs.TextsPromised as texts
 use Rattle.desk.proofs.RequestsPromised as requests
 use Rattle.desk.proofs.LookUpsPromised as look-ups-desk
 use Rattle.desk.proofs.SheetsPromised as sheets-desk
 use Rattle.desk.proofs.TalliesPromised as tallies-desk
+use Rattle.desk.proofs.LocksPromised as locks-desk
 
 pub demand-one : DemandOne
 demand-one = record {
@@ -30,6 +31,8 @@ demand-one = record {
   table-stays = texts.table-stays;
   sheet-stays = sheets-desk.sheet-stays;
   tally-stays = tallies-desk.tally-stays;
+  lock-refusals = locks-desk.lock-refusals;
+  lock-stays = locks-desk.lock-stays;
 }
 
 pub demand-two : DemandTwo
@@ -113,4 +116,13 @@ one-result = record {
   of-sheet = λ c after after′ r r′ a b. (a .answered ∙ sym (b .answered), a .sheet ∙ sym (b .sheet));
   of-tally = λ c after after′ r r′ a b. (a .answered ∙ sym (b .answered), a .counts ∙ sym (b .counts));
   of-rows = λ question r r′ a b. a ∙ sym b;
+  of-lock = λ vocabulary lock actions resource before after after′ r r′ a b. (a .answered ∙ sym (b .answered), a .room ∙ sym (b .room));
+}
+
+pub locks : Locks
+locks = record {
+  the-lock = locks-desk.the-lock;
+  one-lock = locks-desk.one-lock;
+  lock-exactly = locks-desk.lock-exactly;
+  lock-zeros = locks-desk.lock-zeros;
 }

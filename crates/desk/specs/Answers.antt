@@ -15,11 +15,16 @@ use Rattle.sheets.specs.Sheets as sheets
 use Rattle.sheets.specs.Promise.{SheetCall}
 use Rattle.tallies.specs.Tallies as tallies
 use Rattle.tallies.specs.Promise.{TallyCall}
+use Rattle.locks.specs.Answers as locks
+use Rattle.locks.specs.Promise.{LockCall}
+use Rattle.locks.specs.declared.Answer.{Answer}
+use Rattle.locks.specs.declared.Answer.the-variants.{Written, Refused}
 use Rattle.desk.specs.declared.DeskCompiled.{DeskCompiled}
 use Rattle.desk.specs.declared.DeskDecision.{DeskDecision}
 use Rattle.desk.specs.declared.DeskValue.{DeskValue}
 use Rattle.desk.specs.declared.DeskString.{DeskString}
 use Rattle.desk.specs.declared.DeskPage.{DeskPage}
+use Rattle.desk.specs.declared.DeskLock.{DeskLock}
 
 -- ---- compile(text, table)
 
@@ -116,3 +121,25 @@ countsFor c = tallyLeaves (c .text) (c .table) (c .question) (c .many) (c .reque
 
 unfoldable pub rowsSay : List ℕ → ℕ
 rowsSay question = cond (isQuestion question) (sheets.rowsAsked question) 0
+
+-- ---- lock(vocabulary, lock, actions, resource, room)
+
+-- the refusal, or the permit's length
+unfoldable pub lockedAs : Answer → DeskLock
+lockedAs (Written length) = record { refusal = 0; length = length }
+lockedAs (Refused number) = record { refusal = number; length = 0 }
+
+-- what is answered
+unfoldable pub lockSays : List ℕ → List ℕ → List ℕ → List ℕ → List ℕ → DeskLock
+lockSays vocabulary lock actions resource room = lockedAs (locks.answerOf vocabulary lock actions resource room)
+
+-- the room afterwards
+abbrev pub lockLeaves : List ℕ → List ℕ → List ℕ → List ℕ → List ℕ → List ℕ
+lockLeaves vocabulary lock actions resource room = locks.roomAfter vocabulary lock actions resource room
+
+-- the same, of what travels together
+abbrev pub lockFor : LockCall → DeskLock
+lockFor c = lockSays (c .vocabulary) (c .lock) (c .actions) (c .resource) (c .room)
+
+abbrev pub lockRoom : LockCall → List ℕ
+lockRoom c = lockLeaves (c .vocabulary) (c .lock) (c .actions) (c .resource) (c .room)

@@ -6,14 +6,14 @@
 use mathlib.Core.Path.{_≡_}
 use mathlib.Core.Logic.{_⊎_, _↔_}
 use mathlib.Core.Bool.{Bool, true, false}
-use mathlib.Core.List.{List, [], _∷_, _++_, List·Memᴰ}
+use mathlib.Core.List.{List, [], _∷_, _++_, map, List·Memᴰ}
 use Prim.Native.Nat.{ℕ, suc, _+_, _-_, _*_, _≤_, _<_}
 use lib.ListN.{length, getD, take, drop}
 use denote.Ref.{RefT, now}
 use Rattle.slices.specs.Parts.{IsPart, part}
 use Rattle.tokens.specs.Sizes.{mostTextBytes, mostPolicies}
 use Rattle.numbers.specs.Bits.{numberAt}
-use Rattle.grammar.specs.Policies.{Policy}
+use Rattle.grammar.specs.Policies.{Policy, PolicyOf, any, pinned, oneOf, text}
 use Rattle.grammar.specs.Grammar.{SaysPolicies}
 use Rattle.compiling.specs.Outcome.{roomFor, compiledBytes, spot, nowhere}
 use Rattle.compiling.specs.Promise.{RefusedThere, Lengths, Begun}
@@ -31,9 +31,9 @@ use Rattle.views.specs.Meaning as views
 use Rattle.views.specs.Meaning.{View, Datum, asBag, look, rowBag}
 use Rattle.views.specs.Values.{stringAt, listAt}
 use Rattle.views.specs.Rows.{pickedAll}
-use Rattle.placing.specs.Said.{wordsOf}
+use Rattle.placing.specs.Said.{Word, wordsOf}
 use Rattle.meaning.specs.Targets.{Request, isSystem}
-use Rattle.meaning.specs.Decisions.{Numbered, SomeSatisfied, LowestSatisfied}
+use Rattle.meaning.specs.Decisions.{satisfied, Numbered, SomeSatisfied, LowestSatisfied}
 use Rattle.deciding.specs.Promise.{DecideCall, DecideRefused}
 use Rattle.lookups.specs.Lookups.{lookupOf, startOf, lengthOf}
 use Rattle.lookups.specs.Values.{nought, unit}
@@ -44,6 +44,12 @@ use Rattle.pages.specs.Tally.{SoMany, sumOf, fromOn, groupSize}
 use Rattle.sheets.specs.Promise.{SheetCall, SheetRefused}
 use Rattle.tallies.specs.Tallies.{groupCount}
 use Rattle.tallies.specs.Promise.{TallyCall, Lent, TallyRefused}
+use Rattle.permits.specs.Permits.{Test}
+use Rattle.permits.specs.Meaning.{LockHolds}
+use Rattle.locks.specs.Forms.{NoLock}
+use Rattle.locks.specs.Promise as locks
+use Rattle.locks.specs.Promise.{LockCall, permitFor}
+use Rattle.desk.specs.Answers.{lockSays, lockLeaves, lockFor, lockRoom}
 use Rattle.desk.specs.Answers.{spotSaid, compileSays, compileLeaves, beginsSays, decideSays, decisionFor, lookupSays, stringSays}
 use Rattle.desk.specs.Answers.{sheetSays, sheetLeaves, pageFor, sheetFor, tallySays, tallyLeaves, refusalFor, countsFor, rowsSay}
 use Rattle.desk.specs.declared.DeskCompiled.{DeskCompiled}
@@ -51,6 +57,7 @@ use Rattle.desk.specs.declared.DeskDecision.{DeskDecision}
 use Rattle.desk.specs.declared.DeskValue.{DeskValue}
 use Rattle.desk.specs.declared.DeskString.{DeskString}
 use Rattle.desk.specs.declared.DeskPage.{DeskPage}
+use Rattle.desk.specs.declared.DeskLock.{DeskLock}
 
 -- ---- Demand 1. Every public call gives either its answer or one refusal from document 01's list. A refused rule text also gets line and column, and by
 -- document 02 how many bytes its token has. A refused call changes no table and no sheet.
@@ -72,6 +79,9 @@ pub record DemandOne : Type 0 where
   pub table-stays : (text table : List ℕ) → (compileSays text table .refusal ≡ 0 → ⊥) → compileLeaves text table ≡ table
   pub sheet-stays : (c : SheetCall) → (pageFor c .refusal ≡ 0 → ⊥) → sheetFor c ≡ c .sheet
   pub tally-stays : (c : TallyCall) → (refusalFor c ≡ 0 → ⊥) → countsFor c ≡ c .counts
+  -- the same of locks (document 02, request 2)
+  pub lock-refusals : (c : LockCall) → List·Memᴰ (lockFor c .refusal) (0 ∷ 28 ∷ 29 ∷ [])
+  pub lock-stays : (c : LockCall) → (lockFor c .refusal ≡ 0 → ⊥) → lockRoom c ≡ c .room
 
 -- ---- Demand 2. A rule text lent table enough is accepted exactly when it belongs to the drafts' grammar under document 01's limits and rulings.
 
@@ -292,6 +302,7 @@ pub record TheTally (c : TallyCall) : Type 0 where
       → getD (groupIn (countsFor c) groupCount) i 0 ≡ sumOf (fromOn (λ k. getD (groupIn (countsFor c) k) i 0) 0 groupCount)
   pub no-more : length (countsFor c) ≡ groupSize * suc groupCount
 
+-- what is promised of the tally
 pub record TheTallies : Type 0 where
   pub the-tally : (c : TallyCall) → refusalFor c ≡ 0 → TheTally c
   -- bytes lend one list of so many requests
@@ -392,6 +403,60 @@ pub record Refusals : Type 0 where
       → lookupSays bag root path ≡ record { refusal = 24; kind = 0; number = nought; place = 0 }
   pub sheet-zeros : (c : SheetCall) → (pageFor c .refusal ≡ 0 → ⊥) → (pageFor c .written ≡ 0) × (pageFor c .next ≡ 0)
 
+-- ---- Locks (document 02, request 2). With an action list and a resource string the desk writes one permit pinned to that resource. Its text compiles, and is
+-- satisfied exactly when target and every test hold.
+
+-- a lock says these actions and these tests, in a permit that would compile
+abbrev pub SaysLock : LockCall → List Word → List Test → Type 0
+SaysLock c actions tests = locks.Says c actions tests
+
+-- what is written for a lock: the permit for its actions, its resource and its tests
+pub record TheLock (c : LockCall) (actions : List Word) (tests : List Test) : Type 0 where
+  -- in its one spelling over the start of the room, with its length; all other bytes stay
+  pub long : lockFor c .length ≡ length (permitFor c actions tests)
+  pub written : lockRoom c ≡ permitFor c actions tests ++ drop (length (permitFor c actions tests)) (c .room)
+  -- it compiles, lent table enough
+  pub compiles : (table : List ℕ) → roomFor (permitFor c actions tests) ≤ length table → compileSays (permitFor c actions tests) table .refusal ≡ 0
+  -- as one policy: a permit for any principal, with that action list, pinned to that resource
+  pub policies : List Policy
+  pub says : Says (permitFor c actions tests) policies
+  pub policy : PolicyOf Word
+  pub one-policy : wordsOf (permitFor c actions tests) policies ≡ policy ∷ []
+  pub permits : policy .permits ≡ true
+  pub any-principal : policy .principal ≡ any
+  pub these-actions : policy .action ≡ oneOf (map text actions)
+  pub pinned-there : policy .resource ≡ pinned (c .resource)
+  -- satisfied exactly when target and every test hold: whatever the attributes are, so over every bag and every row of a question
+  pub satisfied-exactly : (view : View) (q : Request) → (satisfied view q policy ≡ true) ↔ LockHolds view q actions (c .resource) tests
+  pub over-bag : (contents : Contents) (q : Request)
+      → (satisfied (look (asBag contents)) q policy ≡ true) ↔ LockHolds (look (asBag contents)) q actions (c .resource) tests
+  pub over-row : (base : Contents) (columns : List Column) (choices : List ℕ) (q : Request)
+      → (satisfied (attributes base columns choices) q policy ≡ true) ↔ LockHolds (attributes base columns choices) q actions (c .resource) tests
+  -- and so the desk decides by it: a request of anybody but the system is allowed exactly when the lock holds
+  pub decided : (table bag : List ℕ) (contents : Contents) (q : Request) → decideSays (permitFor c actions tests) table bag q .refusal ≡ 0
+      → BagBytes bag contents → isSystem (q .subject) ≡ false
+      → (decideSays (permitFor c actions tests) table bag q .outcome ≡ 1) ↔ LockHolds (look (asBag contents)) q actions (c .resource) tests
+
+-- when a lock gets which refusal number, 0 where it gets none: 28 first, then 29
+pub data LockRefused (c : LockCall) : ℕ → Type 0 where
+  no-lock : NoLock (c .vocabulary) (c .lock) (c .actions) (c .resource) → LockRefused c 28
+  longer-than-its-room : {actions : List Word} {tests : List Test} → SaysLock c actions tests → length (c .room) < length (permitFor c actions tests)
+      → LockRefused c 29
+  none-wrong : {actions : List Word} {tests : List Test} → SaysLock c actions tests → length (permitFor c actions tests) ≤ length (c .room) → LockRefused c 0
+
+pub record Locks : Type 0 where
+  pub the-lock : (c : LockCall) (actions : List Word) (tests : List Test) → lockFor c .refusal ≡ 0 → SaysLock c actions tests → TheLock c actions tests
+  -- a call says one lock
+  pub one-lock : (c : LockCall) (actions actions′ : List Word) (tests tests′ : List Test) → SaysLock c actions tests → SaysLock c actions′ tests′
+      → (actions ≡ actions′) × (tests ≡ tests′)
+  pub lock-exactly : (c : LockCall) (number : ℕ) → (lockFor c .refusal ≡ number) ↔ LockRefused c number
+  pub lock-zeros : (c : LockCall) → (lockFor c .refusal ≡ 0 → ⊥) → lockFor c .length ≡ 0
+
+-- what the contract of a lock allows: the answer, and the room afterwards
+pub record LockAllows (vocabulary lock actions resource before after : List ℕ) (r : DeskLock) : Type 0 where
+  pub answered : r ≡ lockSays vocabulary lock actions resource before
+  pub room : after ≡ lockLeaves vocabulary lock actions resource before
+
 -- ---- One result. What a call's contract allows, for each call; any two allowed results coincide, refusals included, and so do what they leave.
 
 -- what the contract of compiling allows: the answer, and the table afterwards
@@ -431,3 +496,5 @@ pub record OneResult : Type 0 where
   pub of-sheet : (c : SheetCall) (after after′ : List ℕ) (r r′ : DeskPage) → PageAllows c after r → PageAllows c after′ r′ → (r ≡ r′) × (after ≡ after′)
   pub of-tally : (c : TallyCall) (after after′ : List ℕ) (r r′ : ℕ) → CountsAllow c after r → CountsAllow c after′ r′ → (r ≡ r′) × (after ≡ after′)
   pub of-rows : (question : List ℕ) (r r′ : ℕ) → r ≡ rowsSay question → r′ ≡ rowsSay question → r ≡ r′
+  pub of-lock : (vocabulary lock actions resource before after after′ : List ℕ) (r r′ : DeskLock) → LockAllows vocabulary lock actions resource before after r
+      → LockAllows vocabulary lock actions resource before after′ r′ → (r ≡ r′) × (after ≡ after′)

@@ -5,7 +5,7 @@ ghost use Rattle.targets.specs.Matching.{request};
 ghost use Rattle.deciding.specs.Answers.{decideSaid};
 ghost use Rattle.deciding.specs.declared.Answer.the-variants.{Decided};
 ghost use Rattle.desk.specs.Answers.{beginsSays, decidedAs, decideSays, lookupSays, stringSays, rowsSay};
-ghost use Rattle.desk.specs.Promises.{CompileAllows, SheetAllows, StringAllows, TallyAllows};
+ghost use Rattle.desk.specs.Promises.{CompileAllows, SheetAllows, StringAllows, TallyAllows, LockAllows};
 use compiling::Compiled;
 use meaning::Decision;
 
@@ -258,7 +258,10 @@ pub extern "C" fn desk_lock(
     actions: &[u8],
     resource: &[u8],
     room: &mut [u8],
-) -> DeskLock {
+) -> DeskLock
+    ensures { λ r. ⌜ LockAllows (now (vocabulary .entry)) (now (lock .entry)) (now (actions .entry)) (now (resource .entry))
+        (now (room .entry)) (now (room .exit)) r ⌝ }
+{
     match locks::lock(vocabulary, lock, actions, resource, room) {
         locks::Answer::Written(length) => DeskLock {
             refusal: 0,

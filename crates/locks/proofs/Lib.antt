@@ -3,3 +3,11 @@ pub mod PutLaws
 pub mod EntryLaws
 pub mod TestLaws
 pub mod AnswerLaws
+pub mod Strings
+pub mod Entries
+pub mod ActionsSaid
+pub mod TestsSaid
+pub mod TestsRead
+pub mod TestsMet
+pub mod Exactly
+pub mod Promised

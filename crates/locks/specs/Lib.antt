@@ -1,2 +1,4 @@
 pub mod Reading
 pub mod Answers
+pub mod Forms
+pub mod Promise

@@ -447,6 +447,6 @@ fn refused_lock(file: &LockFile, line: &LockLine, named: (&str, &[u8]), refused:
         }
     };
     let place = place_of(text, at);
-    let shown = RefusalShown { number, meaning, place: PlaceShown::new(text, place.line, place.column) };
+    let shown = RefusalShown { number, meaning, place: PlaceShown::new(text, place.line, place.column, 1) };
     Ok(shown.text(name))
 }

@@ -122,7 +122,7 @@ pub fn overview() -> String {
         text += &format!("  {:<8} {}\n", command.name, command.line);
     }
     text + &format!(
-        "\n./desk COMMAND --help tells more. docs/QUESTIONS.md has the form of questions, bags and tests.\n{}\n",
+        "\n./desk COMMAND --help tells more. docs/QUESTIONS.md has the form of questions, bags and tests, docs/LOCKS.md that of locks.\n{}\n",
         STATUS
     )
 }
