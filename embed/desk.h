@@ -159,7 +159,7 @@ DeskPage desk_sheet(const uint8_t *text, size_t text_length, const uint8_t *tabl
 /* How many rows a question has, and 0 where the bytes are none. */
 size_t desk_rows(const uint8_t *question, size_t question_length);
 
-/* The tally of so many requests over one question. `requests` has subject, action and resource of each, each behind a length byte. `counts` has nine groups of 68 numbers, one for each request and the sums: the rows of outcome 1 to 4, then those that policy 1 to 64 decides. Answers the refusal's number, 0 where nothing is refused; a refusal changes nothing. */
+/* The tally of so many requests over one question. `requests` has subject, action and resource of each, each behind a length byte. `counts` has nine groups of 68 numbers, one for each of eight requests and the sums: the rows of outcome 1 to 4, then those that policy 1 to 64 decides. Answers the refusal's number, 0 where nothing is refused; a refusal changes nothing. */
 uint32_t desk_tally(const uint8_t *text, size_t text_length, const uint8_t *table, size_t table_length, const uint8_t *question, size_t question_length, size_t many, const uint8_t *requests, size_t requests_length, uint32_t counts[612]);
 
 #undef DESK_LAID_OUT

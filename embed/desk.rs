@@ -176,7 +176,7 @@ pub fn rows(question: &[u8]) -> usize {
     unsafe { desk_rows(question.as_ptr(), question.len()) }
 }
 
-/// The tally of so many requests over one question. `requests` has subject, action and resource of each, each behind a length byte. `counts` has nine groups of 68 numbers, one for each request and the sums: the rows of outcome 1 to 4, then those that policy 1 to 64 decides. Answers the refusal's number, 0 where nothing is refused; a refusal changes nothing.
+/// The tally of so many requests over one question. `requests` has subject, action and resource of each, each behind a length byte. `counts` has nine groups of 68 numbers, one for each of eight requests and the sums: the rows of outcome 1 to 4, then those that policy 1 to 64 decides. Answers the refusal's number, 0 where nothing is refused; a refusal changes nothing.
 pub fn tally(text: &[u8], table: &[u8], question: &[u8], many: usize, requests: &[u8], counts: &mut [u32; 612]) -> u32 {
     unsafe { desk_tally(text.as_ptr(), text.len(), table.as_ptr(), table.len(), question.as_ptr(), question.len(), many, requests.as_ptr(), requests.len(), counts.as_mut_ptr()) }
 }
