@@ -519,7 +519,7 @@ fn refusals_of_tallies_say_which_request() {
         assert!(said.status == 1 && unwrapped.starts_with(&format!("Refused, number {}. ", number)), "{}", said.out);
         assert!(unwrapped.contains(what) && unwrapped.contains(mend), "{}", said.out);
         let said = folder.says(&["tally", "@", "--lines"]);
-        assert_eq!((said.out, said.status), (format!("refused {} 0 0\n", number), 1));
+        assert_eq!((said.out, said.status), (format!("refused {} 0 0 0\n", number), 1));
         assert!(said.warnings.last().unwrap().contains(what), "{:?}", said.warnings);
         assert_eq!(folder.says(&["tally", "@", "--html", "@page.html"]).status, 1);
         assert!(fs::read_to_string(folder.path("page.html"))
