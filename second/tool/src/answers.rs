@@ -298,8 +298,8 @@ pub mod tests {
         let lent = Lent { vocabulary: b"\x01a\x01b\x01", lock: b"a:c", actions: b"\x01d", resource: b"e" };
         let permit = "permit(principal, action in [\"d\"], resource == \"e\") when { principal.b == \"c\" };";
         assert_eq!(lock(&StandIn, lent, 100), Ok(Ok(permit.to_string())));
-        assert_eq!(lock(&StandIn, lent, 9), Ok(Err(Refused { number: 29, line: 0, column: 0 })));
-        for wrong in ["", "refused 28 0 0\n", "permit(principal, action, resource);\n", permit] {
+        assert_eq!(lock(&StandIn, lent, 9), Ok(Err(Refused { number: 29, line: 0, column: 0, length: 0 })));
+        for wrong in ["", "refused 28 0 0 0\n", "permit(principal, action, resource);\n", permit] {
             assert!(lock(&Wrong(wrong), lent, 100).is_err(), "{}", wrong);
         }
     }
