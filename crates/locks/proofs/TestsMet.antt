@@ -122,7 +122,7 @@ no-equals (next {b} e a) u d =
 -- the same bytes, put together otherwise
 laid-as : {s : List ℕ} {at : ℕ} {b c : List ℕ} {e : ℕ} → b ≡ c → Laid s at b e → Laid s at c e
 laid-as {s} {at} {b} {c} {e} q d =
-    record { isOf = d .is ∙ ap (λ (x : List ℕ). x ++ drop e s) q; stop = d .stop ∙ ap (λ (x : List ℕ). at + length x) q; inside = d .inside }
+    record { is = d .is ∙ ap (λ (x : List ℕ). x ++ drop e s) q; stop = d .stop ∙ ap (λ (x : List ℕ). at + length x) q; inside = d .inside }
 
 -- what has a byte ends further on
 longer : {s : List ℕ} {at : ℕ} {b : List ℕ} {e : ℕ} → Laid s at b e → 1 ≤ length b → at < e

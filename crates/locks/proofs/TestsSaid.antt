@@ -56,7 +56,7 @@ run-laid sort l at h = go (drop at l) (split-run sort (drop at l)) refl
         record {
           bytes = p;
           all = a;
-          laid = record { isOf = e ∙ ap (λ (t : List ℕ). p ++ t) (sym (ap (λ (m : ℕ). drop m l) z ∙ k)); stop = z; inside = high sort l at h };
+          laid = record { is = e ∙ ap (λ (t : List ℕ). p ++ t) (sym (ap (λ (m : ℕ). drop m l) z ∙ k)); stop = z; inside = high sort l at h };
         }
 
 -- a run that stands there is read to its end
@@ -113,7 +113,7 @@ colon-laid l at h q = let s = longest-token l at h in go (s .blanks) (s .rest) (
           passed = a;
           laid =
               record {
-                isOf = e ∙ sym (append-assoc b (58 ∷ []) _ ∙ ap (λ (x : List ℕ). b ++ 58 ∷ x) d');
+                is = e ∙ sym (append-assoc b (58 ∷ []) _ ∙ ap (λ (x : List ℕ). b ++ 58 ∷ x) d');
                 stop = omega (arith, length-append b (58 ∷ []));
                 inside = k;
               };
