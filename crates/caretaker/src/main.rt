@@ -14,13 +14,7 @@ fn print_refusal(number: u32) {
 }
 
 // Prints the permit that is written into the room, and a line feed; or the refusal.
-fn print_permit(
-    vocabulary: &[u8],
-    lock: &[u8],
-    actions: &[u8],
-    resource: &[u8],
-    room: &mut [u8],
-) {
+fn print_permit(vocabulary: &[u8], lock: &[u8], actions: &[u8], resource: &[u8], room: &mut [u8]) {
     let answer = desk::desk_lock(vocabulary, lock, actions, resource, room);
     if 0 < answer.refusal {
         print_refusal(answer.refusal);
