@@ -4,7 +4,7 @@
 #   indented lines           `permit ..` a text that is allowed by policy 1 with the bag of the page; `principal.grade = 3` an attribute of that bag
 #   `true`, `false` columns  conditions that are so with that bag; in a column `is` the row says it
 #   outcome, policy          what a text decides
-#   wrong, refused at, right a text that is refused with the row's number at that place, and one that is not. A text is its code in turn, with `N times` before what is repeated,
+#   wrong, refused at, right a text that is refused with the row's number at that line and column, for so many bytes, and one that is not. A text is its code in turn, with `N times` before what is repeated,
 #                            and P at the start of a piece stands for permit(principal,action,resource)
 #   Reserved, so no names    each word that follows is refused as a name
 #   at, bytes                the bytes of a bag or question, from top to bottom, named by the heading above
@@ -50,7 +50,7 @@ function bytes_end() { if (bytes != "") say(form "\t" bytes); bytes = "" }
 /^Reserved, so no names/ { listing = 1 }
 listing {
     words = $0; last = sub(/`\..*/, "`", words)
-    for (; match(words, /`[^`]*`/); words = substr(words, RSTART + RLENGTH)) say("refused\t7\t1, 49\t" P "when{principal." code(substr(words, RSTART, RLENGTH)) "==1};")
+    for (; match(words, /`[^`]*`/); words = substr(words, RSTART + RLENGTH)) say("refused\t7\t1, 49, " RLENGTH - 2 "\t" P "when{principal." code(substr(words, RSTART, RLENGTH)) "==1};")
     listing = !last
     next
 }

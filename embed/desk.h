@@ -13,9 +13,9 @@ extern "C" {
 #define DESK_LAID_OUT _Static_assert
 #endif
 
-#define DESK_VERSION "1.2"
-#define DESK_VERSION_MAJOR 1
-#define DESK_VERSION_MINOR 2
+#define DESK_VERSION "2.0"
+#define DESK_VERSION_MAJOR 2
+#define DESK_VERSION_MINOR 0
 
 /* Outcomes of a decision and of a listed row. Yes is ALLOWED or SYSTEM. */
 #define DESK_ALLOWED 1u
@@ -109,15 +109,16 @@ extern "C" {
 #define DESK_SORT_MEMBERSHIP 2u
 #define DESK_SORT_NUMBER 3u
 
-/* What compiling answers: the refusal with its line and column, or the policies and the bytes of the table that they use. */
+/* What compiling answers: the refusal with its line and column and how many bytes its token has, or the policies and the bytes of the table that they use. */
 typedef struct {
     uint32_t refusal;
     size_t line;
     size_t column;
+    size_t length;
     size_t policies;
     size_t bytes;
 } DeskCompiled;
-DESK_LAID_OUT(sizeof(DeskCompiled) == 40 && offsetof(DeskCompiled, refusal) == 0 && offsetof(DeskCompiled, line) == 8 && offsetof(DeskCompiled, column) == 16 && offsetof(DeskCompiled, policies) == 24 && offsetof(DeskCompiled, bytes) == 32, "DeskCompiled");
+DESK_LAID_OUT(sizeof(DeskCompiled) == 48 && offsetof(DeskCompiled, refusal) == 0 && offsetof(DeskCompiled, line) == 8 && offsetof(DeskCompiled, column) == 16 && offsetof(DeskCompiled, length) == 24 && offsetof(DeskCompiled, policies) == 32 && offsetof(DeskCompiled, bytes) == 40, "DeskCompiled");
 
 /* What deciding answers: outcome 1 allowed, 2 forbidden, 3 nothing satisfied, 4 system; and the policy that decided, 0 where none did. */
 typedef struct {

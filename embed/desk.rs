@@ -2,7 +2,7 @@
 //! lend is as the desk asks for it. Link with libdesk.a.
 #![allow(dead_code)]
 
-pub const VERSION: &str = "1.2";
+pub const VERSION: &str = "2.0";
 
 // Outcomes of a decision and of a listed row. Yes is ALLOWED or SYSTEM.
 pub const ALLOWED: u32 = 1;
@@ -96,13 +96,14 @@ pub const SORT_EQUALITY: u8 = 1;
 pub const SORT_MEMBERSHIP: u8 = 2;
 pub const SORT_NUMBER: u8 = 3;
 
-/// What compiling answers: the refusal with its line and column, or the policies and the bytes of the table that they use.
+/// What compiling answers: the refusal with its line and column and how many bytes its token has, or the policies and the bytes of the table that they use.
 #[repr(C)]
 #[derive(Clone, Copy, Debug, PartialEq)]
 pub struct DeskCompiled {
     pub refusal: u32,
     pub line: usize,
     pub column: usize,
+    pub length: usize,
     pub policies: usize,
     pub bytes: usize,
 }

@@ -83,7 +83,7 @@ int main(void) {
     DeskPath grade = desk_path(DESK_WORDS("grade")), hired = desk_path(DESK_WORDS("hired"));
 
     DeskCompiled c = desk_compile_of(text, desk_table_room(table, sizeof table));
-    printf("compile: refusal %u, line %zu, column %zu, policies %zu, bytes %zu\n", c.refusal, c.line, c.column, c.policies, c.bytes);
+    printf("compile: refusal %u, line %zu, column %zu, length %zu, policies %zu, bytes %zu\n", c.refusal, c.line, c.column, c.length, c.policies, c.bytes);
     if (c.refusal != 0) return refused(c.refusal);
     DeskTable compiled = desk_table(table, c.bytes); // the calls after it need no others
     printf("begins: %d\n", desk_begins_of(text, compiled));

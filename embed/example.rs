@@ -9,7 +9,7 @@ const QUESTION: &[u8] = b"\0\0\0\x02\x01\x05grade\x03\0\x02\0\0\0\0\0\0\x08\x40\
 fn main() {
     let mut table = [0u8; desk::TABLE_FOR_A_BYTE * RULES.len()];
     let c = desk::compile(RULES, &mut table);
-    println!("compile: refusal {}, line {}, column {}, policies {}, bytes {}", c.refusal, c.line, c.column, c.policies, c.bytes);
+    println!("compile: refusal {}, line {}, column {}, length {}, policies {}, bytes {}", c.refusal, c.line, c.column, c.length, c.policies, c.bytes);
     let table = &table[..c.bytes];
     println!("begins: {}", desk::begins(RULES, table) as u8);
 

@@ -24,8 +24,8 @@ static void check(int holds, const char *what) {
 }
 #define CHECK(holds) check(holds, #holds)
 
-static int compiled(DeskCompiled c, unsigned refusal, size_t line, size_t column, size_t policies) {
-    return c.refusal == refusal && c.line == line && c.column == column && c.policies == policies && c.bytes == 0;
+static int compiled(DeskCompiled c, unsigned refusal, size_t line, size_t column, size_t length) {
+    return c.refusal == refusal && c.line == line && c.column == column && c.length == length && c.policies == 0 && c.bytes == 0;
 }
 static int decided(DeskDecision d, unsigned refusal, unsigned outcome) { return d.refusal == refusal && d.outcome == outcome && d.policy == 0; }
 static int found(DeskValue v, unsigned refusal) { return v.refusal == refusal && v.kind == 0 && v.number == 0 && v.place == 0; }
@@ -39,7 +39,8 @@ static void refusals(void) {
     CHECK(compiled(desk_compile(long_text, sizeof long_text, table, 400), DESK_REFUSED_LONG_TEXT, 0, 0, 0));
     CHECK(compiled(desk_compile(TEXT, table, 271), DESK_REFUSED_SMALL_TABLE, 0, 0, 0));
     CHECK(compiled(desk_compile(LENT("permit(principal,action,resource)"), table, 400), DESK_REFUSED_NOT_ADMITTED, 1, 34, 0));
-    CHECK(compiled(desk_compile(LENT("\n permit(principal is lift"), table, 400), DESK_REFUSED_TYPE, 2, 22, 0));
+    CHECK(compiled(desk_compile(LENT("\n permit(principal is lift"), table, 400), DESK_REFUSED_TYPE, 2, 22, 4));
+    CHECK(compiled(desk_compile(LENT("permit \"teach "), table, 400), DESK_REFUSED_UNENDED_STRING, 1, 8, 7));
     // a table that is not the text's
     CHECK(!desk_begins(TEXT, table, 400));
     // decide: 21, 22, 23, 24, 20, in this order

@@ -70,10 +70,10 @@ static bool decides(const char *outcome, size_t policy, const char *text) {
 
 static bool refused(unsigned refusal, const char *place, const char *text) {
     DeskCompiled c = desk_compile(TEXT, table, sizeof table);
-    char *column;
-    size_t line = strtoul(place, &column, 10);
+    char *rest;
+    size_t line = strtoul(place, &rest, 10), column = strtoul(rest + 1, &rest, 10), bytes_refused = strtoul(rest + 1, NULL, 10);
     if (refusal < 32) seen[refusal] = true;
-    return c.refusal == refusal && c.line == line && c.column == strtoul(column + 1, NULL, 10);
+    return c.refusal == refusal && c.line == line && c.column == column && c.length == bytes_refused;
 }
 
 // ---- bytes

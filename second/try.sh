@@ -205,14 +205,14 @@ printed() {
     printf '%b' "$3" >"$work/g/question.bin"
     tried 0 "$1" env -C "$work/g" "$DESK_PROVED" ask tally
 }
-printed 'refused 27 0 0' '' '\0\0\0\0'
-printed 'refused 27 0 0' '\0' ''
-printed 'refused 27 0 0' '\011' ''
-printed 'refused 24 0 0' '\01\06system' ''
+printed 'refused 27 0 0 0' '' '\0\0\0\0'
+printed 'refused 27 0 0 0' '\0' ''
+printed 'refused 27 0 0 0' '\011' ''
+printed 'refused 24 0 0 0' '\01\06system' ''
 printed 'rows 1 request 1 outcome 1 0 outcome 2 0 outcome 3 0 outcome 4 1 ' '\01\06system' '\0\0\0\0'
-printed 'refused 21 0 0' '\01\011person:K' '\0\0\0\0'
-printed 'refused 22 0 0' '\01\010person:K' '\0\0\0\0'
-printed 'refused 23 0 0' '\01\010person:K\01a\06shaft:' '\0\0\0\0'
+printed 'refused 21 0 0 0' '\01\011person:K' '\0\0\0\0'
+printed 'refused 22 0 0 0' '\01\010person:K' '\0\0\0\0'
+printed 'refused 23 0 0 0' '\01\010person:K\01a\06shaft:' '\0\0\0\0'
 printed 'rows 1 request 1 outcome 1 0 outcome 2 0 outcome 3 1 outcome 4 0 ' '\01\010person:K\01a\07shaft:Aand more' '\0\0\0\0'
 
 # Tests that fail, and tests that are none.

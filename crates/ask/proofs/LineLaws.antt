@@ -23,7 +23,7 @@ use Rattle.ask.specs.declared.Step.{Step}
 -- ---- a line
 
 module _ {a b : List ℕ} {at next : ℕ} where
-  pub refusal-told : (c : DeskCompiled) → 0 < c .refusal → Added a at (refusedLine (c .refusal) (c .line) (c .column)) b next → Added a at (compiledLine c) b next
+  pub refusal-told : (c : DeskCompiled) → 0 < c .refusal → Added a at (refusedLine (c .refusal) (c .line) (c .column) (c .length)) b next → Added a at (compiledLine c) b next
   unfolding compiledLine
   refusal-told c h p = rw (ne-eqb (c .refusal) 0 (λ e. omega arith)) p
 
@@ -31,7 +31,7 @@ module _ {a b : List ℕ} {at next : ℕ} where
   unfolding compiledLine
   compiled-told c h p = rw (eq-eqb (c .refusal) 0 (omega arith)) p
 
-  pub refused-told : (d : DeskDecision) → 0 < d .refusal → Added a at (refusedLine (d .refusal) 0 0) b next → Added a at (decidedLine d) b next
+  pub refused-told : (d : DeskDecision) → 0 < d .refusal → Added a at (refusedLine (d .refusal) 0 0 0) b next → Added a at (decidedLine d) b next
   unfolding decidedLine
   refused-told d h p = rw (ne-eqb (d .refusal) 0 (λ e. omega arith)) p
 
@@ -44,7 +44,7 @@ module _ {a b : List ℕ} {at next : ℕ} where
 module _ (text table : List ℕ) {s : List ℕ} {at : ℕ} {p q r t : Part} (subject : PartAt s at p) (action : PartAt s (p .end) q) (resource : PartAt s (q .end) r) (bag : PartAt s (r .end) t) where
   pub case-answered : {old new : List ℕ} {filled line : ℕ} {answer : DeskDecision} → at < length s
       → answer ≡ decideSays text table (cutOut s t) (request (cutOut s p) (cutOut s q) (cutOut s r))
-      → Added old filled (decidedLine answer) new line → line ≤ filled + 71
+      → Added old filled (decidedLine answer) new line → line ≤ filled + 92
       → CaseAnswered text table s at old filled new (record { next = t .end; filled = line })
   case-answered in-s said put short = record {
     line = rw (said ∙ ap (λ (k : Case). decideSays text table (k .bag) (request (k .subject) (k .action) (k .resource))) (case-cut subject action resource bag)) at put;
@@ -72,7 +72,7 @@ count-here s at next h e = ap length (first-case (drop at s) (omega (arith, leng
 
 pub one-more : {text table s : List ℕ} {at : ℕ} {old new : List ℕ} {answered next filled : ℕ} {step : Step}
     → CasesAnswered text table s at old answered (record { next = next; filled = filled }) → next < length s → CaseAnswered text table s next old filled new step
-    → filled + 71 ≤ length old → CasesAnswered text table s at new (answered + 1) step
+    → filled + 92 ≤ length old → CasesAnswered text table s at new (answered + 1) step
 one-more {text} {table} {s} {at} {old} {new} {answered} {next} {filled} {step} p h c room = record {
   lines = p .lines ∙ ap (λ (l : List ℕ). take filled old ++ l) (from-here text table s next (step .next) h (c .rest))
       ∙ sym (append-assoc (take filled old) (caseLine text table (caseOf (drop next s))) (caseLinesFrom text table s (step .next)))

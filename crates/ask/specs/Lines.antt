@@ -23,14 +23,14 @@ compiledWord = code "c" ∷ code "o" ∷ code "m" ∷ code "p" ∷ code "i" ∷ 
 abbrev pub decidedWord : List ℕ
 decidedWord = code "d" ∷ code "e" ∷ code "c" ∷ code "i" ∷ code "d" ∷ code "e" ∷ code "d" ∷ code " " ∷ []
 
--- for what compiling answers: policies and bytes used, or the refusal with its place
+-- for what compiling answers: policies and bytes used, or the refusal with its place and length
 unfoldable pub compiledLine : DeskCompiled → List ℕ
 compiledLine c =
-    cond (eqb (c .refusal) 0) (compiledWord ++ numbersLine (c .policies ∷ c .bytes ∷ [])) (refusedLine (c .refusal) (c .line) (c .column))
+    cond (eqb (c .refusal) 0) (compiledWord ++ numbersLine (c .policies ∷ c .bytes ∷ [])) (refusedLine (c .refusal) (c .line) (c .column) (c .length))
 
--- for what deciding answers: outcome and policy, or the refusal, which has no place
+-- for what deciding answers: outcome and policy, or the refusal, which has no place and no length
 unfoldable pub decidedLine : DeskDecision → List ℕ
-decidedLine d = cond (eqb (d .refusal) 0) (decidedWord ++ numbersLine (d .outcome ∷ d .policy ∷ [])) (refusedLine (d .refusal) 0 0)
+decidedLine d = cond (eqb (d .refusal) 0) (decidedWord ++ numbersLine (d .outcome ∷ d .policy ∷ [])) (refusedLine (d .refusal) 0 0 0)
 
 -- for a case: what the desk decides
 abbrev pub caseLine : List ℕ → List ℕ → Case → List ℕ
@@ -55,7 +55,7 @@ pub record CaseAnswered (text table s : List ℕ) (at : ℕ) (old : List ℕ) (f
   pub rest : drop (step .next) s ≡ pastCase (drop at s)
   pub low : at < step .next
   pub high : step .next ≤ length s
-  pub short : step .filled ≤ filled + 71
+  pub short : step .filled ≤ filled + 92
 
 -- so many cases are answered: their lines, and those of the cases from the next on, are the lines of all from `at` on
 pub record CasesAnswered (text table s : List ℕ) (at : ℕ) (new : List ℕ) (answered : ℕ) (step : Step) : Type 0 where

@@ -25,22 +25,22 @@ pub struct Step {
 
 // The line for what compiling answers.
 fn put_compiled(out: &mut [u8], at: usize, c: DeskCompiled) -> usize
-    requires { ⌜ at + 71 ≤ length (now out) ⌝ }
-    ensures { λ r. ⌜ Added (now (out .entry)) at (compiledLine c) (now (out .exit)) r × (r ≤ at + 71) ⌝ }
+    requires { ⌜ at + 92 ≤ length (now out) ⌝ }
+    ensures { λ r. ⌜ Added (now (out .entry)) at (compiledLine c) (now (out .exit)) r × (r ≤ at + 92) ⌝ }
 {
     if 0 < c.refusal {
-        return put_refusal(out, at, c.refusal, c.line, c.column);
+        return put_refusal(out, at, c.refusal, c.line, c.column, c.length);
     }
     put_two(out, at, b"compiled ", c.policies, c.bytes)
 }
 
 // The line for what deciding answers.
 fn put_decided(out: &mut [u8], at: usize, d: DeskDecision) -> usize
-    requires { ⌜ at + 71 ≤ length (now out) ⌝ }
-    ensures { λ r. ⌜ Added (now (out .entry)) at (decidedLine d) (now (out .exit)) r × (r ≤ at + 71) ⌝ }
+    requires { ⌜ at + 92 ≤ length (now out) ⌝ }
+    ensures { λ r. ⌜ Added (now (out .entry)) at (decidedLine d) (now (out .exit)) r × (r ≤ at + 92) ⌝ }
 {
     if 0 < d.refusal {
-        return put_refusal(out, at, d.refusal, 0, 0);
+        return put_refusal(out, at, d.refusal, 0, 0, 0);
     }
     put_two(out, at, b"decided ", d.outcome as usize, d.policy)
 }
@@ -54,7 +54,7 @@ fn answer_case<'a>(
     out: &mut [u8],
     filled: usize,
 ) -> Step
-    requires { ⌜ (at < length (now cases)) × (filled + 71 ≤ length (now out)) ⌝ }
+    requires { ⌜ (at < length (now cases)) × (filled + 92 ≤ length (now out)) ⌝ }
     ensures { λ r. ⌜ CaseAnswered (now (text .entry)) (now (table .entry)) (now (cases .entry)) at (now (out .entry)) filled (now (out .exit)) r ⌝ }
 {
     let subject = part_at(cases, at);
@@ -98,7 +98,7 @@ fn answer_cases<'a>(
     at: usize,
     out: &mut [u8],
 ) -> Answered
-    requires { ⌜ (at < length (now cases)) × (71 ≤ length (now out)) ⌝ }
+    requires { ⌜ (at < length (now cases)) × (92 ≤ length (now out)) ⌝ }
     ensures { λ r. ⌜ CasesAnswered (now (text .entry)) (now (table .entry)) (now (cases .entry)) at (now (out .exit)) (r .cases) (r .step)
         × (at < r .step .next) ⌝ }
 {
@@ -106,7 +106,7 @@ fn answer_cases<'a>(
     let mut filled = 0;
     let mut answered = 0;
     while next < cases.len() {
-        if out.len() - filled < 71 {
+        if out.len() - filled < 92 {
             return Answered {
                 cases: answered,
                 step: Step { next, filled },
@@ -143,7 +143,7 @@ fn print_cases<'a>(text: &'a [u8], table: &[u8], cases: &'a [u8]) -> usize
 
 // Prints the line for what compiling answers.
 fn print_compiled(c: DeskCompiled) {
-    let mut out = [0u8; 71];
+    let mut out = [0u8; 92];
     let n = put_compiled(&mut out, 0, c);
     io::write_all(STDOUT_FILENO, &out[..n]);
 }
@@ -171,8 +171,8 @@ fn print_counts(counts: &[u32; 612], rows: usize, many: usize, policies: usize)
 
 // Prints the line of a refusal that has no place.
 fn print_refusal(number: u32) {
-    let mut out = [0u8; 71];
-    let n = put_refusal(&mut out, 0, number, 0, 0);
+    let mut out = [0u8; 92];
+    let n = put_refusal(&mut out, 0, number, 0, 0, 0);
     io::write_all(STDOUT_FILENO, &out[..n]);
 }
 

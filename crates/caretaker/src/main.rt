@@ -8,19 +8,13 @@ use libc::STDOUT_FILENO;
 
 // Prints the line of a refusal, which has no place.
 fn print_refusal(number: u32) {
-    let mut out = [0u8; 71];
-    let n = put_refusal(&mut out, 0, number, 0, 0);
+    let mut out = [0u8; 92];
+    let n = put_refusal(&mut out, 0, number, 0, 0, 0);
     io::write_all(STDOUT_FILENO, &out[..n]);
 }
 
 // Prints the permit that is written into the room, and a line feed; or the refusal.
-fn print_permit(
-    vocabulary: &[u8],
-    lock: &[u8],
-    actions: &[u8],
-    resource: &[u8],
-    room: &mut [u8],
-) {
+fn print_permit(vocabulary: &[u8], lock: &[u8], actions: &[u8], resource: &[u8], room: &mut [u8]) {
     let answer = desk::desk_lock(vocabulary, lock, actions, resource, room);
     if 0 < answer.refusal {
         print_refusal(answer.refusal);

@@ -1,4 +1,4 @@
-// Compiles test texts, each into a table with a given room, and writes a line for each: policies, bytes used and a sum over them, or the refusal's number and place.
+// Compiles test texts, each into a table with a given room, and writes a line for each: policies, bytes used and a sum over them, or the refusal's number, place and length.
 ghost use Prim.Native.Nat.{_≤_};
 ghost use lib.ListN.{length};
 use desk::DeskCompiled;
@@ -19,7 +19,8 @@ fn report(answer: DeskCompiled, table: &[u8]) {
         io::write_all(STDOUT_FILENO, b"R ");
         vectors::print_number(answer.refusal as u64, b' ');
         vectors::print_number(answer.line as u64, b' ');
-        vectors::print_number(answer.column as u64, b'\n');
+        vectors::print_number(answer.column as u64, b' ');
+        vectors::print_number(answer.length as u64, b'\n');
         return;
     }
     io::write_all(STDOUT_FILENO, b"P ");

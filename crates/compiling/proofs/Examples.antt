@@ -18,16 +18,16 @@ nested n = bytes "permit(principal,action,resource)when{" ++ times n (bytes "(")
 pub cases :
     (compiledOf (bytes "") 0 ≡ Policies 0 0)
     × (compiledOf (bytes "permit(principal,action,resource);") 272 ≡ Policies 1 20)
-    × (compiledOf (bytes "permit(principal,action,resource)") 264 ≡ Refused 10 (spot 1 34))
-    × (compiledOf (bytes "permit(principal,action,resource)when{principal.a};") 408 ≡ Refused 8 (spot 1 50))
-    × (compiledOf (bytes "permit(principal,action,resource)when{principal.if==1};") 440 ≡ Refused 7 (spot 1 49))
-    × (compiledOf (bytes "permit(principal,action,resource)when{action.kind==\"x\"};") 448 ≡ Refused 11 (spot 1 46))
+    × (compiledOf (bytes "permit(principal,action,resource)") 264 ≡ Refused 10 (spot 1 34 0))
+    × (compiledOf (bytes "permit(principal,action,resource)when{principal.a};") 408 ≡ Refused 8 (spot 1 50 1))
+    × (compiledOf (bytes "permit(principal,action,resource)when{principal.if==1};") 440 ≡ Refused 7 (spot 1 49 2))
+    × (compiledOf (bytes "permit(principal,action,resource)when{action.kind==\"x\"};") 448 ≡ Refused 11 (spot 1 46 4))
     × (compiledOf (bytes "permit(principal,action,resource);") 271 ≡ Refused 2 nowhere)
 unfolding compiling-opened
 cases = (refl, refl, refl, refl, refl, refl, refl)
 
 -- 31 brackets pass, and each has its entry; the 32nd is refused
-pub brackets : (compiledOf (nested 31) 848 ≡ Policies 1 180) × (compiledOf (nested 32) 864 ≡ Refused 12 (spot 1 70))
+pub brackets : (compiledOf (nested 31) 848 ≡ Policies 1 180) × (compiledOf (nested 32) 864 ≡ Refused 12 (spot 1 70 1))
 unfolding compiling-opened
 brackets = (refl, refl)
 

@@ -1,5 +1,5 @@
 -- The promises of specs/Promise. Assumes nothing.
-use mathlib.Core.Path.{_≡_, refl, _∙_, sym, ap}
+use mathlib.Core.Path.{_≡_, refl, _∙_, sym, ap, ap₂}
 use mathlib.Core.Logic.{_⊎_, inl, inr, ⊎-elim}
 use mathlib.Core.Bool.{Bool, true, false, cond}
 use mathlib.Core.List.{List, [], _∷_, _++_}
@@ -26,7 +26,7 @@ use Rattle.table.specs.Layout.{entrySize, bytesOf, held, startsWith}
 use Rattle.table.proofs.Holding.{length-bytesOf, starts-itself, starts-decides, held-starts}
 use Rattle.parts.specs.Answers.{refusalAt}
 use Rattle.compiling.specs.Outcome.{compileSaid, roomFor, said, compiledBytes, nowhere, spotOf, foundBy, foundOf, toldOf, compiledOf, tableBy, tableAfter, beginsBy, beginsOf, heldBy, heldOf}
-use Rattle.compiling.specs.Promise.{ZerosElsewhere, AcceptedExactly, UnfitExactly, tokenStart, RefusedThere, RefusedExactly, bytesSaid, bytesFor, BytesOfPolicies, TextAlone, NothingChanged, NoPoliciesNoBytes, OneCompiled, Begun, BeginsExactly, CompiledBegins, EnoughRoom, TableHolds, HeldRightly}
+use Rattle.compiling.specs.Promise.{ZerosElsewhere, AcceptedExactly, UnfitExactly, tokenStart, firstLength, RefusedThere, RefusedExactly, bytesSaid, bytesFor, BytesOfPolicies, TextAlone, NothingChanged, NoPoliciesNoBytes, OneCompiled, Begun, BeginsExactly, CompiledBegins, EnoughRoom, TableHolds, HeldRightly}
 use Rattle.compiling.specs.declared.Found.{Found}
 use Rattle.compiling.specs.declared.Found.the-variants.{Accepted, Unfit, Turned}
 use Rattle.compiling.specs.declared.Spot.{Spot}
@@ -129,7 +129,7 @@ sized text room number e = go (foundOf text room) e
     go : (x : Found) → toldOf text x ≡ Refused number nowhere → x ≡ Unfit number
     go (Accepted p n) e = absurd (let z : _≡_ {A = ℕ} 0 1 = cc in omega arith)
     go (Unfit n) e = cc
-    go (Turned f) e = absurd (let y : spotOf text (f .start) ≡ nowhere = cc in let z : placeOf text (f .start) .line ≡ 0 = ap (λ (s : Spot). s .line) y in let y = line-from (take (f .start) text) (place 1 1) (omega arith) in omega arith)
+    go (Turned f) e = absurd (let y : spotOf text (f .start) (f .size) ≡ nowhere = cc in let z : placeOf text (f .start) .line ≡ 0 = ap (λ (s : Spot). s .line) y in let y = line-from (take (f .start) text) (place 1 1) (omega arith) in omega arith)
 
 unfit-is : (text : List ℕ) (room number : ℕ) → foundOf text room ≡ Unfit number
     → ((mostTextBytes < length text) × (number ≡ 1)) ⊎ (((length text ≤ mostTextBytes) × (room < roomFor text)) × (number ≡ 2))
@@ -162,6 +162,11 @@ unfolding refusalAt tokenStart
 start-is text n [] = refl
 start-is text n (x ∷ r) = refl
 
+size-is : (text : List ℕ) (n : ℕ) (r : List Lexeme) → refusalAt text n r .size ≡ firstLength r
+unfolding refusalAt firstLength
+size-is text n [] = refl
+size-is text n (x ∷ r) = refl
+
 number-is : (text : List ℕ) (n : ℕ) (r : List Lexeme) → refusalAt text n r .number ≡ n
 unfolding refusalAt
 number-is text n [] = refl
@@ -178,14 +183,16 @@ refused-at text (refuse n r) number at q e =
       listed = tokens-stand text;
       rest = r;
       refused = tokens-refused-exactly (tokensOf text) r number .0 (q ∙ rw same);
-      place-is = let x : spotOf text (refusalAt text n r .start) ≡ at = cc in ap (spotOf text) (sym (start-is text n r)) ∙ x;
+      place-is =
+          let x : spotOf text (refusalAt text n r .start) (refusalAt text n r .size) ≡ at = cc in
+          ap₂ (spotOf text) (sym (start-is text n r)) (sym (size-is text n r)) ∙ x;
     }
 
 -- what the refusal of these tokens is told as
 told-there : (text : List ℕ) (number : ℕ) (at : Spot) → RefusedThere text number at → toldOf text (foundBy text (said text)) ≡ Refused number at
 unfolding toldOf foundBy said lowest.TokensRefusedExactly
 told-there text number at t =
-    rw (tokens-are text (t .listed), tokens-refused-exactly (t .tokens) (t .rest) number .1 (t .refused), number-is text number (t .rest), start-is text number (t .rest), t .place-is)
+    rw (tokens-are text (t .listed), tokens-refused-exactly (t .tokens) (t .rest) number .1 (t .refused), number-is text number (t .rest), start-is text number (t .rest), size-is text number (t .rest), t .place-is)
 
 pub refused-there : RefusedExactly
 unfolding RefusedExactly compiledOf

@@ -50,40 +50,42 @@ foundOf text room =
     choose (ltb mostTextBytes (length text)) (λ _. Unfit 1)
     (λ _. choose (ltb room (roomFor text)) (λ _. Unfit 2) (λ _. foundBy text (said text)))
 
--- a line and a column
-abbrev pub spot : ℕ → ℕ → Spot
-spot line column = record { line = line; column = column }
+-- a line, a column and a length
+abbrev pub spot : ℕ → ℕ → ℕ → Spot
+spot line column size = record { line = line; column = column; length = size }
 
 -- no place: the refusal goes by a size
 abbrev pub nowhere : Spot
-nowhere = spot 0 0
+nowhere = spot 0 0 0
 
--- where the byte at a place stands
-abbrev pub spotOf : List ℕ → ℕ → Spot
-spotOf text at = spot (placeOf text at .line) (placeOf text at .column)
+-- where so many bytes stand from a place on
+abbrev pub spotOf : List ℕ → ℕ → ℕ → Spot
+spotOf text at size = spot (placeOf text at .line) (placeOf text at .column) size
 
--- what is told of what is found: policies and bytes used; or the refusal's number, and where the token stands that is refused; 1 and 2 have no place
+-- what is told of what is found: policies and bytes used; or the refusal's number, and where the token stands that is refused, with its length; 1 and 2 have
+-- no place
 unfoldable pub toldOf : List ℕ → Found → Compiled
 toldOf text (Accepted policies entries) = Policies policies (entrySize * entries)
 toldOf text (Unfit number) = Refused number nowhere
-toldOf text (Turned f) = Refused (f .number) (spotOf text (f .start))
+toldOf text (Turned f) = Refused (f .number) (spotOf text (f .start) (f .size))
 
 -- what compiling answers where so many bytes of table are lent
 unfoldable pub compiledOf : List ℕ → ℕ → Compiled
 compiledOf text room = toldOf text (foundOf text room)
 
--- document 01's numbers for an answer: the refusal's, with its line and column, and the policies and the bytes used
+-- document 01's numbers for an answer: the refusal's, with its line, column and length, and the policies and the bytes used
 pub record CompileSaid : Type 0 where
   pub refusal : ℕ
   pub line : ℕ
   pub column : ℕ
+  pub size : ℕ
   pub policies : ℕ
   pub bytes : ℕ
 
 -- what each answer says: zeros where there is nothing to say
 unfoldable pub compileSaid : Compiled → CompileSaid
-compileSaid (Policies policies bytes) = record { refusal = 0; line = 0; column = 0; policies = policies; bytes = bytes }
-compileSaid (Refused number at) = record { refusal = number; line = at .line; column = at .column; policies = 0; bytes = 0 }
+compileSaid (Policies policies bytes) = record { refusal = 0; line = 0; column = 0; size = 0; policies = policies; bytes = bytes }
+compileSaid (Refused number at) = record { refusal = number; line = at .line; column = at .column; size = at .length; policies = 0; bytes = 0 }
 
 -- the table afterwards, by what the tokens say
 unfoldable pub tableBy : reader.Answer (List Policy) → List ℕ → List ℕ

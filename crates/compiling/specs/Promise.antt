@@ -3,13 +3,13 @@
 -- `compiledOf` and `tableAfter` are what `compile` answers and leaves in the table by its contract, `beginsOf` and `heldOf` what `begins` and `held_policies`
 -- answer (Outcome.antt).
 use mathlib.Core.Path.{_≡_}
-use mathlib.Core.Logic.{_↔_}
+use mathlib.Core.Logic.{_⊎_, _↔_}
 use mathlib.Core.Bool.{true}
 use mathlib.Core.List.{List, [], _∷_}
-use Prim.Native.Nat.{ℕ, _≤_}
+use Prim.Native.Nat.{ℕ, _+_, _≤_}
 use lib.ListN.{length, take, drop}
 use Rattle.tokens.specs.Sizes.{mostTextBytes}
-use Rattle.reading.specs.Listed.{Lexeme, TokensOf}
+use Rattle.reading.specs.Listed.{Lexeme, size, TokensOf}
 use Rattle.reading.specs.Reader as reader
 use Rattle.reading.specs.Reader.{took, refuse}
 use Rattle.grammar.specs.Policies.{Policy}
@@ -40,7 +40,7 @@ unfoldable pub AcceptedExactly : Type 0
 AcceptedExactly = (text : List ℕ) (room policies bytes : ℕ) → length text ≤ mostTextBytes → roomFor text ≤ room
     → (compiledOf text room ≡ Policies policies bytes) ↔ BelongsAs text policies bytes
 
--- Refusals 1 and 2 go by the lengths of text and table alone, and come first, 1 before 2; their place is 0, 0.
+-- Refusals 1 and 2 go by the lengths of text and table alone, and come first, 1 before 2; their place is 0, 0, and their length 0.
 unfoldable pub UnfitExactly : Type 0
 UnfitExactly = (text : List ℕ) (room : ℕ)
     → ((compiledOf text room ≡ Refused 1 nowhere) ↔ (¬ (length text ≤ mostTextBytes)))
@@ -53,16 +53,30 @@ unfoldable pub tokenStart : List ℕ → List Lexeme → ℕ
 tokenStart text [] = length text
 tokenStart text (x ∷ r) = x .start
 
--- the refusal names the first of the text's tokens `rest`, which is the first that breaks a rule, by the lowest number that applies to it, and tells its line
--- and column
+-- how many bytes the first of the tokens r has: a string counts its quotes, an unended one goes to the end of the text, a bad byte is one; the end of the text
+-- has none
+unfoldable pub firstLength : List Lexeme → ℕ
+firstLength [] = 0
+firstLength (x ∷ r) = size x
+
+-- the refusal names the first of the text's tokens `rest`, which is the first that breaks a rule, by the lowest number that applies to it, and tells its line,
+-- its column and how many bytes it has
 pub record RefusedThere (text : List ℕ) (number : ℕ) (at : Spot) : Type 0 where
   pub tokens : List Lexeme
   pub listed : TokensOf text 0 tokens
   pub rest : List Lexeme
   pub refused : RefusedBy tokens rest number
-  pub place-is : spotOf text (tokenStart text rest) ≡ at
+  pub place-is : spotOf text (tokenStart text rest) (firstLength rest) ≡ at
 
--- A text that is not too long and is lent table enough is refused by a number, with a line and a column, exactly when that holds.
+-- what document 02 says of the length n that a refusal by `number` tells of the first of the tokens `rest`: it counts that token's bytes, so a string's quotes
+-- too; it is 1 where the place is a single bad byte, and 0 at the end of the text and only there; an unended string goes to the end of the text
+pub record Lengths (text : List ℕ) (number n : ℕ) (rest : List Lexeme) : Type 0 where
+  pub counts : (x : Lexeme) (on : List Lexeme) → rest ≡ x ∷ on → n ≡ length (x .bytes)
+  pub single : (number ≡ 3) ⊎ (number ≡ 4) → n ≡ 1
+  pub to-the-end : number ≡ 5 → tokenStart text rest + n ≡ length text
+  pub none-exactly : (n ≡ 0) ↔ (rest ≡ [])
+
+-- A text that is not too long and is lent table enough is refused by a number, with a line, a column and a length, exactly when that holds.
 unfoldable pub RefusedExactly : Type 0
 RefusedExactly = (text : List ℕ) (room number : ℕ) (at : Spot) → length text ≤ mostTextBytes → roomFor text ≤ room
     → (compiledOf text room ≡ Refused number at) ↔ RefusedThere text number at

@@ -25,10 +25,11 @@ pub enum Found {
     Turned(Refusal),
 }
 
-// Where a text is refused: the line and column of the refused token, from 1; 0, 0 where it goes by a size.
+// Where a text is refused: the line and column of the refused token, from 1, and how many bytes it has; zeros where it goes by a size.
 pub struct Spot {
     pub line: usize,
     pub column: usize,
+    pub length: usize,
 }
 
 // What compiling answers: the policies and the bytes of the table that they use; or the refusal's number, and where.
@@ -63,7 +64,7 @@ pub fn recognise(classes: &[u8; 256], text: &[u8], room: usize) -> Found
     }
 }
 
-// What is told of a refusal at a token: its number, and where the token stands.
+// What is told of a refusal at a token: its number, where the token stands, and its length.
 fn told(text: &[u8], f: Refusal) -> Compiled
     requires { ⌜ f .start ≤ length (now text) ⌝ }
     ensures { λ r. ⌜ r ≡ toldOf (now (text .entry)) (Turned f) ⌝ }
@@ -72,6 +73,7 @@ fn told(text: &[u8], f: Refusal) -> Compiled
     let spot = Spot {
         line: p.line,
         column: p.column,
+        length: f.size,
     };
     Compiled::Refused(f.number, spot)
 }
@@ -83,7 +85,14 @@ pub fn compile(text: &[u8], table: &mut [u8]) -> Compiled
     let classes = class_table();
     let found = recognise(&classes, text, table.len());
     match found {
-        Found::Unfit(number) => Compiled::Refused(number, Spot { line: 0, column: 0 }),
+        Found::Unfit(number) => {
+            let nowhere = Spot {
+                line: 0,
+                column: 0,
+                length: 0,
+            };
+            Compiled::Refused(number, nowhere)
+        }
         Found::Turned(f) => told(text, f),
         Found::Accepted(policies, entries) => {
             let empty = [0u8; 1];

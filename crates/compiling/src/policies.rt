@@ -152,7 +152,16 @@ fn read_when(
     if next.kind != b'{' {
         return Answer::Refused(turned_away(text, next, refusals::NOT_ADMITTED));
     }
-    let inside = read_whole(classes, text, table, seen, next.end, MOST_INSIDE, number, same);
+    let inside = read_whole(
+        classes,
+        text,
+        table,
+        seen,
+        next.end,
+        MOST_INSIDE,
+        number,
+        same,
+    );
     expected(classes, text, inside, b'}')
 }
 

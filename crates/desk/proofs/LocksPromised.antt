@@ -158,7 +158,7 @@ module _ (c : LockCall) where
       let y : Says (permitFor c actions (t ∷ ts)) (k .policies) = record { short = k .short; belongs = k .says } in
       let i = fits s (lock-exactly c 0 .0 h) in
       let e : (view : View) (q : Request) → (satisfied view q p ≡ true) ↔ LockHolds view q actions (c .resource) (t ∷ ts) =
-          λ view q. permit-means view q actions (c .resource) t ts in
+      λ view q. permit-means view q actions (c .resource) t ts in
       record {
         long = ap (λ (a : Answer). lockedAs a .length) (locks.answered-exactly c _ .1 (permit s i));
         written = locks.permit-stands c actions (t ∷ ts) s i;

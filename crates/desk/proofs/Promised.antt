@@ -10,6 +10,7 @@ use Rattle.pages.proofs.Combinations.{row-below, choices-of-row, choices-combin
 use Rattle.pages.proofs.LineLaws.{sooner-row, row-sooner, row-read}
 use Rattle.desk.specs.Answers.{lookupSays}
 use Rattle.desk.specs.Promises.{DemandOne, DemandTwo, DemandThree, TheTallies, Means, LookUps, Refusals, Locks, OneResult}
+use Rattle.desk.proofs.RefusalNumbers.{lengths}
 use Rattle.desk.proofs.TextsPromised as texts
 use Rattle.desk.proofs.RequestsPromised as requests
 use Rattle.desk.proofs.LookUpsPromised as look-ups-desk
@@ -25,6 +26,7 @@ demand-one = record {
   sheet-refusals = sheets-desk.sheet-refusals;
   tally-refusals = tallies-desk.tally-refusals;
   placed = texts.placed;
+  lengths = λ text number at r. lengths r;
   no-place = texts.no-place;
   table-stays = texts.table-stays;
   sheet-stays = sheets-desk.sheet-stays;

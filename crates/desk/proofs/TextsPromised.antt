@@ -22,7 +22,7 @@ use Rattle.compiling.specs.declared.Compiled.{Compiled}
 use Rattle.compiling.specs.declared.Compiled.the-variants.{Policies, Refused}
 use Rattle.compiling.proofs.Promised as compiling-proofs
 use Rattle.compiling.proofs.Promised.{accepted, unfit, refused-there, nothing-changed, zeros-elsewhere}
-use Rattle.desk.specs.Answers.{compileSays, compileLeaves, beginsSays}
+use Rattle.desk.specs.Answers.{compiledAs, spotSaid, compileSays, compileLeaves, beginsSays}
 use Rattle.desk.specs.Promises.{Says, Belongs}
 use Rattle.desk.proofs.RefusalNumbers.{token-number}
 
@@ -78,25 +78,25 @@ module _ (text table : List ℕ) where
   unfolding compileSays
   compile-refusals = number-few told
 
-  its-place : {c : Compiled} → Told c → 2 < compileSaid c .refusal → RefusedThere text (compileSaid c .refusal) (spot (compileSaid c .line) (compileSaid c .column))
+  its-place : {c : Compiled} → Told c → 2 < compileSaid c .refusal → RefusedThere text (compileSaid c .refusal) (spotSaid (compiledAs (compileSaid c)))
   unfolding compileSaid
   its-place (told-accepted ps s h e) = rw e (λ n. absurd (omega arith))
   its-place (told-long l e) = rw e (λ n. absurd (omega arith))
   its-place (told-no-room l h e) = rw e (λ n. absurd (omega arith))
   its-place (told-broken number at l h r e) = rw e (λ n. r)
 
-  pub placed : 2 < compileSays text table .refusal → RefusedThere text (compileSays text table .refusal) (spot (compileSays text table .line) (compileSays text table .column))
+  pub placed : 2 < compileSays text table .refusal → RefusedThere text (compileSays text table .refusal) (spotSaid (compileSays text table))
   unfolding compileSays
   placed = its-place told
 
-  without-place : {c : Compiled} → Told c → compileSaid c .refusal ≤ 2 → (compileSaid c .line ≡ 0) × (compileSaid c .column ≡ 0)
+  without-place : {c : Compiled} → Told c → compileSaid c .refusal ≤ 2 → spotSaid (compiledAs (compileSaid c)) ≡ nowhere
   unfolding compileSaid
-  without-place (told-accepted ps s h e) = rw e (λ n. (refl, refl))
-  without-place (told-long l e) = rw e (λ n. (refl, refl))
-  without-place (told-no-room l h e) = rw e (λ n. (refl, refl))
+  without-place (told-accepted ps s h e) = rw e (λ n. refl)
+  without-place (told-long l e) = rw e (λ n. refl)
+  without-place (told-no-room l h e) = rw e (λ n. refl)
   without-place (told-broken number at l h r e) = rw e (λ n. absurd (let k = token-number r .0 in omega arith))
 
-  pub no-place : compileSays text table .refusal ≤ 2 → (compileSays text table .line ≡ 0) × (compileSays text table .column ≡ 0)
+  pub no-place : compileSays text table .refusal ≤ 2 → spotSaid (compileSays text table) ≡ nowhere
   unfolding compileSays
   no-place = without-place told
 
@@ -201,15 +201,17 @@ module _ (text table : List ℕ) where
 
   -- ---- the refusals by token
 
-  refused-as : {number line column : ℕ} → compiledOf text (length table) ≡ Refused number (spot line column)
-      → compileSays text table ≡ record { refusal = number; line = line; column = column; policies = 0; bytes = 0 }
+  refused-as : {number line column size : ℕ} → compiledOf text (length table) ≡ Refused number (spot line column size)
+      → compileSays text table ≡ record { refusal = number; line = line; column = column; length = size; policies = 0; bytes = 0 }
   unfolding compileSays compileSaid
   refused-as e = rw e
 
-  pub token-exactly : (number line column : ℕ) → length text ≤ mostTextBytes → roomFor text ≤ length table → 2 < number
-      → (compileSays text table ≡ record { refusal = number; line = line; column = column; policies = 0; bytes = 0 }) ↔ RefusedThere text number (spot line column)
+  pub token-exactly : (number line column size : ℕ) → length text ≤ mostTextBytes → roomFor text ≤ length table → 2 < number
+      → (compileSays text table ≡ record { refusal = number; line = line; column = column; length = size; policies = 0; bytes = 0 })
+      ↔ RefusedThere text number (spot line column size)
   unfolding RefusedExactly
-  token-exactly number line column l h m = (λ e. rw e at (placed) m, λ r. refused-as (refused-there text (length table) number (spot line column) l h .1 r))
+  token-exactly number line column size l h m =
+      (λ e. rw e at (placed) m, λ r. refused-as (refused-there text (length table) number (spot line column size) l h .1 r))
 
   pub compile-zeros : (compileSays text table .refusal ≡ 0 → ⊥) → (compileSays text table .policies ≡ 0) × (compileSays text table .bytes ≡ 0)
   unfolding compileSays ZerosElsewhere

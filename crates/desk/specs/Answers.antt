@@ -4,6 +4,8 @@ use mathlib.Core.List.{List}
 use Prim.Native.Nat.{ℕ}
 use lib.ListN.{length}
 use Rattle.compiling.specs.Outcome as compiling
+use Rattle.compiling.specs.Outcome.{spot}
+use Rattle.compiling.specs.declared.Spot.{Spot}
 use Rattle.meaning.specs.Targets.{Request}
 use Rattle.deciding.specs.Answers as deciding
 use Rattle.deciding.specs.Promise.{DecideCall}
@@ -26,9 +28,14 @@ use Rattle.desk.specs.declared.DeskLock.{DeskLock}
 
 -- ---- compile(text, table)
 
--- the refusal with its place, or the policies and bytes used
+-- the refusal with its place and length, or the policies and bytes used
 abbrev pub compiledAs : compiling.CompileSaid → DeskCompiled
-compiledAs s = record { refusal = s .refusal; line = s .line; column = s .column; policies = s .policies; bytes = s .bytes }
+compiledAs s =
+    record { refusal = s .refusal; line = s .line; column = s .column; length = s .size; policies = s .policies; bytes = s .bytes }
+
+-- the line, the column and the length that are answered
+abbrev pub spotSaid : DeskCompiled → Spot
+spotSaid c = spot (c .line) (c .column) (c .length)
 
 -- what is answered
 unfoldable pub compileSays : List ℕ → List ℕ → DeskCompiled

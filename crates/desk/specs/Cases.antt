@@ -1,4 +1,4 @@
--- Document 01's checked examples over the desk's answers: A to L as one statement, and the worked example. Definitions only.
+-- Document 01's checked examples over the desk's answers: A to L as one statement, C to F with document 02's lengths, and the worked example. Definitions only.
 use mathlib.Core.Path.{_≡_}
 use mathlib.Core.List.{List, [], _∷_, _++_}
 use Prim.Native.Nat.{ℕ, zero, suc, _*_}
@@ -26,9 +26,9 @@ zeros (suc n) = 0 ∷ zeros n
 abbrev pub compiled : List ℕ → DeskCompiled
 compiled text = compileSays text (zeros (roomFor text))
 
--- a refusal with its line and column
-abbrev pub refusedAt : ℕ → ℕ → ℕ → DeskCompiled
-refusedAt number line column = record { refusal = number; line = line; column = column; policies = 0; bytes = 0 }
+-- a refusal with its line, its column and the length of its token
+abbrev pub refusedAt : ℕ → ℕ → ℕ → ℕ → DeskCompiled
+refusedAt number line column size = record { refusal = number; line = line; column = column; length = size; policies = 0; bytes = 0 }
 
 -- document 01's P, and P with a condition
 abbrev pub P : List ℕ
@@ -60,10 +60,10 @@ Fails condition = decided (P-when condition) ≡ outcome 3 0
 pub record CasesAtoL : Type 0 where
   pub A : (compiled [] .refusal ≡ 0) × (compiled [] .policies ≡ 0)
   pub B : (compiled (P ++ bytes ";") .refusal ≡ 0) × (compiled (P ++ bytes ";") .policies ≡ 1)
-  pub C : compiled P ≡ refusedAt 10 1 34
-  pub D : compiled (P-when "principal.a") ≡ refusedAt 8 1 50
-  pub E : compiled (P-when "principal.if==1") ≡ refusedAt 7 1 49
-  pub F : compiled (P-when "action.kind==\"x\"") ≡ refusedAt 11 1 46
+  pub C : compiled P ≡ refusedAt 10 1 34 0
+  pub D : compiled (P-when "principal.a") ≡ refusedAt 8 1 50 1
+  pub E : compiled (P-when "principal.if==1") ≡ refusedAt 7 1 49 2
+  pub F : compiled (P-when "action.kind==\"x\"") ≡ refusedAt 11 1 46 4
   pub G : Holds "true || false && false"
   pub H : Fails "if true then true else true && false"
   pub I : Fails "principal.a != \"x\"" × Holds "!(principal.a != \"x\")"

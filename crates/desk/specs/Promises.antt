@@ -15,8 +15,9 @@ use Rattle.tokens.specs.Sizes.{mostTextBytes, mostPolicies}
 use Rattle.numbers.specs.Bits.{numberAt}
 use Rattle.grammar.specs.Policies.{Policy, PolicyOf, any, pinned, oneOf, text}
 use Rattle.grammar.specs.Grammar.{SaysPolicies}
-use Rattle.compiling.specs.Outcome.{roomFor, compiledBytes, spot}
-use Rattle.compiling.specs.Promise.{RefusedThere, Begun}
+use Rattle.compiling.specs.Outcome.{roomFor, compiledBytes, spot, nowhere}
+use Rattle.compiling.specs.Promise.{RefusedThere, Lengths, Begun}
+use Rattle.compiling.specs.declared.Spot.{Spot}
 use Rattle.bags.specs.Forms.{Contents, BagBytes, NoBag}
 use Rattle.bags.specs.Reading.{byte}
 use Rattle.bags.specs.Sections.{pathAt, kindAt, entryEnd, sectionsOf}
@@ -49,7 +50,7 @@ use Rattle.locks.specs.Forms.{NoLock}
 use Rattle.locks.specs.Promise as locks
 use Rattle.locks.specs.Promise.{LockCall, permitFor}
 use Rattle.desk.specs.Answers.{lockSays, lockLeaves, lockFor, lockRoom}
-use Rattle.desk.specs.Answers.{compileSays, compileLeaves, beginsSays, decideSays, decisionFor, lookupSays, stringSays}
+use Rattle.desk.specs.Answers.{spotSaid, compileSays, compileLeaves, beginsSays, decideSays, decisionFor, lookupSays, stringSays}
 use Rattle.desk.specs.Answers.{sheetSays, sheetLeaves, pageFor, sheetFor, tallySays, tallyLeaves, refusalFor, countsFor, rowsSay}
 use Rattle.desk.specs.declared.DeskCompiled.{DeskCompiled}
 use Rattle.desk.specs.declared.DeskDecision.{DeskDecision}
@@ -58,8 +59,8 @@ use Rattle.desk.specs.declared.DeskString.{DeskString}
 use Rattle.desk.specs.declared.DeskPage.{DeskPage}
 use Rattle.desk.specs.declared.DeskLock.{DeskLock}
 
--- ---- Demand 1. Every public call gives either its answer or one refusal from document 01's list. A refused rule text also gets line and column. A refused
--- call changes no table and no sheet.
+-- ---- Demand 1. Every public call gives either its answer or one refusal from document 01's list. A refused rule text also gets line and column, and by
+-- document 02 how many bytes its token has. A refused call changes no table and no sheet.
 
 pub record DemandOne : Type 0 where
   -- the refusals that each call can give; 0 is none
@@ -68,10 +69,12 @@ pub record DemandOne : Type 0 where
   pub lookup-refusals : (bag : List ℕ) (root : ℕ) (path : List ℕ) → List·Memᴰ (lookupSays bag root path .refusal) (0 ∷ 24 ∷ [])
   pub sheet-refusals : (c : SheetCall) → List·Memᴰ (pageFor c .refusal) (0 ∷ 20 ∷ 21 ∷ 22 ∷ 23 ∷ 24 ∷ 25 ∷ 26 ∷ [])
   pub tally-refusals : (c : TallyCall) → List·Memᴰ (refusalFor c) (0 ∷ 20 ∷ 21 ∷ 22 ∷ 23 ∷ 24 ∷ 27 ∷ [])
-  -- refusals 3 to 16 stand at the one token before which nothing is broken and at which a rule is, with its line and column; 1 and 2 have the place 0, 0
+  -- refusals 3 to 16 stand at the one token before which nothing is broken and at which a rule is, with its line, column and length; 1 and 2 have the
+  -- place 0, 0 and the length 0
   pub placed : (text table : List ℕ) → 2 < compileSays text table .refusal
-      → RefusedThere text (compileSays text table .refusal) (spot (compileSays text table .line) (compileSays text table .column))
-  pub no-place : (text table : List ℕ) → compileSays text table .refusal ≤ 2 → (compileSays text table .line ≡ 0) × (compileSays text table .column ≡ 0)
+      → RefusedThere text (compileSays text table .refusal) (spotSaid (compileSays text table))
+  pub lengths : (text : List ℕ) (number : ℕ) (at : Spot) (r : RefusedThere text number at) → Lengths text number (at .length) (r .rest)
+  pub no-place : (text table : List ℕ) → compileSays text table .refusal ≤ 2 → spotSaid (compileSays text table) ≡ nowhere
   -- a refused call changes nothing
   pub table-stays : (text table : List ℕ) → (compileSays text table .refusal ≡ 0 → ⊥) → compileLeaves text table ≡ table
   pub sheet-stays : (c : SheetCall) → (pageFor c .refusal ≡ 0 → ⊥) → sheetFor c ≡ c .sheet
@@ -381,10 +384,10 @@ pub record LookUps : Type 0 where
 pub record Refusals : Type 0 where
   pub too-long : (text table : List ℕ) → (compileSays text table .refusal ≡ 1) ↔ (mostTextBytes < length text)
   pub no-room : (text table : List ℕ) → (compileSays text table .refusal ≡ 2) ↔ ((length text ≤ mostTextBytes) × (length table < roomFor text))
-  -- 3 to 16, where the sizes are right: exactly by the number, at the line and column, of the one token at which a rule is first broken
-  pub token-exactly : (text table : List ℕ) (number line column : ℕ) → length text ≤ mostTextBytes → roomFor text ≤ length table → 2 < number
-      → (compileSays text table ≡ record { refusal = number; line = line; column = column; policies = 0; bytes = 0 })
-      ↔ RefusedThere text number (spot line column)
+  -- 3 to 16, where the sizes are right: exactly by the number, at the line and column, and with the length, of the one token at which a rule is first broken
+  pub token-exactly : (text table : List ℕ) (number line column size : ℕ) → length text ≤ mostTextBytes → roomFor text ≤ length table → 2 < number
+      → (compileSays text table ≡ record { refusal = number; line = line; column = column; length = size; policies = 0; bytes = 0 })
+      ↔ RefusedThere text number (spot line column size)
   pub decide-exactly : (c : DecideCall) (number : ℕ) → (decisionFor c .refusal ≡ number) ↔ DecideRefused c number
   pub lookup-exactly : (bag : List ℕ) (root : ℕ) (path : List ℕ) → (lookupSays bag root path .refusal ≡ 24) ↔ NoBag bag
   pub sheet-exactly : (c : SheetCall) (number : ℕ) → (pageFor c .refusal ≡ number) ↔ SheetRefused c number

@@ -9,12 +9,13 @@ ghost use Rattle.desk.specs.Promises.{CompileAllows, SheetAllows, String
 use compiling::Compiled;
 use meaning::Decision;
 
-// What compiling answers: the refusal with its line and column, or the policies and the bytes of the table that they use.
+// What compiling answers: the refusal with its line and column and how many bytes its token has, or the policies and the bytes of the table that they use.
 #[repr(C)]
 pub struct DeskCompiled {
     pub refusal: u32,
     pub line: usize,
     pub column: usize,
+    pub length: usize,
     pub policies: usize,
     pub bytes: usize,
 }
@@ -61,6 +62,7 @@ pub extern "C" fn desk_compile(text: &[u8], table: &mut [u8]) -> DeskCompiled
             refusal: 0, // accepted
             line: 0,
             column: 0,
+            length: 0,
             policies: policies,
             bytes: bytes,
         },
@@ -68,6 +70,7 @@ pub extern "C" fn desk_compile(text: &[u8], table: &mut [u8]) -> DeskCompiled
             refusal: number as u32,
             line: spot.line,
             column: spot.column,
+            length: spot.length,
             policies: 0,
             bytes: 0,
         },

@@ -83,12 +83,13 @@ unfolding numbersLine
 three-long x y z f g h =
     simp length-append (omega (arith, few-digits 9 x (omega arith), few-digits 2 y (omega arith), few-digits 2 z (omega arith)))
 
--- the line of a refusal: its word, and three numbers
-pub refusal-put : {a b c : List ℕ} {at m next : ℕ} (number line column : ℕ)
+-- the line of a refusal: its word, its number, and three numbers more
+pub refusal-put : {a b c d : List ℕ} {at m n next : ℕ} (number line column size : ℕ)
     → Added a at (code "r" ∷ code "e" ∷ code "f" ∷ code "u" ∷ code "s" ∷ code "e" ∷ code "d" ∷ code " " ∷ []) b m
-    → Added b m (numbersLine (number ∷ line ∷ column ∷ [])) c next → Added a at (refusedLine number line column) c next
-unfolding refusedLine
-refusal-put number line column w p = both-added w p
+    → Added b m (decimal number ++ (code " " ∷ [])) c n → Added c n (numbersLine (line ∷ column ∷ size ∷ [])) d next
+    → Added a at (refusedLine number line column size) d next
+unfolding refusedLine numbersLine
+refusal-put number line column size w p q = simp append-assoc at (both-added w (both-added p q))
 
 -- a word, and one or two numbers
 pub one-number-put : {a b c word : List ℕ} {at m next : ℕ} (n : ℕ) → Added a at word b m → Added b m (decimal n ++ (code "\n" ∷ [])) c next

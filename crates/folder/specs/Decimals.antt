@@ -24,7 +24,7 @@ numbersLine [] = code "\n" ∷ []
 numbersLine (n ∷ []) = decimal n ++ (code "\n" ∷ [])
 numbersLine (n ∷ m ∷ rest) = decimal n ++ (code " " ∷ numbersLine (m ∷ rest))
 
--- "refused ", then number, line and column
-unfoldable pub refusedLine : ℕ → ℕ → ℕ → List ℕ
-refusedLine number line column =
-    code "r" ∷ code "e" ∷ code "f" ∷ code "u" ∷ code "s" ∷ code "e" ∷ code "d" ∷ code " " ∷ numbersLine (number ∷ line ∷ column ∷ [])
+-- "refused ", then number, line, column and length
+unfoldable pub refusedLine : ℕ → ℕ → ℕ → ℕ → List ℕ
+refusedLine number line column size =
+    code "r" ∷ code "e" ∷ code "f" ∷ code "u" ∷ code "s" ∷ code "e" ∷ code "d" ∷ code " " ∷ numbersLine (number ∷ line ∷ column ∷ size ∷ [])

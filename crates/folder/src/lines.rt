@@ -86,11 +86,19 @@ pub fn put_three(out: &mut [u8], at: usize, n: usize, m: usize, o: usize) -> usi
     put_number(out, second, o, b'\n')
 }
 
-// The line of a refusal: its number, line and column.
-pub fn put_refusal(out: &mut [u8], at: usize, number: u32, line: usize, column: usize) -> usize
-    requires { ⌜ at + 71 ≤ length (now out) ⌝ }
-    ensures { λ r. ⌜ Added (now (out .entry)) at (refusedLine number line column) (now (out .exit)) r × (r ≤ at + 71) ⌝ }
+// The line of a refusal: its number, line, column and length.
+pub fn put_refusal(
+    out: &mut [u8],
+    at: usize,
+    number: u32,
+    line: usize,
+    column: usize,
+    size: usize,
+) -> usize
+    requires { ⌜ at + 92 ≤ length (now out) ⌝ }
+    ensures { λ r. ⌜ Added (now (out .entry)) at (refusedLine number line column size) (now (out .exit)) r × (r ≤ at + 92) ⌝ }
 {
     let word = put_word(out, at, b"refused ");
-    put_three(out, word, number as usize, line, column)
+    let first = put_number(out, word, number as usize, b' ');
+    put_three(out, first, line, column, size)
 }

@@ -408,8 +408,7 @@ module _ (v : List ℕ) where
           → (entriesFrom (suc n) v at ≡ true) × (entriesIn (suc n) at ≡ record { word = w; path = p; sort = s } ∷ xs)
       step t i j =
           let f : findFrom most v (entryAt v at .next) (wordOf v (entryAt v at)) .sort ≡ 0 =
-              none-found _ (find-is n (entryAt v at .next) most (wordOf v (entryAt v at)) i (omega arith) ∙ rw (t .word, j) (none-lookup w xs nw)) in
-          (
+          none-found _ (find-is n (entryAt v at .next) most (wordOf v (entryAt v at)) i (omega arith) ∙ rw (t .word, j) (none-lookup w xs nw)) in (
             from-on n at (t .within) (is-entry (entryAt v at) s aw ip (t .word) (t .path) (t .sort) f) i,
             in-on n at (t .within) (rw (t .word, t .path, t .sort, sort-of s)) j,
           )

@@ -235,18 +235,18 @@ module _ (v l a r : List ℕ) where
       let t = actions-sound a most 0 (x .actions) (p .actions) in
       let whole-a : a ≡ t .bytes = whole-laid (t .laid) in
       let all : LockSays v l a r (x .actions) (x .tests) =
-          record {
-            entries = entriesIn v most 0;
-            vocabulary-says = record { in-turn = rw (← whole-v) at (es .says); few = es .few; no-word-twice = es .distinct };
-            written = s .written;
-            lock-says = rw (← whole-l) at (s .says);
-            few-tests = s .few;
-            meant = s .meant;
-            actions-say = rw (← whole-a) at (t .says);
-            some-actions = t .some-one;
-            few-actions = t .few;
-            resource-is = test-string r (p .resource);
-          } in
+      record {
+        entries = entriesIn v most 0;
+        vocabulary-says = record { in-turn = rw (← whole-v) at (es .says); few = es .few; no-word-twice = es .distinct };
+        written = s .written;
+        lock-says = rw (← whole-l) at (s .says);
+        few-tests = s .few;
+        meant = s .meant;
+        actions-say = rw (← whole-a) at (t .says);
+        some-actions = t .some-one;
+        few-actions = t .few;
+        resource-is = test-string r (p .resource);
+      } in
       record { says = all; compiles = compiles (made all) (s .fit) }
 
   -- what is said, in a permit that would compile, is read
@@ -258,8 +258,8 @@ module _ (v l a r : List ℕ) where
       let e = entries-complete v (s .vocabulary-says .in-turn) 0 most (laid-whole v) (s .vocabulary-says .few) (omega arith) (s .vocabulary-says .no-word-twice) in
       let es : s .entries ≡ entriesIn v most 0 = sym (e .1) in
       let t : testsOf v l ≡ some ts =
-          lock-complete v l (e .0) (λ y m. entry-forms (s .vocabulary-says .in-turn) y (rw (e .1) at m) .0) (rw es at (s .vocabulary-says .no-word-twice)) (s .lock-says)
-          (rw es at (s .meant)) f 0 most (laid-whole l) (s .few-tests) in
+      lock-complete v l (e .0) (λ y m. entry-forms (s .vocabulary-says .in-turn) y (rw (e .1) at m) .0) (rw es at (s .vocabulary-says .no-word-twice)) (s .lock-says)
+      (rw es at (s .meant)) f 0 most (laid-whole l) (s .few-tests) in
       let u : actionsOf a ≡ some acts = actions-complete a (s .actions-say) 0 most (laid-whole a) (s .some-actions) (s .few-actions) in
       rw (e .0, string-test (s .resource-is), u, t)
 

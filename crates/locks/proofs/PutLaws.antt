@@ -26,7 +26,7 @@ put-put room at a b h =
     let t : take (at + length a) (x ++ (a ++ y)) ≡ x ++ a = ap (λ (l : List ℕ). take (at + length a) l) z ∙ take-at (x ++ a) y (at + length a) s in
     let d : drop (at + length a) (x ++ (a ++ y)) ≡ y = ap (λ (l : List ℕ). drop (at + length a) l) z ∙ drop-at (x ++ a) y (at + length a) s in
     let e : drop (at + length a + length b) (x ++ (a ++ y)) ≡ drop (length b) y =
-        sym (drop-drop (length b) (at + length a) (x ++ (a ++ y))) ∙ ap (λ (l : List ℕ). drop (length b) l) d in
+    sym (drop-drop (length b) (at + length a) (x ++ (a ++ y))) ∙ ap (λ (l : List ℕ). drop (length b) l) d in
     let f : drop (length b) y ≡ drop (at + length a + length b) room = drop-drop (length b) (at + length a) room in
     let g : at + length a + length b ≡ at + length (a ++ b) = omega (arith, length-append a b) in
     rw (t, e ∙ f, g) (append-assoc x a (b ++ drop (at + length (a ++ b)) room) ∙ ap (λ (l : List ℕ). x ++ l) (sym (append-assoc a b (drop (at + length (a ++ b)) room))))

@@ -279,7 +279,7 @@ module _ (v l : List ℕ) (good : isVocabulary v ≡ true) where
         let x = value-laid l (markIn l at .end) (operandIn l at) mark-high q (a .operand) in
         let r = back (x .laid .inside) in
         let t : word .bytes ++ ((c .blanks ++ 58 ∷ []) ++ (x .blanks ++ x .value)) ≡ word .bytes ++ (c .blanks ++ 58 ∷ (x .blanks ++ x .value)) =
-            ap (λ (y : List ℕ). word .bytes ++ y) (append-assoc (c .blanks) (58 ∷ []) (x .blanks ++ x .value)) in
+        ap (λ (y : List ℕ). word .bytes ++ y) (append-assoc (c .blanks) (58 ∷ []) (x .blanks ++ x .value)) in
         record {
           written = valued (word .bytes) (x .value);
           front = front .bytes;
@@ -304,8 +304,8 @@ module _ (v l : List ℕ) (good : isVocabulary v ≡ true) where
         let x = number-laid l (markIn l at .end) (operandIn l at) mark-high q (a .operand) in
         let r = back (x .laid .inside) in
         let t : word .bytes ++ ((m .blanks ++ m .bytes) ++ (x .blanks ++ x .value)) ≡ word .bytes ++ (m .blanks ++ (markOf c ++ (x .blanks ++ x .value))) =
-            ap (λ (y : List ℕ). word .bytes ++ y)
-            (append-assoc (m .blanks) (m .bytes) (x .blanks ++ x .value) ∙ ap (λ (y : List ℕ). m .blanks ++ (y ++ (x .blanks ++ x .value))) f) in
+        ap (λ (y : List ℕ). word .bytes ++ y)
+        (append-assoc (m .blanks) (m .bytes) (x .blanks ++ x .value) ∙ ap (λ (y : List ℕ). m .blanks ++ (y ++ (x .blanks ++ x .value))) f) in
         record {
           written = compared (word .bytes) c (x .value);
           front = front .bytes;

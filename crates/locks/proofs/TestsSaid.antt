@@ -128,7 +128,6 @@ stands-there l at {b} a rest q h n s =
     one-token l at _ _ (longest-token l at h) (record { blanks = b; rest = rest; parts = q; passed = a; no-blank = n; stands = s })
 
 module _ {l b : List ℕ} {at e : ℕ} (a : All Blanks b) where
-
   pub token-reads : {kind : ℕ} {p : List ℕ} → Form kind p → sizeOf kind p ≤ mostOf kind → Laid l at (b ++ p) e → apart p (getD (drop e l) 0 0) ≡ true
       → tokenAt l at ≡ token kind (at + length b) e
   token-reads {kind} {p} f s d n =

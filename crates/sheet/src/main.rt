@@ -50,9 +50,9 @@ fn line_after(s: &[u8], end: usize) -> usize
     if end < s.len() { end + 1 } else { end }
 }
 
-fn print_refusal(number: u32, line: usize, column: usize) {
-    let mut out = [0u8; 71];
-    let n = put_refusal(&mut out, 0, number, line, column);
+fn print_refusal(number: u32, line: usize, column: usize, size: usize) {
+    let mut out = [0u8; 92];
+    let n = put_refusal(&mut out, 0, number, line, column, size);
     io::write_all(STDOUT_FILENO, &out[..n]);
 }
 
@@ -209,7 +209,7 @@ fn print_sheet<'a>(
         0,
     ) {
         Answer::Refused(number) => {
-            print_refusal(number as u32, 0, 0);
+            print_refusal(number as u32, 0, 0, 0);
             Printed::Refusal(number)
         }
         Answer::Listed(written, next) => {
@@ -262,7 +262,9 @@ fn main() {
     let q = read_file(b"question.bin", &mut question);
     let r = read_file(b"request.txt", &mut request);
     match compile(&text[..n], &mut table) {
-        Compiled::Refused(number, spot) => print_refusal(number as u32, spot.line, spot.column),
+        Compiled::Refused(number, spot) => {
+            print_refusal(number as u32, spot.line, spot.column, spot.length)
+        }
         Compiled::Policies(_, _) => {
             print_request(&text[..n], &table, &question[..q], &request[..r]);
         }

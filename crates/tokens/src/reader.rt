@@ -61,7 +61,13 @@ fn word(classes: &[u8; 256], text: &[u8], start: usize) -> Token
     ensures { λ r. ⌜ r ≡ wordToken (now (text .entry)) start ⌝ }
 {
     let end = run_end(classes, text, start, Sort::WordBytes);
-    within(word_kind(&text[start..end]), MOST_WORD_BYTES, end - start, start, end)
+    within(
+        word_kind(&text[start..end]),
+        MOST_WORD_BYTES,
+        end - start,
+        start,
+        end,
+    )
 }
 
 // The string that starts with the quote at `start`: at most 127 bytes between the quotes.
@@ -78,7 +84,13 @@ fn string(classes: &[u8; 256], text: &[u8], start: usize) -> Token
         };
     }
     if text[end] == b'"' {
-        within(kinds::STRING, MOST_STRING_BYTES, end - (start + 1), start, end + 1)
+        within(
+            kinds::STRING,
+            MOST_STRING_BYTES,
+            end - (start + 1),
+            start,
+            end + 1,
+        )
     } else {
         one_byte(kinds::BAD_BYTE, end)
     }

@@ -60,7 +60,11 @@ pub fn attribute(
 }
 
 // The places of the chosen candidates, from those of all, by column and choice.
-pub fn chosen(grid: [[usize; MOST_CANDIDATES]; MOST_COLUMNS], n: usize, choices: &[u8; MOST_COLUMNS]) -> [usize; MOST_COLUMNS]
+pub fn chosen(
+    grid: [[usize; MOST_CANDIDATES]; MOST_COLUMNS],
+    n: usize,
+    choices: &[u8; MOST_COLUMNS],
+) -> [usize; MOST_COLUMNS]
     requires { ⌜ n ≤ mostColumns ⌝ }
     requires { ⌜ ((i : ℕ) → i < n → getD (now choices) i 0 < mostCandidates) ⌝ }
     ensures { λ r. ⌜ ((i : ℕ) → i < mostColumns → getD r i 0 ≡ cond (ltb i n) (getD (getD grid i []) (getD (now (choices .entry)) i 0) 0) 0) ⌝ }

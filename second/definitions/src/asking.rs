@@ -48,7 +48,7 @@ pub fn read_cases(bytes: &[u8]) -> Option<Vec<Case>> {
 pub fn printed_check(text: &[u8]) -> String {
     match compile(text, ROOM_FOR_EACH_BYTE * text.len()) {
         Ok(compiled) => format!("compiled {} {}\n", compiled.policies.len(), compiled.table.len()),
-        Err(refusal) => refused(refusal),
+        Err(refusal) => refusal.printed(),
     }
 }
 
@@ -56,14 +56,14 @@ pub fn printed_check(text: &[u8]) -> String {
 pub fn printed_decide(text: &[u8], cases: &[Case]) -> String {
     let compiled = match compile(text, ROOM_FOR_EACH_BYTE * text.len()) {
         Ok(compiled) => compiled,
-        Err(refusal) => return refused(refusal),
+        Err(refusal) => return refusal.printed(),
     };
     let mut lines = String::new();
     for case in cases {
         let [subject, action, resource] = &case.request;
         let line = match decide(text, &compiled.table, &case.bag, Request { subject, action, resource }) {
             Ok(decision) => format!("decided {} {}\n", decision.outcome, decision.policy),
-            Err(number) => format!("refused {} 0 0\n", number),
+            Err(number) => Refusal::without_place(number).printed(),
         };
         lines.push_str(&line);
     }
@@ -81,11 +81,11 @@ pub fn requests_file(requests: &[Request]) -> Vec<u8> {
 pub fn printed_tally(text: &[u8], question: &[u8], requests: &[u8]) -> String {
     let compiled = match compile(text, ROOM_FOR_EACH_BYTE * text.len()) {
         Ok(compiled) => compiled,
-        Err(refusal) => return refused(refusal),
+        Err(refusal) => return refusal.printed(),
     };
     let (many, lent) = requests.split_first().map_or((0, requests), |(many, lent)| (usize::from(*many), lent));
     match tally(text, &compiled.table, question, &read_requests(many, lent)) {
-        Err(number) => format!("refused {} 0 0\n", number),
+        Err(number) => Refusal::without_place(number).printed(),
         Ok(tally) => {
             let policies = compiled.policies.len();
             let rows = read_question(question).map_or(0, |question| question.rows());
@@ -104,10 +104,6 @@ fn count_lines(counts: &Counts, policies: usize) -> String {
     let outcomes = counts.outcomes.iter().enumerate().map(|(index, rows)| line("outcome", index, rows));
     let decided = counts.policies.iter().take(policies).enumerate().map(|(index, rows)| line("policy", index, rows));
     outcomes.chain(decided).collect()
-}
-
-fn refused(refusal: Refusal) -> String {
-    format!("refused {} {} {}\n", refusal.number, refusal.line, refusal.column)
 }
 
 #[cfg(test)]
@@ -131,11 +127,11 @@ mod tests {
     fn each_case_has_a_line() {
         let text = b"permit(principal,action,resource);";
         assert_eq!(printed_check(text), "compiled 1 20\n");
-        assert_eq!(printed_check(b"permit"), "refused 10 1 7\n");
+        assert_eq!(printed_check(b"permit"), "refused 10 1 7 0\n");
         let cases =
             [case("person:K7", &[0, 0, 0]), case("dog:1", &[0, 0, 0]), case("system", &[]), case("tool:1", &[])];
-        assert_eq!(printed_decide(text, &cases), "decided 1 1\nrefused 21 0 0\ndecided 4 0\nrefused 24 0 0\n");
-        assert_eq!(printed_decide(b"permit", &cases), "refused 10 1 7\n");
+        assert_eq!(printed_decide(text, &cases), "decided 1 1\nrefused 21 0 0 0\ndecided 4 0\nrefused 24 0 0 0\n");
+        assert_eq!(printed_decide(b"permit", &cases), "refused 10 1 7 0\n");
     }
 
     // A question with one column of two candidates: env.a is absent, and true.
@@ -152,13 +148,13 @@ mod tests {
              request 2\noutcome 1 0\noutcome 2 0\noutcome 3 0\noutcome 4 2\npolicy 1 0\npolicy 2 0\n\
              sums\noutcome 1 1\noutcome 2 1\noutcome 3 0\noutcome 4 2\npolicy 1 1\npolicy 2 1\n"
         );
-        assert_eq!(printed_tally(b"", &question, &file[..1]), "refused 21 0 0\n");
-        assert_eq!(printed_tally(b"permit", &question, &file), "refused 10 1 7\n");
-        assert_eq!(printed_tally(text, &[0, 0, 0], &file), "refused 24 0 0\n");
-        assert_eq!(printed_tally(text, &question, b""), "refused 27 0 0\n");
+        assert_eq!(printed_tally(b"", &question, &file[..1]), "refused 21 0 0 0\n");
+        assert_eq!(printed_tally(b"permit", &question, &file), "refused 10 1 7 0\n");
+        assert_eq!(printed_tally(text, &[0, 0, 0], &file), "refused 24 0 0 0\n");
+        assert_eq!(printed_tally(text, &question, b""), "refused 27 0 0 0\n");
         for many in [9, 300] {
             let file = requests_file(&vec![of(b"tool:1"); many]);
-            assert_eq!(printed_tally(text, &question, &file), "refused 27 0 0\n");
+            assert_eq!(printed_tally(text, &question, &file), "refused 27 0 0 0\n");
         }
     }
 }

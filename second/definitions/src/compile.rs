@@ -25,12 +25,26 @@ const MOST_WILDCARDS: usize = 5;
 /// 01, "Sizes": conditions nest to 32 levels, the `when` braces are depth 1.
 const DEEPEST: usize = 32;
 
-/// 01, "Refusal numbers": the number and the place; refusals 1 and 2 have place 0, 0.
+/// 01, "Refusal numbers": the number and the place. 02, request 4: how many bytes the refused token has. Refusals 1 and 2
+/// have place 0, 0 and length 0.
 #[derive(Clone, Copy, PartialEq, Eq, Debug)]
 pub struct Refusal {
     pub number: u8,
     pub line: usize,
     pub column: usize,
+    pub length: usize,
+}
+
+impl Refusal {
+    /// A refusal that stands at no token.
+    pub fn without_place(number: u8) -> Refusal {
+        Refusal { number, line: 0, column: 0, length: 0 }
+    }
+
+    /// The line that programs print of it: `refused`, number, line, column, length.
+    pub fn printed(self) -> String {
+        format!("refused {} {} {} {}\n", self.number, self.line, self.column, self.length)
+    }
 }
 
 /// A text that compiles: its policies and the bytes of its table.
@@ -44,7 +58,7 @@ pub struct Compiled {
 pub fn compile(text: &[u8], room: usize) -> Result<Compiled, Refusal> {
     refuse_if_too_long(text)?;
     if room < ROOM_FOR_EACH_BYTE * text.len() {
-        return Err(Refusal { number: 2, line: 0, column: 0 });
+        return Err(Refusal::without_place(2));
     }
     let policies = policies_of(text)?;
     let table = bytes_of(&entries_of(&policies));
@@ -53,7 +67,7 @@ pub fn compile(text: &[u8], room: usize) -> Result<Compiled, Refusal> {
 
 fn refuse_if_too_long(text: &[u8]) -> Result<(), Refusal> {
     if text.len() > LONGEST_TEXT {
-        Err(Refusal { number: 1, line: 0, column: 0 })
+        Err(Refusal::without_place(1))
     } else {
         Ok(())
     }
@@ -109,11 +123,19 @@ enum PathPlace {
 }
 
 impl Reader<'_> {
-    /// Refuse the next token. Its own refusals (3 to 6) are lower than all others; no admitted token has one.
+    /// Refuse the next token. Its own refusals (3 to 6) are lower than all others; no admitted token has one. 02, request 4:
+    /// the length is that of the token's bytes, a string's with its quotes, an unended one's to the end of text; 1 for a
+    /// single bad byte, 0 at the end of text.
     fn refuse<T>(&self, number: u8) -> Result<T, Refusal> {
         let number = if self.next.is_refused() { self.next.kind } else { number };
         let place = place_of(self.text, self.next.start);
-        Err(Refusal { number, line: place.line, column: place.column })
+        let length = match self.next.kind {
+            tokens::END_OF_TEXT => 0,
+            tokens::BAD_BYTE | tokens::COLON => 1,
+            tokens::UNENDED_STRING => self.text.len() - self.next.start,
+            _ => self.next.end - self.next.start,
+        };
+        Err(Refusal { number, line: place.line, column: place.column, length })
     }
 
     fn take(&mut self) -> Token {
@@ -519,11 +541,14 @@ mod tests {
     fn the_checked_examples_a_to_f() {
         assert_eq!(compile(b"", 0), Ok(Compiled { policies: vec![], table: vec![] }));
         assert_eq!(policies_of(format!("{};", P).as_bytes()).unwrap().len(), 1);
-        assert_eq!(refusal(P.as_bytes()), Some((10, 1, 34)));
-        for (rest, number, column) in
-            [("when{principal.a};", 8, 50), ("when{principal.if==1};", 7, 49), ("when{action.kind==\"x\"};", 11, 46)]
-        {
-            assert_eq!(refusal(format!("{}{}", P, rest).as_bytes()), Some((number, 1, column)));
+        for (rest, number, column, length) in [
+            ("", 10, 34, 0),
+            ("when{principal.a};", 8, 50, 1),
+            ("when{principal.if==1};", 7, 49, 2),
+            ("when{action.kind==\"x\"};", 11, 46, 4),
+        ] {
+            let refused = policies_of(format!("{}{}", P, rest).as_bytes());
+            assert_eq!(refused, Err(Refusal { number, line: 1, column, length }));
         }
     }
 
@@ -545,7 +570,7 @@ mod tests {
         assert_eq!(numbers(b":", 7), Err(2));
         assert_eq!(numbers(b":", 8), Err(4));
         assert_eq!(numbers(b"", 0), Ok(()));
-        assert_eq!(compile(b" ", 7), Err(Refusal { number: 2, line: 0, column: 0 }));
+        assert_eq!(compile(b" ", 7), Err(Refusal { number: 2, line: 0, column: 0, length: 0 }));
         assert_eq!(compile(b" \n", 16), Ok(Compiled { policies: vec![], table: vec![] }));
     }
 
@@ -570,6 +595,53 @@ mod tests {
         check_condition(3, "1==^=1");
         check_condition(3, "principal.a == ^-x");
         check_condition(3, "principal.a ^| true");
+    }
+
+    /// 02, request 4: the refused token goes from `^` up to `~`; both are taken out.
+    fn check_length(number: u8, marked: &str) {
+        let start = marked.find('^').unwrap();
+        let end = marked.find('~').unwrap() - 1;
+        let text = marked.replacen('^', "", 1).replacen('~', "", 1);
+        let place = place_of(text.as_bytes(), start);
+        let expected = Refusal { number, line: place.line, column: place.column, length: end - start };
+        assert_eq!(policies_of(text.as_bytes()), Err(expected), "{}", marked);
+    }
+
+    // 02, request 4: a string counts its quotes, an unended one to the end of text; a bad byte is 1, the end of text 0.
+    #[test]
+    fn a_refusal_tells_how_many_bytes_its_token_has() {
+        let when = |condition: &str| format!("{} when {{ {} }};", P, condition);
+        for (number, condition) in [
+            (3, "1 ^&~ 2"),
+            (3, "1 == \"ab^\n~cd\""),
+            (4, "1 ^:~ 2"),
+            (7, "env.^containsAll~ == 1"),
+            (8, "env.a ^&&~ true"),
+            (8, "if env.a ^then~ true else true"),
+            (10, "^<=~ 1"),
+            (10, "1 == 1 ^\"two words\"~"),
+            (10, "1 == 1 ^-12.50~"),
+            (11, "action.^kind~ == 1"),
+            (13, "1 like ^\"a**b\"~"),
+            (14, "1 in [1,2,3,4,5,6,7,8,9,10,11,12,13,14,15,16,^\"17\"~]"),
+        ] {
+            check_length(number, &when(condition));
+        }
+        for (number, mark) in [(12, "^(~"), (12, "^!~"), (12, "^if~")] {
+            check_length(number, &when(&format!("{}{} true", "(".repeat(31), mark)));
+        }
+        check_length(3, "^\0~");
+        check_length(5, &format!("{} when {{ 1 == ^\"a b; ~", P));
+        check_length(5, "^\"~");
+        check_length(6, &format!("^{}~ x", "w".repeat(65)));
+        check_length(6, &when(&format!("1 == ^\"{}\"~", "s".repeat(128))));
+        check_length(6, &when(&format!("1 == ^-{}.5~", "1".repeat(15))));
+        check_length(9, "permit(principal is ^dog~,");
+        check_length(10, "permit\n^~");
+        check_length(10, "permit(principal^;~");
+        check_length(15, &format!("{}^forbid~", format!("{};", P).repeat(64)));
+        check_length(16, &when(&format!("env.{}.^b-c~ == 1", "a".repeat(62))));
+        assert_eq!(policies_of("permit ü".as_bytes()), Err(Refusal { number: 3, line: 1, column: 8, length: 1 }));
     }
 
     // 01, "The rule text": the target.

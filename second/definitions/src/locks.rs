@@ -151,7 +151,7 @@ pub fn printed(lent: Lent, room: usize) -> Vec<u8> {
     let mut room = vec![0; room];
     match write_permit(lent, &mut room) {
         Ok(length) => [&room[..length], b"\n"].concat(),
-        Err(number) => format!("refused {} 0 0\n", number).into_bytes(),
+        Err(number) => format!("refused {} 0 0 0\n", number).into_bytes(),
     }
 }
 
@@ -810,8 +810,8 @@ mod tests {
         let bad = Lent { lock: b"firm", ..lent };
         assert_eq!(write_permit(bad, &mut []), Err(NO_LOCK));
         assert_eq!(printed(lent, 300), [&text[..], b"\n"].concat());
-        assert_eq!(printed(lent, 10), b"refused 29 0 0\n");
-        assert_eq!(printed(bad, 300), b"refused 28 0 0\n");
+        assert_eq!(printed(lent, 10), b"refused 29 0 0 0\n");
+        assert_eq!(printed(bad, 300), b"refused 28 0 0 0\n");
     }
 
     // Each test's truth, worked by hand, and as its permit is decided.

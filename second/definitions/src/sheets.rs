@@ -1,7 +1,7 @@
 //! Sheets: the listed rows of a question, page by page, and what the sheet program prints (01, "The sheet" and "Checked
 //! examples").
 
-use crate::compile::{compile, policies_said_by, ROOM_FOR_EACH_BYTE};
+use crate::compile::{compile, policies_said_by, Refusal, ROOM_FOR_EACH_BYTE};
 use crate::deciding::{Decision, Facts, Request, ALLOWED, SYSTEM, SYSTEM_DECISION};
 use crate::policies::Policy;
 use crate::questions::{read_question, Question};
@@ -93,11 +93,11 @@ pub fn read_request(bytes: &[u8]) -> Request<'_> {
 }
 
 /// What the sheet program prints for `policy.txt`, `question.bin` and `request.txt`, with pages of so many bytes. A refusal
-/// is one line and nothing else; one that is not of compiling has line and column 0.
+/// is one line and nothing else; one that is not of compiling has line, column and length 0.
 pub fn printed(text: &[u8], question: &[u8], request: &[u8], page_bytes: usize) -> String {
     let compiled = match compile(text, ROOM_FOR_EACH_BYTE * text.len()) {
         Ok(compiled) => compiled,
-        Err(refusal) => return format!("refused {} {} {}\n", refusal.number, refusal.line, refusal.column),
+        Err(refusal) => return refusal.printed(),
     };
     let request = read_request(request);
     let mut lines = String::new();
@@ -107,7 +107,7 @@ pub fn printed(text: &[u8], question: &[u8], request: &[u8], page_bytes: usize) 
         let mut sheet = vec![0; page_bytes];
         let wanted = PageWanted { lent: &mut sheet, named_byte: 0, start_row };
         match write_page(text, &compiled.table, question, request, wanted) {
-            Err(number) => return format!("refused {} 0 0\n", number),
+            Err(number) => return Refusal::without_place(number).printed(),
             Ok(page) => {
                 for row in sheet.chunks(ROW_BYTES).take(page.written) {
                     let number = u32::from_le_bytes([row[0], row[1], row[2], row[3]]);
@@ -156,14 +156,14 @@ mod tests {
     #[test]
     fn refusals_are_printed_alone() {
         let question = example_question();
-        assert_eq!(printed(b"\n :", &question, REQUEST, 60), "refused 4 2 2\n");
-        assert_eq!(printed(b":", b"", b"system", 60), "refused 4 1 1\n");
-        assert_eq!(printed(b"", b"", b"system", 60), "refused 24 0 0\n");
-        assert_eq!(printed(b"", &question, b"", 60), "refused 21 0 0\n");
-        assert_eq!(printed(b"", &question, b"tool:1", 60), "refused 22 0 0\n");
-        assert_eq!(printed(b"", &question, b"tool:1\na\n", 60), "refused 23 0 0\n");
+        assert_eq!(printed(b"\n :", &question, REQUEST, 60), "refused 4 2 2 1\n");
+        assert_eq!(printed(b":", b"", b"system", 60), "refused 4 1 1 1\n");
+        assert_eq!(printed(b"", b"", b"system", 60), "refused 24 0 0 0\n");
+        assert_eq!(printed(b"", &question, b"", 60), "refused 21 0 0 0\n");
+        assert_eq!(printed(b"", &question, b"tool:1", 60), "refused 22 0 0 0\n");
+        assert_eq!(printed(b"", &question, b"tool:1\na\n", 60), "refused 23 0 0 0\n");
         assert_eq!(printed(b"", &question, b"tool:1\r\na\nshaft:1\nmore", 60), "rows 9\nallowed 0\n");
-        assert_eq!(printed(b"", &question, b"system\r\na\nshaft:1", 60), "refused 21 0 0\n");
+        assert_eq!(printed(b"", &question, b"system\r\na\nshaft:1", 60), "refused 21 0 0 0\n");
         assert_eq!(printed(b"", &[0, 0, 0, 0], b"system", 60), "rows 1\n0 4 0\nallowed 1\n");
     }
 

@@ -122,12 +122,13 @@ impl Drop for Folder {
     }
 }
 
-/// A refusal: its number, and its line and column, which are 0 where it has no place.
+/// A refusal: its number, its line and column, which are 0 where it has no place, and how many bytes the refused token has.
 #[derive(Clone, Copy, PartialEq, Eq, Debug)]
 pub struct Refused {
     pub number: usize,
     pub line: usize,
     pub column: usize,
+    pub length: usize,
 }
 
 /// What is decided of a case.
@@ -146,7 +147,7 @@ pub fn numbers<const N: usize>(line: &str, word: &str) -> Option<[usize; N]> {
 
 /// The refusal that a line says.
 pub fn read_refused(line: &str) -> Option<Refused> {
-    numbers(line, "refused").map(|[number, line, column]| Refused { number, line, column })
+    numbers(line, "refused").map(|[number, line, column, length]| Refused { number, line, column, length })
 }
 
 fn read_answer(line: &str) -> Option<Answer> {
@@ -288,16 +289,17 @@ pub mod tests {
         let case = Case { request: [b"tool:1".to_vec(), b"a".to_vec(), b"shaft:1".to_vec()], bag: vec![0, 0, 0] };
         assert_eq!(check(&StandIn, text), Ok(Ok(1)));
         assert_eq!(decide(&StandIn, text, &[case.clone()]), Ok(Ok(vec![Answer::Decided { outcome: 1, policy: 1 }])));
-        assert_eq!(decide(&StandIn, b":", &[case.clone()]), Ok(Err(Refused { number: 4, line: 1, column: 1 })));
-        for wrong in ["", "compiled 2 20\n", "refused 10 1 1\n", "decided 1 2\n", "decided 1 1\ndecided 1 1\n"] {
+        let refused = Refused { number: 4, line: 1, column: 1, length: 1 };
+        assert_eq!(decide(&StandIn, b":", &[case.clone()]), Ok(Err(refused)));
+        for wrong in ["", "compiled 2 20\n", "refused 10 1 1 6\n", "decided 1 2\n", "decided 1 1\ndecided 1 1\n"] {
             assert!(check(&Wrong(wrong), text).is_err(), "{}", wrong);
             assert!(decide(&Wrong(wrong), text, &[case.clone()]).is_err(), "{}", wrong);
         }
         let lent = Lent { vocabulary: b"\x01a\x01b\x01", lock: b"a:c", actions: b"\x01d", resource: b"e" };
         let permit = "permit(principal, action in [\"d\"], resource == \"e\") when { principal.b == \"c\" };";
         assert_eq!(lock(&StandIn, lent, 100), Ok(Ok(permit.to_string())));
-        assert_eq!(lock(&StandIn, lent, 9), Ok(Err(Refused { number: 29, line: 0, column: 0 })));
-        for wrong in ["", "refused 28 0 0\n", "permit(principal, action, resource);\n", permit] {
+        assert_eq!(lock(&StandIn, lent, 9), Ok(Err(Refused { number: 29, line: 0, column: 0, length: 0 })));
+        for wrong in ["", "refused 28 0 0 0\n", "permit(principal, action, resource);\n", permit] {
             assert!(lock(&Wrong(wrong), lent, 100).is_err(), "{}", wrong);
         }
     }

@@ -230,7 +230,7 @@ fn what_was_made_of_the_text_must_be_what_it_says() {
 fn a_missing_file_is_empty_for_the_sheet_program_alone() {
     let folder = Folder::new(&[]);
     let said = folder.says(&["sheet", "@", "--missing-is-empty"]);
-    assert_eq!((said.out.as_str(), said.status), ("refused 24 0 0\n", 1));
+    assert_eq!((said.out.as_str(), said.status), ("refused 24 0 0 0\n", 1));
     for name in ["policy.txt", "question.bin", "request.txt"] {
         assert!(all(&said).contains(&format!("{}: it is taken as empty", name)), "{}", all(&said));
     }
@@ -519,7 +519,7 @@ fn refusals_of_tallies_say_which_request() {
         assert!(said.status == 1 && unwrapped.starts_with(&format!("Refused, number {}. ", number)), "{}", said.out);
         assert!(unwrapped.contains(what) && unwrapped.contains(mend), "{}", said.out);
         let said = folder.says(&["tally", "@", "--lines"]);
-        assert_eq!((said.out, said.status), (format!("refused {} 0 0\n", number), 1));
+        assert_eq!((said.out, said.status), (format!("refused {} 0 0 0\n", number), 1));
         assert!(said.warnings.last().unwrap().contains(what), "{:?}", said.warnings);
         assert_eq!(folder.says(&["tally", "@", "--html", "@page.html"]).status, 1);
         assert!(fs::read_to_string(folder.path("page.html"))
@@ -532,7 +532,7 @@ fn refusals_of_tallies_say_which_request() {
     assert!(nine.status == 1 && nine.out.replace('\n', " ").starts_with(words), "{}", nine.out);
     assert!(with_requests(&"request\n".repeat(8)).says(&["tally", "@"]).status == 0);
     let said = with_requests(&"request\n".repeat(300)).says(&["tally", "@", "--lines"]);
-    assert_eq!((said.out.as_str(), said.status), ("refused 27 0 0\n", 1));
+    assert_eq!((said.out.as_str(), said.status), ("refused 27 0 0 0\n", 1));
     // One request is refused as its sheet is, and rules with their place.
     let said =
         with_question(RULES, "subject = \"dog:1\"\naction = \"a\"\nresource = \"shaft:A\"").says(&["tally", "@"]);

@@ -161,7 +161,7 @@ fn put_page(name: &str, page: &str) -> Done<()> {
 fn read_sheet(asked: &Asked, printed: &str) -> Done<Result<Vec<Listed>, Refused>> {
     let read = read_printed(printed.as_bytes()).or_else(not_asked)?;
     match read {
-        Printed::Refused { number, line, column } => Ok(Err(Refused { number, line, column })),
+        Printed::Refused(refused) => Ok(Err(refused)),
         Printed::Sheet { ref listed, .. } => {
             let listed = listed.clone();
             check_belongs(&read, asked.question()?.rows(), policy_texts(&asked.rules).len()).or_else(not_asked)?;
@@ -170,14 +170,19 @@ fn read_sheet(asked: &Asked, printed: &str) -> Done<Result<Vec<Listed>, Refused>
     }
 }
 
-/// A refusal in words. One with a place must be where what explains it finds it.
+/// A refusal in words. One with a place must be where, and as long as, what explains it finds it.
 fn refusal_shown(asked: &Asked, refused: Refused) -> Done<RefusalShown> {
-    let own = policies_of(&asked.rules).err().map(|own| (usize::from(own.number), own.line, own.column));
-    let Refused { number, line, column } = refused;
-    if line > 0 && own != Some((number, line, column)) {
+    let own = policies_of(&asked.rules).err().map(|own| Refused {
+        number: usize::from(own.number),
+        line: own.line,
+        column: own.column,
+        length: own.length,
+    });
+    if refused.line > 0 && own != Some(refused) {
+        let Refused { number, line, column, length } = refused;
         return not_asked(format!(
-            "the proved program refuses with {} at {}:{}, and what explains it does not: one of them is wrong, so nothing is shown",
-            number, line, column
+            "the proved program refuses with {} at {}:{}, for {}, and what explains it does not: one of them is wrong, so nothing is shown",
+            number, line, column, count_of(length, "byte", "bytes")
         ));
     }
     let files =
@@ -442,6 +447,6 @@ fn refused_lock(file: &LockFile, line: &LockLine, named: (&str, &[u8]), refused:
         }
     };
     let place = place_of(text, at);
-    let shown = RefusalShown { number, meaning, place: PlaceShown::new(text, place.line, place.column) };
+    let shown = RefusalShown { number, meaning, place: PlaceShown::new(text, place.line, place.column, 1) };
     Ok(shown.text(name))
 }

@@ -52,7 +52,7 @@ pub fn refusal_page(refusal: &RefusalShown, name: &str, notes: &[String], record
     body += &format!("<p>{}</p>\n", escaped(&refusal.meaning));
     if let Some(place) = &refusal.place {
         body += &format!("<p>{}, line {}, column {}:</p>\n", escaped(name), place.line, place.column);
-        body += &format!("<pre>{}\n{}^</pre>\n", escaped(&place.text), " ".repeat(place.before));
+        body += &format!("<pre>{}\n{}</pre>\n", escaped(&place.text), place.carets());
     }
     body += &recorded(record);
     page(&title, &body, false)

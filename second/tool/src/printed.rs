@@ -1,12 +1,13 @@
 //! What the sheet program printed, read (01, "Checked examples").
 
+use crate::answers::{read_refused, Refused};
 use crate::words::{count_of, grouped};
 
 /// What the sheet program printed.
 #[derive(PartialEq, Debug)]
 pub enum Printed {
     Sheet { rows: usize, listed: Vec<Listed> },
-    Refused { number: usize, line: usize, column: usize },
+    Refused(Refused),
 }
 
 /// A listed row: its number, outcome and policy.
@@ -22,17 +23,15 @@ pub fn read_printed(bytes: &[u8]) -> Result<Printed, String> {
     let text = String::from_utf8_lossy(bytes);
     let lines: Vec<&str> = text.lines().collect();
     let first = lines.first().ok_or("the sheet's output is empty; expected what the sheet program prints")?;
-    if let Some(numbers) = numbers_after("refused", first, 3) {
+    if let Some(refused) = read_refused(first) {
         return match lines.len() {
-            1 => Ok(Printed::Refused { number: numbers[0], line: numbers[1], column: numbers[2] }),
+            1 => Ok(Printed::Refused(refused)),
             _ => Err("line 2 of the sheet's output: expected nothing after the refusal".to_string()),
         };
     }
     let rows = match numbers_after("rows", first, 1) {
         Some(numbers) => numbers[0],
-        None => {
-            return Err("line 1 of the sheet's output: expected rows and a number, or refused and three".to_string())
-        }
+        None => return Err("line 1 of the sheet's output: expected rows and a number, or refused and four".to_string()),
     };
     let mut listed: Vec<Listed> = Vec::new();
     for (index, line) in lines.iter().enumerate().skip(1) {
@@ -78,7 +77,7 @@ fn numbers_after(word: &str, line: &str, count: usize) -> Option<Vec<usize>> {
 pub fn check_belongs(printed: &Printed, rows_of_question: usize, policies: usize) -> Result<(), String> {
     let (rows, listed) = match printed {
         Printed::Sheet { rows, listed } => (*rows, listed),
-        Printed::Refused { .. } => return Ok(()),
+        Printed::Refused(_) => return Ok(()),
     };
     if rows != rows_of_question {
         let own = count_of(rows_of_question, "row", "rows");
@@ -111,14 +110,15 @@ mod tests {
         let printed = read_printed(b"rows 9\n3 1 1\n4 1 1\nallowed 2\n");
         assert_eq!(printed, Ok(Printed::Sheet { rows: 9, listed }));
         assert_eq!(read_printed(b"rows 1\nallowed 0\n"), Ok(Printed::Sheet { rows: 1, listed: vec![] }));
-        assert_eq!(read_printed(b"refused 8 1 50\n"), Ok(Printed::Refused { number: 8, line: 1, column: 50 }));
+        let refused = Refused { number: 8, line: 1, column: 50, length: 1 };
+        assert_eq!(read_printed(b"refused 8 1 50 1\n"), Ok(Printed::Refused(refused)));
     }
 
     #[test]
     fn other_lines_are_not() {
         for (text, what) in [
             ("", "output is empty"),
-            ("row 9\n", "line 1 of the sheet's output: expected rows and a number, or refused and three"),
+            ("row 9\n", "line 1 of the sheet's output: expected rows and a number, or refused and four"),
             ("rows 9\n", "no last line"),
             ("rows 9\n3 1\nallowed 1\n", "line 2 of the sheet's output: expected a row's number"),
             ("rows 9\n3 1 1\nallowed 2\n", "line 3 of the sheet's output: expected allowed 1"),
@@ -126,7 +126,7 @@ mod tests {
             ("rows 9\n4 1 1\n3 1 1\nallowed 2\n", "line 3 of the sheet's output: row 3 is out of order"),
             ("rows 9\nallowed 0\nmore\n", "line 3 of the sheet's output: expected nothing"),
             ("refused 8 1\n", "line 1"),
-            ("refused 8 1 2\nmore\n", "line 2"),
+            ("refused 8 1 2 2\nmore\n", "line 2"),
         ] {
             let said = read_printed(text.as_bytes()).unwrap_err();
             assert!(said.contains(what), "{}: {}", text, said);

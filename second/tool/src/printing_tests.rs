@@ -148,7 +148,7 @@ fn a_refusal_is_shown_with_its_line() {
     let text = b"permit(principal,action,resource)when{principal.a};";
     let request = definitions::sheets::read_request(b"tool:1\na\nshaft:1");
     let files = Files { text, question: &[0, 0, 0, 0], request, requests: 1 };
-    let refusal = RefusalShown::new(&files, Refused { number: 8, line: 1, column: 50 }).unwrap();
+    let refusal = RefusalShown::new(&files, Refused { number: 8, line: 1, column: 50, length: 1 }).unwrap();
     let said = refusal.text("policy.txt");
     let caret = format!("    {}^\n", " ".repeat(49));
     assert!(said.starts_with("Refused, number 8.\nThe attribute before this place stands alone"), "{}", said);

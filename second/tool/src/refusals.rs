@@ -32,11 +32,11 @@ pub struct Files<'a> {
 impl RefusalShown {
     /// A refusal of these files, or what is wrong with it, in words.
     pub fn new(files: &Files, refused: Refused) -> Result<RefusalShown, String> {
-        let Refused { number, line, column } = refused;
+        let Refused { number, line, column, length } = refused;
         let mut place = None;
         let mut offset = 0;
         if (line, column) != (0, 0) {
-            let shown = PlaceShown::new(files.text, line, column);
+            let shown = PlaceShown::new(files.text, line, column, length);
             place = Some(shown.ok_or_else(|| {
                 format!("the refusal is said of line {}, column {}, which the rules have not", line, column)
             })?);
@@ -48,7 +48,7 @@ impl RefusalShown {
         Ok(RefusalShown { number, meaning, place })
     }
 
-    /// The refusal as sentences, with a caret under its place in the file of this name.
+    /// The refusal as sentences, with carets under the refused token in the file of this name.
     pub fn text(&self, name: &str) -> String {
         let mut text = format!("Refused, number {}.\n", self.number);
         for line in wrapped(&self.meaning, WIDTH) {
@@ -136,25 +136,25 @@ mod tests {
     use super::*;
     use definitions::sheets::read_request;
 
-    fn refusal(text: &[u8], request: &[u8], question: &[u8], said: [usize; 3]) -> Result<RefusalShown, String> {
+    fn refusal(text: &[u8], request: &[u8], question: &[u8], said: [usize; 4]) -> Result<RefusalShown, String> {
         let files = Files { text, question, request: read_request(request), requests: 9 };
-        RefusalShown::new(&files, Refused { number: said[0], line: said[1], column: said[2] })
+        RefusalShown::new(&files, Refused { number: said[0], line: said[1], column: said[2], length: said[3] })
     }
 
     #[test]
     fn a_place_must_be_in_the_text() {
         for (line, column) in [(3, 1), (1, 0), (0, 1), (2, 2)] {
-            assert!(refusal(b"permit\n", b"", b"", [10, line, column]).is_err());
+            assert!(refusal(b"permit\n", b"", b"", [10, line, column, 1]).is_err());
         }
-        assert!(refusal(b"", b"", b"", [17, 0, 0]).is_err());
+        assert!(refusal(b"", b"", b"", [17, 0, 0, 0]).is_err());
     }
 
     #[test]
     fn every_number_has_a_meaning() {
         for number in (1..=16).chain(20..=27) {
-            assert!(!refusal(b"x", b"a\nb", &[0, 0, 0], [number, 0, 0]).unwrap().meaning.is_empty());
+            assert!(!refusal(b"x", b"a\nb", &[0, 0, 0], [number, 0, 0, 0]).unwrap().meaning.is_empty());
         }
-        let meaning = |number: usize| refusal(b"x", b"dog:1\n\nshaft", &[0, 0, 0], [number, 0, 0]).unwrap().meaning;
+        let meaning = |number: usize| refusal(b"x", b"dog:1\n\nshaft", &[0, 0, 0], [number, 0, 0, 0]).unwrap().meaning;
         assert!(meaning(21).ends_with("Found: \"dog:1\", 5 bytes."));
         assert!(meaning(22).ends_with("Found: \"\", 0 bytes."));
         assert!(meaning(23).ends_with("Found: \"shaft\", 5 bytes."));

@@ -242,7 +242,10 @@ mod tests {
         assert_eq!((refused.refused.number, refused.request), (23, Some(1)));
         asked.rules = b"permit".to_vec();
         let refused = tally(&StandIn, &asked).unwrap().1.unwrap_err();
-        assert_eq!(refused, RefusedTally { refused: Refused { number: 10, line: 1, column: 7 }, request: None });
+        assert_eq!(
+            refused,
+            RefusedTally { refused: Refused { number: 10, line: 1, column: 7, length: 0 }, request: None }
+        );
     }
 
     #[test]

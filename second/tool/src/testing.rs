@@ -272,7 +272,7 @@ mod tests {
         let allowed = Answer::Decided { outcome: 1, policy: 2 };
         assert!(Expected::Outcome(1, None).is_met_by(allowed) && Expected::Outcome(1, Some(2)).is_met_by(allowed));
         assert!(!Expected::Outcome(1, Some(1)).is_met_by(allowed) && !Expected::Outcome(2, None).is_met_by(allowed));
-        let refused = Answer::Refused(Refused { number: 21, line: 0, column: 0 });
+        let refused = Answer::Refused(Refused { number: 21, line: 0, column: 0, length: 0 });
         assert!(Expected::Refused(21).is_met_by(refused) && !Expected::Refused(22).is_met_by(refused));
         assert_eq!(answer_text(allowed), "allowed by policy 2");
         assert_eq!(answer_text(refused), "refused 21");

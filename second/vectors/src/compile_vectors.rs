@@ -61,13 +61,13 @@ fn vector(text: &[u8], shift: i16) -> Vector {
     vec![text.to_vec(), shift.to_le_bytes().to_vec()]
 }
 
-/// The answer: policies, bytes used and the table's sum; or the refusal's number, line and column.
+/// The answer: policies, bytes used and the table's sum; or the refusal's number, line, column and length.
 pub fn answer(vector: &Vector) -> String {
     match compile(&vector[0], room_of(vector)) {
         Ok(compiled) => {
             format!("P {} {} {}", compiled.policies.len(), compiled.table.len(), sum_of(&compiled.table))
         }
-        Err(refusal) => format!("R {} {} {}", refusal.number, refusal.line, refusal.column),
+        Err(refusal) => format!("R {} {} {} {}", refusal.number, refusal.line, refusal.column, refusal.length),
     }
 }
 
@@ -449,9 +449,9 @@ mod tests {
         assert_eq!(answer(&vector(text.as_bytes(), 0)), format!("P 1 20 {}", sum_of(&table)));
         assert_eq!(answer(&vector(b"", 0)), "P 0 0 0");
         assert_eq!(answer(&vector(b"", -9)), "P 0 0 0");
-        assert_eq!(answer(&vector(P.as_bytes(), 0)), "R 10 1 34");
-        assert_eq!(answer(&vector(P.as_bytes(), -1)), "R 2 0 0");
-        assert_eq!(answer(&vector(&[b' '; 8_193], -1)), "R 1 0 0");
+        assert_eq!(answer(&vector(P.as_bytes(), 0)), "R 10 1 34 0");
+        assert_eq!(answer(&vector(P.as_bytes(), -1)), "R 2 0 0 0");
+        assert_eq!(answer(&vector(&[b' '; 8_193], -1)), "R 1 0 0 0");
         assert_eq!(sum_of(&[1, 2]), 33);
     }
 

@@ -488,7 +488,11 @@ mod tests {
         assert!(explained.contains("\n    3    3    42     43  attribute of env: a\n"), "{}", explained);
         assert!(explained.contains("\n    5   17     0      0  <: \n"), "{}", explained);
         let explained = compile(&read_rule_text(b"permit\n :").unwrap());
-        assert!(explained.contains("\nrefused at offset 8, refused 4, a colon: :\nanswer: R 4 2 2\n"), "{}", explained);
+        assert!(
+            explained.contains("\nrefused at offset 8, refused 4, a colon: :\nanswer: R 4 2 2 1\n"),
+            "{}",
+            explained
+        );
     }
 
     #[test]

@@ -125,12 +125,12 @@ fn files<const N: usize>(directory: &str, names: [&str; N]) -> Result<[Vec<u8>; 
     Ok(all)
 }
 
-/// The decision as a line: outcome and policy; or `refused`, number, line, column.
+/// The decision as a line: outcome and policy; or `refused`, number, line, column, length.
 fn decided(text: &[u8], bag: &[u8], request: &[u8]) -> String {
     match compile::compile(text, compile::ROOM_FOR_EACH_BYTE * text.len()) {
-        Err(refusal) => format!("refused {} {} {}\n", refusal.number, refusal.line, refusal.column),
+        Err(refusal) => refusal.printed(),
         Ok(compiled) => match deciding::decide(text, &compiled.table, bag, sheets::read_request(request)) {
-            Err(number) => format!("refused {} 0 0\n", number),
+            Err(number) => compile::Refusal::without_place(number).printed(),
             Ok(decision) => format!("{} {}\n", decision.outcome, decision.policy),
         },
     }

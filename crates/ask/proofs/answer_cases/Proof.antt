@@ -12,7 +12,7 @@ use Rattle.ask.proofs.answer_case.Reads as answer-case-reads
 
 abbrev Inv-loop : tie.InvT-loop
 Inv-loop text table cases at out₀ next₀ filled₀ answered₀ out next filled answered =
-    CasesAnswered text table cases at out answered (record { next = next; filled = filled }) × (filled ≤ 71 * answered) × (length out ≡ length out₀)
+    CasesAnswered text table cases at out answered (record { next = next; filled = filled }) × (filled ≤ 92 * answered) × (length out ≡ length out₀)
 
 abbrev μ-loop : tie.MeasureT-loop
 μ-loop text table cases at out₀ next₀ filled₀ answered₀ out next filled answered = length cases - next

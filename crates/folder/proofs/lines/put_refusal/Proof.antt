@@ -1,34 +1,21 @@
-use Rattle.folder.proofs.DecimalLaws.{refusal-put}
+-- `folder::lines::put_refusal` meets its contract: the word, the number, and then line, column and length. Assumes nothing.
 use native.Mathlib.Omega.{arith}
 use borrow.Author.Needs.{needs}
+use Rattle.folder.proofs.DecimalLaws.{refusal-put}
 use Rattle.folder.proofs.lines.put_refusal.Statement.{statement}
 use Rattle.folder.proofs.lines.put_refusal.Tie as tie
-use Rattle.folder.proofs.lines.put_refusal.Reads as reads
-use Rattle.folder.proofs.lines.put_refusal.Lts as lts
-use Rattle.folder.proofs.lines.put_three.Reads as put-three-reads
-use Rattle.folder.proofs.lines.put_word.Reads as put-word-reads
 
--- src/lines.rt:92:34
-slice-aggregate-put-word : tie.Need-slice-aggregate-put-word
-slice-aggregate-put-word c = search needs
-
--- src/lines.rt:92:9
-put-word-requires : tie.Need-put-word-requires
-put-word-requires c κs = search needs
-
--- src/lines.rt:93:5
-put-three-requires : tie.Need-put-three-requires
-put-three-requires c κs = search needs
-
--- src/lines.rt:88:1
-same-length : tie.Need-same-length
-same-length c = search needs
-
--- src/lines.rt:88:1
 returns : tie.Need-returns
-returns c = (refusal-put _ _ _ (c .before .before .before .before .before .before .put-word .ensures) (c .before .before .put-three .ensures .0), omega (arith, c .before .before .before .before .before .before .put-word .ensures .counted, c .before .before .put-three .ensures .1))
+returns c =
+    let at-three = c .before .before in
+    let at-number = at-three .before .before .before .before in
+    let at-word = at-number .before .before .before .before in
+    let word = at-word .put-word .ensures in
+    let number = at-number .put-number .ensures in
+    let three = at-three .put-three .ensures in
+    (refusal-put _ _ _ _ word (number .0) (three .0), omega (arith, word .counted, number .1, three .1))
 
 pub put-refusal-spec : {M : Type 1} → statement M
 put-refusal-spec =
     tie.close
-    (tie.spec slice-aggregate-put-word put-word-requires put-three-requires same-length returns)
+    (tie.spec (λ c. search needs) (λ c κs. search needs) (λ c κs. search needs) (λ c κs. search needs) (λ c. search needs) returns)

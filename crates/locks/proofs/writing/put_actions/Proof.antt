@@ -81,9 +81,10 @@ loop-less c = omega (arith, some-left _ _ _ (c .before .before .before .before .
 -- src/writing.rt:134:5
 loop-again : tie.Need-loop-again Inv-loop μ-loop
 unfolding part
-loop-again c =
-    (actions-left _ _ _ _ (c .before .before .before .before .before .before .before .before .before .before .before .action-at .ensures) (c .before .before .before .before .before .before .before .before .before .before .before .before .loop .inv .0) (c .before .before .before .before .before .if1 .left),
-    rest-on (c .before .before .before .before .before .before .before .before .before .before .before .before .loop .inv .1) (actions-more _ _ _ _ (c .before .before .before .before .before .before .before .before .before .before .before .action-at .ensures) (c .before .before .before .before .before .before .before .before .before .before .before .before .loop .inv .0) (c .before .before .before .before .before .if1 .left)) (c .before .before .before .before .before .before .before .before .put-quoted .ensures) (c .before .before .put .ensures) (c .before .before .before .before .before .before .before .before .before .before .before .before .before .before .before .pre .1))
+loop-again c = (
+  actions-left _ _ _ _ (c .before .before .before .before .before .before .before .before .before .before .before .action-at .ensures) (c .before .before .before .before .before .before .before .before .before .before .before .before .loop .inv .0) (c .before .before .before .before .before .if1 .left),
+  rest-on (c .before .before .before .before .before .before .before .before .before .before .before .before .loop .inv .1) (actions-more _ _ _ _ (c .before .before .before .before .before .before .before .before .before .before .before .action-at .ensures) (c .before .before .before .before .before .before .before .before .before .before .before .before .loop .inv .0) (c .before .before .before .before .before .if1 .left)) (c .before .before .before .before .before .before .before .before .put-quoted .ensures) (c .before .before .put .ensures) (c .before .before .before .before .before .before .before .before .before .before .before .before .before .before .before .pre .1),
+)
 
 pub put-actions-spec : {M : Type 1} → statement M
 put-actions-spec =

@@ -97,10 +97,11 @@ loop-less c = omega (arith, some-left _ _ _ (c .before .before .before .before .
 -- src/writing.rt:102:5
 loop-again : tie.Need-loop-again Inv-loop μ-loop
 unfolding testIn part
-loop-again c =
-    (tests-left _ _ _ _ _ (c .before .before .before .before .before .before .before .before .before .before .before .before .before .before .test-at .ensures) (c .before .before .before .before .before .before .before .before .before .before .before .before .before .before .before .loop .inv .0) (c .before .before .before .before .before .before .if1 .left),
-    omega (arith, c .before .before .before .before .before .before .before .before .before .before .before .before .before .before .test-at .ensures .lies .next-high),
-    rest-on (c .before .before .before .before .before .before .before .before .before .before .before .before .before .before .before .loop .inv .2) (tests-more _ _ _ _ _ (c .before .before .before .before .before .before .before .before .before .before .before .before .before .before .test-at .ensures) (c .before .before .before .before .before .before .before .before .before .before .before .before .before .before .before .loop .inv .0) (c .before .before .before .before .before .before .if1 .left)) (c .before .before .before .before .before .before .before .before .before .before .put-test .ensures) (c .before .before .put .ensures) (c .before .before .before .before .before .before .before .before .before .before .before .before .before .before .before .before .before .before .before .pre .1))
+loop-again c = (
+  tests-left _ _ _ _ _ (c .before .before .before .before .before .before .before .before .before .before .before .before .before .before .test-at .ensures) (c .before .before .before .before .before .before .before .before .before .before .before .before .before .before .before .loop .inv .0) (c .before .before .before .before .before .before .if1 .left),
+  omega (arith, c .before .before .before .before .before .before .before .before .before .before .before .before .before .before .test-at .ensures .lies .next-high),
+  rest-on (c .before .before .before .before .before .before .before .before .before .before .before .before .before .before .before .loop .inv .2) (tests-more _ _ _ _ _ (c .before .before .before .before .before .before .before .before .before .before .before .before .before .before .test-at .ensures) (c .before .before .before .before .before .before .before .before .before .before .before .before .before .before .before .loop .inv .0) (c .before .before .before .before .before .before .if1 .left)) (c .before .before .before .before .before .before .before .before .before .before .put-test .ensures) (c .before .before .put .ensures) (c .before .before .before .before .before .before .before .before .before .before .before .before .before .before .before .before .before .before .before .pre .1),
+)
 
 pub put-tests-spec : {M : Type 1} → statement M
 put-tests-spec =
