@@ -35,7 +35,7 @@ use Rattle.spelling.specs.Printing.{markKind}
 use Rattle.bags.proofs.Laid.{Laid, laid-none, laid-cons, laid-part, laid-join, laid-split, laid-head, laid-is, laid-bytes}
 use Rattle.grammar.specs.Policies.{Comparator, Comparator.More, Comparator.AtLeast, Comparator.Less, Comparator.AtMost}
 use Rattle.placing.specs.Said.{Word}
-use Rattle.permits.specs.Permits.{Test, equal, member, order, markOf}
+use Rattle.permits.specs.Permits.{Test, equal, member, order, signOf}
 use Rattle.permits.specs.Meaning.{Orders, more, at-least, less, at-most, AValue}
 
 -- ---- runs, where they lie
@@ -150,11 +150,11 @@ word-kind-not : (w : List ℕ) (k : ℕ) → k < 201 → (k ≡ 110 → ⊥) →
 word-kind-not w k h n e = ⊎-elim (λ (q : wordKind w ≡ 110). n (sym e ∙ q)) (λ (q : 201 ≤ wordKind w). omega arith) (kind-among _ 201 w)
 
 -- a form of a comparator's kind is its mark
-pub order-form : {c : Comparator} → Orders c → {kind : ℕ} {p : List ℕ} → Form kind p → kind ≡ markKind c → p ≡ markOf c
-unfolding markKind markOf marks every same
+pub order-form : {c : Comparator} → Orders c → {kind : ℕ} {p : List ℕ} → Form kind p → kind ≡ markKind c → p ≡ signOf c
+unfolding markKind signOf marks every same
 order-form o {kind} {p} f q = go o f q
   where
-    among : {c : Comparator} {k : ℕ} {p : List ℕ} → Orders c → Among marks k p → k ≡ markKind c → p ≡ markOf c
+    among : {c : Comparator} {k : ℕ} {p : List ℕ} → Orders c → Among marks k p → k ≡ markKind c → p ≡ signOf c
     among more m q = pass (mark-passes (λ k p. not (eqb k 62) || same p (bytes ">")) m refl) q
       where
         pass : {k : ℕ} {p : List ℕ} → (not (eqb k 62) || same p (62 ∷ [])) ≡ true → k ≡ 62 → p ≡ 62 ∷ []
@@ -178,7 +178,7 @@ order-form o {kind} {p} f q = go o f q
     small less = (omega arith, (λ z. omega arith), (λ z. omega arith), (λ z. omega arith))
     small at-most = (omega arith, (λ z. omega arith), (λ z. omega arith), (λ z. omega arith))
 
-    go : {c : Comparator} {k : ℕ} {p : List ℕ} → Orders c → Form k p → k ≡ markKind c → p ≡ markOf c
+    go : {c : Comparator} {k : ℕ} {p : List ℕ} → Orders c → Form k p → k ≡ markKind c → p ≡ signOf c
     go o (a-word {b} {rest} e a) q = let s = small o in absurd (word-kind-not (b ∷ rest) _ (s .0) (s .1) q)
     go o (a-string a) q = let s = small o in absurd (s .2 (sym q))
     go o (a-number n) q = let s = small o in absurd (s .3 (sym q))

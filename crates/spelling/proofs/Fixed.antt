@@ -16,7 +16,7 @@ use Rattle.tokens.proofs.TokenLaws.{never, and-left, and-right, or-cases, every
 use Rattle.tokens.proofs.FormLaws.{isAmong, is-among}
 use Rattle.tokens.proofs.Opened.{tokens-opened}
 use Rattle.spelling.specs.Spelling.{apart, calm}
-use Rattle.spelling.specs.Layout.{Written, written, laidOut, readAs, standing, WellWritten, one}
+use Rattle.spelling.specs.Layout.{WrittenToken, written, laidOut, readAs, standing, WellWritten, one}
 use Rattle.spelling.proofs.Apart.{calm-apart}
 
 all-of : (sort : Sort) (l : List ℕ) → every (isOf sort) l ≡ true → All sort l
@@ -38,12 +38,12 @@ word-form kind (b ∷ l) e =
     (a-word (and-left _ _ e) (all-of WordBytes l (and-left _ _ rest)))
 
 -- a word or a mark of its kind behind blanks, that the next byte makes no longer
-unfoldable pub isFixed : Written → ℕ → Bool
+unfoldable pub isFixed : WrittenToken → ℕ → Bool
 unfolding isWord
 isFixed x b = every (isOf Blanks) (x .blanks) && ((isWord (x .kind) (x .bytes) || isAmong marks (x .kind) (x .bytes)) && apart (x .bytes) b)
 
-module _ {xs : List Written} {q : List ℕ} (w : WellWritten xs q) where
-  pub well-fixed : {x : Written} → isFixed x (getD (laidOut xs ++ q) 0 0) ≡ true → WellWritten (x ∷ xs) q
+module _ {xs : List WrittenToken} {q : List ℕ} (w : WellWritten xs q) where
+  pub well-fixed : {x : WrittenToken} → isFixed x (getD (laidOut xs ++ q) 0 0) ≡ true → WellWritten (x ∷ xs) q
   unfolding isFixed
   well-fixed {x} e =
       let rest = and-right (every (isOf Blanks) (x .blanks)) _ e in

@@ -28,11 +28,11 @@ use Rattle.grammar.specs.Grammar as grammar
 use Rattle.placing.specs.Placed.{bytesAt, quotedAt, unblankedAt}
 use Rattle.placing.specs.Said.{Word, literalWords, listWords, operandWords, treeWords, partWords, actionWords, conditionWords, policyWords, wordsOf}
 use Rattle.placing.proofs.Paths.{unblanked-append, unblanked-blanks, unblanked-name, lone-dot}
-use Rattle.spelling.specs.Layout.{Written, written, laidOut, readAs, lexemeOf, standing}
+use Rattle.spelling.specs.Layout.{WrittenToken, written, laidOut, readAs, lexemeOf, standing}
 use Rattle.spelling.specs.Printing.{HasAt, OfKind, PrintsAt, Prints, PrintsLiteral, PrintsList, PrintsPath, markKind, rootKind}
-use Rattle.spelling.specs.Printing.{effectKind, RootedPath, rootedWords, PrintsText}
+use Rattle.spelling.specs.Printing.{effectWord, RootedPath, rootedWords, PrintsText}
 use Rattle.spelling.specs.Printing as printing
-use Rattle.spelling.specs.Marks.{quoted, markOf}
+use Rattle.spelling.specs.Marks.{quoted, signOf}
 use Rattle.spelling.proofs.Laid.{read-fitting}
 use Rattle.spelling.proofs.Fixed.{isFixed, written-opened}
 use Rattle.spelling.proofs.Printing.{past, standing-then, has-right, has-first, has-then, has-token, has-behind, pastToken, tokens-around, has-last}
@@ -71,13 +71,13 @@ prints-number {b} n h =
     record { of-sort = λ at. rw e; says = λ at t k. rw e (ap number (own-bytes t (at + length b) n k)) }
 
 -- a string is a literal
-pub string-literal : {x : Written} {l : LiteralOf Word} → PrintsLiteral (is kinds.string) x l → PrintsLiteral isLiteral x l
+pub string-literal : {x : WrittenToken} {l : LiteralOf Word} → PrintsLiteral (is kinds.string) x l → PrintsLiteral isLiteral x l
 string-literal p = record { of-sort = λ at. rw (p .of-sort at); says = p .says }
 
 -- ---- operands
 
 -- a literal
-pub prints-literal : {x : Written} {l : LiteralOf Word} → PrintsLiteral isLiteral x l → Prints (AnOperand sizes) operandWords (x ∷ []) (literal l)
+pub prints-literal : {x : WrittenToken} {l : LiteralOf Word} → PrintsLiteral isLiteral x l → Prints (AnOperand sizes) operandWords (x ∷ []) (literal l)
 unfolding standing operandWords
 prints-literal {x} {l} p = record { anywhere = go }
   where
@@ -89,7 +89,7 @@ prints-literal {x} {l} p = record { anywhere = go }
     }
 
 -- the path that is read of printed tokens
-abbrev pathFrom : ℕ → List ℕ → List Written → Word → Path
+abbrev pathFrom : ℕ → List ℕ → List WrittenToken → Word → Path
 pathFrom at b xs p = record { start = at + length b; end = past at xs; used = length p }
 
 -- a name within its size
@@ -111,7 +111,7 @@ paths-same start e u = rw (e, u)
 
 module _ {root : Root} (n : root ≡ Action → ⊥) {b : List ℕ} where
   -- the path is read so
-  path-read : {xs : List Written} {p : Word} → PrintsPath b xs p → length p ≤ 64 → (at : ℕ) (r : List Lexeme)
+  path-read : {xs : List WrittenToken} {p : Word} → PrintsPath b xs p → length p ≤ 64 → (at : ℕ) (r : List Lexeme)
       → APath sizes root (standing at xs ++ r) r (pathFrom at b xs p)
   unfolding standing laidOut readAs
   path-read (printing.PrintsPath.first {n = m} a i) h at r =
@@ -145,7 +145,7 @@ module _ {root : Root} (n : root ≡ Action → ⊥) {b : List ℕ} where
       (more before refl (grammar.NextName.next (name-fits m (omega arith)) (admits root n (length p + 1) x (omega arith)))))
 
 -- its bytes begin with the blanks before it
-path-starts : {b : List ℕ} {xs : List Written} {p : Word} → PrintsPath b xs p → (l : List ℕ) × (laidOut xs ≡ b ++ l)
+path-starts : {b : List ℕ} {xs : List WrittenToken} {p : Word} → PrintsPath b xs p → (l : List ℕ) × (laidOut xs ≡ b ++ l)
 unfolding laidOut
 path-starts (printing.PrintsPath.first {n = m} a i) = (m ++ [], refl)
 path-starts {b} (printing.PrintsPath.more {xs = xs} {n = m} {c = c} {d = d} k e f i) =
@@ -154,7 +154,7 @@ path-starts {b} (printing.PrintsPath.more {xs = xs} {n = m} {c = c} {d = d} k e 
     (s .0 ++ laidOut ys, laid-append xs ys ∙ (ap (λ (l : List ℕ). l ++ laidOut ys) (s .1) ∙ append-assoc b (s .0) (laidOut ys)))
 
 -- without blanks they are the path
-path-bytes : {b : List ℕ} {xs : List Written} {p : Word} → PrintsPath b xs p → unblanked (laidOut xs) ≡ p
+path-bytes : {b : List ℕ} {xs : List WrittenToken} {p : Word} → PrintsPath b xs p → unblanked (laidOut xs) ≡ p
 unfolding laidOut
 path-bytes {b} (printing.PrintsPath.first {n = m} a i) = rw (append-nil m, unblanked-append b m, unblanked-blanks a) (unblanked-name i)
 path-bytes (printing.PrintsPath.more {xs = xs} {p = p} {n = m} {c = c} {d = d} k e f i) =
@@ -173,7 +173,7 @@ path-bytes (printing.PrintsPath.more {xs = xs} {p = p} {n = m} {c = c} {d = d} k
     rw (laid-append xs ys, unblanked-append (laidOut xs) (laidOut ys), last, path-bytes k)
 
 -- so they are in every text that has them
-path-says : {b : List ℕ} {xs : List Written} {p : Word} (t : List ℕ) (at : ℕ) → PrintsPath b xs p → HasAt t at (laidOut xs)
+path-says : {b : List ℕ} {xs : List WrittenToken} {p : Word} (t : List ℕ) (at : ℕ) → PrintsPath b xs p → HasAt t at (laidOut xs)
     → unblankedAt t (span (at + length b) (past at xs)) ≡ p
 path-says {b} {xs} t at k h =
     let s = path-starts k in
@@ -184,7 +184,7 @@ path-says {b} {xs} t at k h =
     let clear : unblanked (laidOut xs) ≡ unblanked l = rw (s .1, unblanked-append b l, unblanked-blanks blanks) in
     rw (end, own) (sym clear ∙ path-bytes k)
   where
-    leading : {ys : List Written} {p : Word} → PrintsPath b ys p → All Blanks b
+    leading : {ys : List WrittenToken} {p : Word} → PrintsPath b ys p → All Blanks b
     leading (printing.PrintsPath.first a i) = a
     leading (printing.PrintsPath.more k e f i) = leading k
 
@@ -197,7 +197,7 @@ root-is Env x e = (rw e, rw e)
 root-is Action x e = (rw e, rw e)
 
 -- an attribute: a root's word, a dot, and a path; of the action there is another one only
-pub prints-attribute : {root : Root} {x d : Written} {b : List ℕ} {xs : List Written} {p : Word} → (root ≡ Action → ⊥) → OfKind (rootKind root) x
+pub prints-attribute : {root : Root} {x d : WrittenToken} {b : List ℕ} {xs : List WrittenToken} {p : Word} → (root ≡ Action → ⊥) → OfKind (rootKind root) x
     → OfKind kinds.dot d → PrintsPath b xs p → length p ≤ 64 → Prints RootedPath rootedWords (x ∷ d ∷ xs) (root, p)
 unfolding standing
 prints-attribute {root} {x} {d} {b} {xs} {p} n e f k h = record { anywhere = go }
@@ -218,7 +218,7 @@ prints-attribute {root} {x} {d} {b} {xs} {p} n e f k h = record { anywhere = go 
         }
 
 -- an attribute is an operand
-pub prints-given : {xs : List Written} {root : Root} {p : Word} → Prints RootedPath rootedWords xs (root, p)
+pub prints-given : {xs : List WrittenToken} {root : Root} {p : Word} → Prints RootedPath rootedWords xs (root, p)
     → Prints (AnOperand sizes) operandWords xs (attribute root p)
 unfolding operandWords
 prints-given k =
@@ -237,8 +237,8 @@ mark-is Less x e = (rw e, rw e)
 mark-is AtMost x e = (rw e, rw e)
 
 -- it is a token, before a blank, and is read as what it is
-pub comparator-fixed : (c : Comparator) → isFixed (written (bytes " ") (markKind c) (markOf c)) (code " ") ≡ true
-unfolding written-opened markOf markKind
+pub comparator-fixed : (c : Comparator) → isFixed (written (bytes " ") (markKind c) (signOf c)) (code " ") ≡ true
+unfolding written-opened signOf markKind
 comparator-fixed Equal = refl
 comparator-fixed NotEqual = refl
 comparator-fixed More = refl
@@ -246,8 +246,8 @@ comparator-fixed AtLeast = refl
 comparator-fixed Less = refl
 comparator-fixed AtMost = refl
 
-pub comparator-kind : {b : List ℕ} (c : Comparator) → OfKind (markKind c) (written b (markKind c) (markOf c))
-unfolding readAs markOf markKind
+pub comparator-kind : {b : List ℕ} (c : Comparator) → OfKind (markKind c) (written b (markKind c) (signOf c))
+unfolding readAs signOf markKind
 comparator-kind Equal = record { read-as = refl }
 comparator-kind NotEqual = record { read-as = refl }
 comparator-kind More = record { read-as = refl }
@@ -255,7 +255,7 @@ comparator-kind AtLeast = record { read-as = refl }
 comparator-kind Less = record { read-as = refl }
 comparator-kind AtMost = record { read-as = refl }
 
-module _ {xs ys : List Written} {x : Written} {a : OperandOf Word} (p : Prints (AnOperand sizes) operandWords xs a) where
+module _ {xs ys : List WrittenToken} {x : WrittenToken} {a : OperandOf Word} (p : Prints (AnOperand sizes) operandWords xs a) where
   -- two operands with a comparator
   pub prints-comparison : {c : Comparator} {b : OperandOf Word} → OfKind (markKind c) x → Prints (AnOperand sizes) operandWords ys b
       → Prints (Simple sizes) treeWords (xs ++ (x ∷ ys)) (compare c a b)
@@ -277,23 +277,23 @@ module _ {xs ys : List Written} {x : Written} {a : OperandOf Word} (p : Prints (
 -- ---- conditions
 
 -- one that holds no other
-pub prints-simple : (d : ℕ) {xs : List Written} {c : TreeOf Word} → Prints (Simple sizes) treeWords xs c → Prints (Condition sizes d) treeWords xs c
+pub prints-simple : (d : ℕ) {xs : List WrittenToken} {c : TreeOf Word} → Prints (Simple sizes) treeWords xs c → Prints (Condition sizes d) treeWords xs c
 prints-simple zero p = prints-as p (λ i r a h. grammar.ConditionOver.simple h)
 prints-simple (suc d) p = prints-as p (λ i r a h. grammar.ConditionOver.simple h)
 
 -- the first of a chain
 pub prints-alone : {A B : Type 0} {Sep : A → Lexeme → Bool} {First : Reading A} {Next : A → Lexeme → Reading A} {words : List ℕ → A → B}
-    {xs : List Written} {w : B} → Prints First words xs w → Prints (Chain Sep First Next) words xs w
+    {xs : List WrittenToken} {w : B} → Prints First words xs w → Prints (Chain Sep First Next) words xs w
 prints-alone p = prints-as p (λ i r a h. alone h)
 
 -- one more, joined from the left
 pub prints-joined : {sep : ℕ} {join : Tree → Tree → Tree} (joined : TreeOf Word → TreeOf Word → TreeOf Word) {C : Reading Tree}
-    {xs ys : List Written} {x : Written} {a b : TreeOf Word} → ((t : List ℕ) (c d : Tree) → treeWords t (join c d) ≡ joined (treeWords t c) (treeWords t d))
+    {xs ys : List WrittenToken} {x : WrittenToken} {a b : TreeOf Word} → ((t : List ℕ) (c d : Tree) → treeWords t (join c d) ≡ joined (treeWords t c) (treeWords t d))
     → Prints (Joined sep join C) treeWords xs a → OfKind sep x → Prints C treeWords ys b → Prints (Joined sep join C) treeWords (xs ++ (x ∷ ys)) (joined a b)
 prints-joined {sep} {join} joined said p e q = prints-around join joined said p e q (λ y i m r a b h j k. more j (eq-eqb (y .kind) sep h) (onto k))
 
 -- joined by `&&`
-pub prints-both : {C : Reading Tree} {xs ys : List Written} {x : Written} {a b : TreeOf Word} → Prints (Conjunction C) treeWords xs a → OfKind kinds.and x
+pub prints-both : {C : Reading Tree} {xs ys : List WrittenToken} {x : WrittenToken} {a b : TreeOf Word} → Prints (Conjunction C) treeWords xs a → OfKind kinds.and x
     → Prints C treeWords ys b → Prints (Conjunction C) treeWords (xs ++ (x ∷ ys)) (both a b)
 unfolding treeWords
 prints-both p e q = prints-joined both (λ t c d. refl) p e q
@@ -311,11 +311,11 @@ abbrev Elements : (Lexeme → Bool) → Reading (List Literal)
 Elements sort = Chain (λ ls. is kinds.comma) (Element sizes sort []) (λ ls comma. Element sizes sort ls)
 
 -- what is read of them, as many as there are
-record ListRead (sort : Lexeme → Bool) (xs : List Written) (ls : List (LiteralOf Word)) (at : ℕ) (r : List Lexeme) : Type 0 where
+record ListRead (sort : Lexeme → Bool) (xs : List WrittenToken) (ls : List (LiteralOf Word)) (at : ℕ) (r : List Lexeme) : Type 0 where
   printed : PrintsAt (Elements sort) listWords xs ls at r
   many : length (printed .what) ≡ length ls
 
-list-read : {sort : Lexeme → Bool} {xs : List Written} {ls : List (LiteralOf Word)} → PrintsList sort xs ls → length ls ≤ 16 → (at : ℕ) (r : List Lexeme)
+list-read : {sort : Lexeme → Bool} {xs : List WrittenToken} {ls : List (LiteralOf Word)} → PrintsList sort xs ls → length ls ≤ 16 → (at : ℕ) (r : List Lexeme)
     → ListRead sort xs ls at r
 unfolding standing listWords
 list-read (printing.PrintsList.first {x = x} {l = l} p) h at r = record {
@@ -346,7 +346,7 @@ list-read (printing.PrintsList.more {xs = xs} {c = c} {x = x} {ls = ls} {l = l} 
     }
 
 -- a list of 1 to 16 literals in its brackets
-pub prints-list : {sort : Lexeme → Bool} {xs : List Written} {ls : List (LiteralOf Word)} {x y : Written} → OfKind kinds.leftSquare x → PrintsList sort xs ls
+pub prints-list : {sort : Lexeme → Bool} {xs : List WrittenToken} {ls : List (LiteralOf Word)} {x y : WrittenToken} → OfKind kinds.leftSquare x → PrintsList sort xs ls
     → length ls ≤ 16 → OfKind kinds.rightSquare y → Prints (Listing sizes sort) listWords (x ∷ (xs ++ y ∷ [])) ls
 prints-list {sort} {xs} {ls} {x} {y} e k h f =
     let inside : Prints (Elements sort) listWords xs ls = record { anywhere = λ at r. list-read k h at r .printed } in
@@ -360,12 +360,12 @@ unfolding standing partWords
 prints-bare {types} = record { anywhere = λ at r. record { what = any; reads = grammar.Typed.bare; says = λ t h. refl } }
 
 -- the resource part that is pinned to a string
-pub prints-pinned : {x : Written} {b : List ℕ} (s : Word) → OfKind kinds.equal x → length s ≤ 127
+pub prints-pinned : {x : WrittenToken} {b : List ℕ} (s : Word) → OfKind kinds.equal x → length s ≤ 127
     → Prints ResourceRest partWords (x ∷ written b kinds.string (quoted s) ∷ []) (pinned s)
 unfolding standing partWords
 prints-pinned {x} {b} s e h = record { anywhere = go }
   where
-    y : Written
+    y : WrittenToken
     y = written b kinds.string (quoted s)
 
     go : (at : ℕ) (r : List Lexeme) → PrintsAt ResourceRest partWords (x ∷ y ∷ []) (pinned s) at r
@@ -378,19 +378,19 @@ prints-pinned {x} {b} s e h = record { anywhere = go }
         }
 
 -- the action part that is `in` a list of strings
-pub prints-actions : {x : Written} {xs : List Written} {ls : List (LiteralOf Word)} → OfKind kinds.inWord x
+pub prints-actions : {x : WrittenToken} {xs : List WrittenToken} {ls : List (LiteralOf Word)} → OfKind kinds.inWord x
     → Prints (Listing sizes (is kinds.string)) listWords xs ls → Prints (ActionRest sizes) actionWords (x ∷ xs) (oneOf ls)
 unfolding standing actionWords
 prints-actions e p = prints-led oneOf oneOf (λ t a. refl) p e (λ y i r a. grammar.ActionRest.list)
 
 -- `when` and a condition in braces
-pub prints-when : {x : Written} {xs : List Written} {c : TreeOf Word} → OfKind kinds.whenWord x
+pub prints-when : {x : WrittenToken} {xs : List WrittenToken} {c : TreeOf Word} → OfKind kinds.whenWord x
     → Prints (After kinds.leftBrace (Before kinds.rightBrace (Conditions sizes))) treeWords xs c → Prints (When sizes) conditionWords (x ∷ xs) (some c)
 unfolding standing conditionWords
 prints-when e p = prints-led (λ a. some a) (λ a. some a) (λ t a. refl) p e (λ y i r a. grammar.When.braces)
 
 -- a policy behind its effect: the three parts of its target, and its condition
-pub prints-policy : {permits : Bool} {ps os rs cs : List Written} {p s : PartOf Word} {a : ActionsOf Word} {c : Option (TreeOf Word)}
+pub prints-policy : {permits : Bool} {ps os rs cs : List WrittenToken} {p s : PartOf Word} {a : ActionsOf Word} {c : Option (TreeOf Word)}
     → Prints (After kinds.leftRound (After kinds.principalWord (Before kinds.comma (Typed principalTypes)))) partWords ps p
     → Prints (After kinds.actionWord (Before kinds.comma (ActionRest sizes))) actionWords os a
     → Prints (After kinds.resourceWord (Before kinds.rightRound ResourceRest)) partWords rs s
@@ -428,13 +428,13 @@ prints-policy {permits} {ps} {os} {rs} {cs} {p} {s} {a} {c} k₁ k₂ k₃ k₄ 
         }
 
 -- an effect's word
-effect-is : (permits : Bool) (x : Lexeme) → x .kind ≡ effectKind permits → (isEffect x ≡ true) × (is kinds.permitWord x ≡ permits)
-unfolding effectKind
+effect-is : (permits : Bool) (x : Lexeme) → x .kind ≡ effectWord permits → (isEffect x ≡ true) × (is kinds.permitWord x ≡ permits)
+unfolding effectWord
 effect-is true x e = (rw e, rw e)
 effect-is false x e = (rw e, rw e)
 
 -- a text of one policy
-pub prints-text : {permits : Bool} {x : Written} {xs : List Written} {p : PolicyOf Word} → OfKind (effectKind permits) x
+pub prints-text : {permits : Bool} {x : WrittenToken} {xs : List WrittenToken} {p : PolicyOf Word} → OfKind (effectWord permits) x
     → Prints (PolicyRest sizes permits) policyWords xs p → PrintsText (x ∷ xs) (p ∷ [])
 unfolding standing wordsOf
 prints-text {permits} {x} {xs} {p} e k =

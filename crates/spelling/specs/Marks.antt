@@ -10,10 +10,10 @@ abbrev pub quoted : List ℕ → List ℕ
 quoted s = quote ∷ (s ++ quote ∷ [])
 
 -- a comparator's mark
-unfoldable pub markOf : Comparator → List ℕ
-markOf Equal = bytes "=="
-markOf NotEqual = bytes "!="
-markOf More = bytes ">"
-markOf AtLeast = bytes ">="
-markOf Less = bytes "<"
-markOf AtMost = bytes "<="
+unfoldable pub signOf : Comparator → List ℕ
+signOf Equal = bytes "=="
+signOf NotEqual = bytes "!="
+signOf More = bytes ">"
+signOf AtLeast = bytes ">="
+signOf Less = bytes "<"
+signOf AtMost = bytes "<="

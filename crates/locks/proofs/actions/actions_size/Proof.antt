@@ -1,7 +1,7 @@
 use native.Mathlib.Omega.{arith}
 use borrow.Author.Needs.{needs}
 use Rattle.locks.proofs.TestLaws.{few-of, none-of, size-none, actions-wrong, actions-last, actions-on}
-use Rattle.locks.specs.Reading.{listed, actionStep, actionsOf, sizeOf, comma}
+use Rattle.locks.specs.Reading.{thingsFrom, actionStep, actionsRead, sizeWith, betweenActions}
 use Rattle.permits.specs.Permits.{quoted}
 use lib.ListN.{length}
 use mathlib.Core.Path.{_≡_, refl, _∙_}
@@ -13,7 +13,7 @@ use Rattle.locks.proofs.actions.actions_size.Lts as lts
 use Rattle.locks.proofs.actions.action_at.Reads as action-at-reads
 
 abbrev Inv-loop : tie.InvT-loop
-Inv-loop classes actions left₀ at₀ size₀ left at size = (sizeOf size comma quoted (listed left (actionStep actions) at) ≡ sizeOf 0 comma quoted (actionsOf actions)) × (size + 131 * left ≤ 2096)
+Inv-loop classes actions left₀ at₀ size₀ left at size = (sizeWith size betweenActions quoted (thingsFrom left (actionStep actions) at) ≡ sizeWith 0 betweenActions quoted (actionsRead actions)) × (size + 131 * left ≤ 2096)
 
 abbrev μ-loop : tie.MeasureT-loop
 μ-loop classes actions left₀ at₀ size₀ left at size = left

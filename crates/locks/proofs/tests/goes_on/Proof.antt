@@ -1,5 +1,5 @@
 use native.Mathlib.Omega.{arith}
-use Rattle.locks.specs.Reading.{goesOn}
+use Rattle.locks.specs.Reading.{endsTest}
 use borrow.Author.Tests.{le-leb, lt-leb}
 use borrow.Author.Needs.{needs}
 use Rattle.locks.proofs.tests.goes_on.Statement.{statement}
@@ -13,12 +13,12 @@ shared-slice-read-result c = search needs
 
 -- src/tests.rt:100:1
 returns : tie.Need-returns
-unfolding goesOn
+unfolding endsTest
 returns c = rw (le-leb _ _ (c .if1 .taken))
 
 -- src/tests.rt:100:1
 returns-2 : tie.Need-returns-2
-unfolding goesOn
+unfolding endsTest
 returns-2 c = rw (lt-leb _ _ (c .before .if1 .left))
 
 pub goes-on-spec : {M : Type 1} → statement M

@@ -1,7 +1,7 @@
 use native.Mathlib.Omega.{arith}
 use borrow.Author.Needs.{needs}
 use Rattle.locks.proofs.TestLaws.{few-of, none-of, size-none, tests-wrong, tests-last, tests-on}
-use Rattle.locks.specs.Reading.{listed, testStep, testsOf, testSize, sizeOf, and}
+use Rattle.locks.specs.Reading.{thingsFrom, testStep, testsRead, testSize, sizeWith, betweenTests}
 use Rattle.permits.specs.Permits.{testText}
 use lib.ListN.{length}
 use mathlib.Core.Path.{_≡_, refl, _∙_}
@@ -14,7 +14,7 @@ use Rattle.locks.proofs.tests.test_at.Reads as test-at-reads
 use Rattle.locks.proofs.tests.test_size.Reads as test-size-reads
 
 abbrev Inv-loop : tie.InvT-loop
-Inv-loop classes vocabulary lock left₀ at₀ size₀ left at size = (sizeOf size and testText (listed left (testStep vocabulary lock) at) ≡ sizeOf 0 and testText (testsOf vocabulary lock)) × (size + 402 * left ≤ 6432) × (at ≤ length lock)
+Inv-loop classes vocabulary lock left₀ at₀ size₀ left at size = (sizeWith size betweenTests testText (thingsFrom left (testStep vocabulary lock) at) ≡ sizeWith 0 betweenTests testText (testsRead vocabulary lock)) × (size + 402 * left ≤ 6432) × (at ≤ length lock)
 
 abbrev μ-loop : tie.MeasureT-loop
 μ-loop classes vocabulary lock left₀ at₀ size₀ left at size = left

@@ -4,7 +4,7 @@ use borrow.Author.Needs.{needs}
 use Rattle.locks.proofs.TestLaws.{actions-first, actions-end, actions-more, actions-left}
 use Rattle.locks.proofs.PutLaws.{Rest, rest-start, rest-last, rest-on}
 use Rattle.locks.proofs.ListedLaws.{some-left}
-use Rattle.locks.specs.Reading.{areSome, listed, actionStep, textOf, comma, actionsText}
+use Rattle.locks.specs.Reading.{areSome, thingsFrom, actionStep, textOf, betweenActions, actionsText}
 use Rattle.permits.specs.Permits.{quoted}
 use Rattle.slices.specs.Parts.{part}
 use lib.ListN.{length, length-append}
@@ -21,8 +21,8 @@ use Rattle.locks.proofs.writing.put_quoted.Reads as put-quoted-reads
 
 abbrev Inv-loop : tie.InvT-loop
 Inv-loop classes actions room₀ at left₀ next₀ end₀ t14 room left next end =
-    (areSome (listed left (actionStep actions) next) ≡ true)
-    × Rest room₀ at (actionsText actions) room end (textOf comma quoted (listed left (actionStep actions) next))
+    (areSome (thingsFrom left (actionStep actions) next) ≡ true)
+    × Rest room₀ at (actionsText actions) room end (textOf betweenActions quoted (thingsFrom left (actionStep actions) next))
 
 abbrev μ-loop : tie.MeasureT-loop
 μ-loop classes actions room₀ at left₀ next₀ end₀ t14 room left next end = left
@@ -68,7 +68,7 @@ slice-aggregate-put c = search needs
 -- src/writing.rt:142:9
 put-requires : tie.Need-put-requires Inv-loop μ-loop
 unfolding part
-put-requires c κs = rest-room (c .before .before .before .before .before .before .before .before .before .loop .inv .1) comma _ (actions-more _ _ _ _ (c .before .before .before .before .before .before .before .before .action-at .ensures) (c .before .before .before .before .before .before .before .before .before .loop .inv .0) (c .before .before .if1 .left)) (c .before .before .before .before .before .put-quoted .ensures) (c .before .before .before .before .before .before .before .before .before .before .before .before .pre .1)
+put-requires c κs = rest-room (c .before .before .before .before .before .before .before .before .before .loop .inv .1) betweenActions _ (actions-more _ _ _ _ (c .before .before .before .before .before .before .before .before .action-at .ensures) (c .before .before .before .before .before .before .before .before .before .loop .inv .0) (c .before .before .if1 .left)) (c .before .before .before .before .before .put-quoted .ensures) (c .before .before .before .before .before .before .before .before .before .before .before .before .pre .1)
 
 -- src/writing.rt:143:9
 sub-left : tie.Need-sub-left Inv-loop μ-loop

@@ -1,6 +1,6 @@
 use native.Mathlib.Omega.{arith}
-use Rattle.locks.specs.Reading.{comparatorOf}
-use Rattle.permits.specs.Permits.{markOf}
+use Rattle.locks.specs.Reading.{comparatorFor}
+use Rattle.permits.specs.Permits.{signOf}
 use borrow.Author.Tests.{eq-eqb, ne-eqb}
 use borrow.Author.Needs.{needs}
 use Rattle.locks.proofs.writing.put_mark.Statement.{statement}
@@ -15,7 +15,7 @@ slice-aggregate-put c = search needs
 
 -- src/writing.rt:56:9
 put-requires : tie.Need-put-requires
-unfolding comparatorOf markOf
+unfolding comparatorFor signOf
 put-requires c κs = rw (eq-eqb _ _ (c .before .before .if1 .taken)) at (c .before .before .before .before .pre)
 
 -- src/writing.rt:56:9
@@ -24,7 +24,7 @@ same-length c = search needs
 
 -- src/writing.rt:56:9
 returns : tie.Need-returns
-unfolding comparatorOf markOf
+unfolding comparatorFor signOf
 returns c = rw (eq-eqb _ _ (c .before .before .before .before .before .if1 .taken)) (c .before .before .put .ensures)
 
 -- src/writing.rt:59:30
@@ -33,7 +33,7 @@ slice-aggregate-put-2 c = search needs
 
 -- src/writing.rt:59:9
 put-requires-2 : tie.Need-put-requires-2
-unfolding comparatorOf markOf
+unfolding comparatorFor signOf
 put-requires-2 c κs = rw (ne-eqb _ _ (c .before .before .before .if1 .left), eq-eqb _ _ (c .before .before .if2 .taken)) at (c .before .before .before .before .before .pre)
 
 -- src/writing.rt:59:9
@@ -42,7 +42,7 @@ same-length-2 c = search needs
 
 -- src/writing.rt:59:9
 returns-2 : tie.Need-returns-2
-unfolding comparatorOf markOf
+unfolding comparatorFor signOf
 returns-2 c = rw (ne-eqb _ _ (c .before .before .before .before .before .before .if1 .left), eq-eqb _ _ (c .before .before .before .before .before .if2 .taken)) (c .before .before .put2 .ensures)
 
 -- src/writing.rt:62:30
@@ -51,7 +51,7 @@ slice-aggregate-put-3 c = search needs
 
 -- src/writing.rt:62:9
 put-requires-3 : tie.Need-put-requires-3
-unfolding comparatorOf markOf
+unfolding comparatorFor signOf
 put-requires-3 c κs = rw (ne-eqb _ _ (c .before .before .before .before .if1 .left), ne-eqb _ _ (c .before .before .before .if2 .left), eq-eqb _ _ (c .before .before .if3 .taken)) at (c .before .before .before .before .before .before .pre)
 
 -- src/writing.rt:62:9
@@ -60,7 +60,7 @@ same-length-3 c = search needs
 
 -- src/writing.rt:62:9
 returns-3 : tie.Need-returns-3
-unfolding comparatorOf markOf
+unfolding comparatorFor signOf
 returns-3 c = rw (ne-eqb _ _ (c .before .before .before .before .before .before .before .if1 .left), ne-eqb _ _ (c .before .before .before .before .before .before .if2 .left), eq-eqb _ _ (c .before .before .before .before .before .if3 .taken)) (c .before .before .put3 .ensures)
 
 -- src/writing.rt:64:19
@@ -69,7 +69,7 @@ slice-aggregate-put-4 c = search needs
 
 -- src/writing.rt:64:5
 put-requires-4 : tie.Need-put-requires-4
-unfolding comparatorOf markOf
+unfolding comparatorFor signOf
 put-requires-4 c κs = rw (ne-eqb _ _ (c .before .before .before .before .if1 .left), ne-eqb _ _ (c .before .before .before .if2 .left), ne-eqb _ _ (c .before .before .if3 .left)) at (c .before .before .before .before .before .before .pre)
 
 -- src/writing.rt:51:1
@@ -78,7 +78,7 @@ same-length-4 c = search needs
 
 -- src/writing.rt:51:1
 returns-4 : tie.Need-returns-4
-unfolding comparatorOf markOf
+unfolding comparatorFor signOf
 returns-4 c = rw (ne-eqb _ _ (c .before .before .before .before .before .before .before .if1 .left), ne-eqb _ _ (c .before .before .before .before .before .before .if2 .left), ne-eqb _ _ (c .before .before .before .before .before .if3 .left)) (c .before .before .put4 .ensures)
 
 pub put-mark-spec : {M : Type 1} → statement M

@@ -1,6 +1,6 @@
 use Rattle.locks.proofs.PutLaws.{room-left}
-use Rattle.locks.specs.Reading.{comparatorOf}
-use Rattle.permits.specs.Permits.{markOf}
+use Rattle.locks.specs.Reading.{comparatorFor}
+use Rattle.permits.specs.Permits.{signOf}
 use mathlib.Core.List.{[], _∷_}
 use native.Mathlib.Omega.{arith}
 use Rattle.locks.proofs.TestLaws.{text-equal, text-member, text-order}
@@ -77,11 +77,11 @@ put-attribute-requires-3 c κs = omega (arith, simp length-append at (ap length 
 
 -- src/writing.rt:83:9
 put-mark-requires : tie.Need-put-mark-requires
-put-mark-requires c κs = omega (arith, simp length-append at (ap length (text-order _ (c .before .before .before .before .before .before .before .before .before .before .args .mark) (c .before .before .before .before .before .before .before .before .before .before .args .path .now) (c .before .before .before .before .before .before .before .before .before .before .args .value .now) (c .before .before .before .before .before .before .if1 .left) (c .before .before .before .before .before .if2 .left))), length-append (markOf (comparatorOf (c .before .before .before .before .before .before .before .before .before .before .args .mark))) (32 ∷ []))
+put-mark-requires c κs = omega (arith, simp length-append at (ap length (text-order _ (c .before .before .before .before .before .before .before .before .before .before .args .mark) (c .before .before .before .before .before .before .before .before .before .before .args .path .now) (c .before .before .before .before .before .before .before .before .before .before .args .value .now) (c .before .before .before .before .before .before .if1 .left) (c .before .before .before .before .before .if2 .left))), length-append (signOf (comparatorFor (c .before .before .before .before .before .before .before .before .before .before .args .mark))) (32 ∷ []))
 
 -- src/writing.rt:84:5
 put-requires-3 : tie.Need-put-requires-3
-put-requires-3 c κs = omega (arith, simp length-append at (ap length (text-order _ (c .before .before .before .before .before .before .before .before .before .before .before .before .before .before .args .mark) (c .before .before .before .before .before .before .before .before .before .before .before .before .before .before .args .path .now) (c .before .before .before .before .before .before .before .before .before .before .before .before .before .before .args .value .now) (c .before .before .before .before .before .before .before .before .before .before .if1 .left) (c .before .before .before .before .before .before .before .before .before .if2 .left))), length-append (markOf (comparatorOf (c .before .before .before .before .before .before .before .before .before .before .before .before .before .before .args .mark))) (32 ∷ []))
+put-requires-3 c κs = omega (arith, simp length-append at (ap length (text-order _ (c .before .before .before .before .before .before .before .before .before .before .before .before .before .before .args .mark) (c .before .before .before .before .before .before .before .before .before .before .before .before .before .before .args .path .now) (c .before .before .before .before .before .before .before .before .before .before .before .before .before .before .args .value .now) (c .before .before .before .before .before .before .before .before .before .before .if1 .left) (c .before .before .before .before .before .before .before .before .before .if2 .left))), length-append (signOf (comparatorFor (c .before .before .before .before .before .before .before .before .before .before .before .before .before .before .args .mark))) (32 ∷ []))
 
 -- src/writing.rt:68:1
 same-length-3 : tie.Need-same-length-3
@@ -91,7 +91,7 @@ same-length-3 c = search needs
 returns-3 : tie.Need-returns-3
 returns-3 c =
     let e = text-order _ (c .before .before .before .before .before .before .before .before .before .before .before .before .before .before .before .before .before .args .mark) (c .before .before .before .before .before .before .before .before .before .before .before .before .before .before .before .before .before .args .path .now) (c .before .before .before .before .before .before .before .before .before .before .before .before .before .before .before .before .before .args .value .now) (c .before .before .before .before .before .before .before .before .before .before .before .before .before .if1 .left) (c .before .before .before .before .before .before .before .before .before .before .before .before .if2 .left) in
-    let k = length-append (markOf (comparatorOf (c .before .before .before .before .before .before .before .before .before .before .before .before .before .before .before .before .before .args .mark))) (32 ∷ []) in
+    let k = length-append (signOf (comparatorFor (c .before .before .before .before .before .before .before .before .before .before .before .before .before .before .before .before .before .args .mark))) (32 ∷ []) in
     rw e (put-both (c .before .before .before .before .before .before .before .before .before .before .put-attribute3 .ensures) (put-both (c .before .before .before .before .before .before .put-mark .ensures) (c .before .before .put3 .ensures) (room-left _ (c .before .before .before .before .before .before .before .before .before .before .put-attribute3 .ensures) (rw e at (c .before .before .before .before .before .before .before .before .before .before .before .before .before .before .before .before .before .pre)))) (rw e at (c .before .before .before .before .before .before .before .before .before .before .before .before .before .before .before .before .before .pre)))
 
 pub put-test-spec : {M : Type 1} → statement M

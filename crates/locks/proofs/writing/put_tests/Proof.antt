@@ -3,7 +3,7 @@ use borrow.Author.Needs.{needs}
 use Rattle.locks.proofs.TestLaws.{tests-first, tests-end, tests-more, tests-left}
 use Rattle.locks.proofs.PutLaws.{Rest, rest-start, rest-last, rest-on, rest-room}
 use Rattle.locks.proofs.ListedLaws.{some-left}
-use Rattle.locks.specs.Reading.{areSome, listed, testStep, testIn, textOf, and, testsText}
+use Rattle.locks.specs.Reading.{areSome, thingsFrom, testStep, testIn, textOf, betweenTests, testsText}
 use Rattle.permits.specs.Permits.{testText}
 use Rattle.slices.specs.Parts.{part}
 use lib.ListN.{length}
@@ -20,9 +20,9 @@ use Rattle.locks.proofs.writing.put_test.Reads as put-test-reads
 
 abbrev Inv-loop : tie.InvT-loop
 Inv-loop classes vocabulary lock room₀ at left₀ next₀ end₀ t14 room left next end =
-    (areSome (listed left (testStep vocabulary lock) next) ≡ true)
+    (areSome (thingsFrom left (testStep vocabulary lock) next) ≡ true)
     × (next ≤ length lock)
-    × Rest room₀ at (testsText vocabulary lock) room end (textOf and testText (listed left (testStep vocabulary lock) next))
+    × Rest room₀ at (testsText vocabulary lock) room end (textOf betweenTests testText (thingsFrom left (testStep vocabulary lock) next))
 
 abbrev μ-loop : tie.MeasureT-loop
 μ-loop classes vocabulary lock room₀ at left₀ next₀ end₀ t14 room left next end = left
@@ -84,7 +84,7 @@ slice-aggregate-put c = search needs
 -- src/writing.rt:120:9
 put-requires : tie.Need-put-requires Inv-loop μ-loop
 unfolding testIn part
-put-requires c κs = rest-room (c .before .before .before .before .before .before .before .before .before .before .before .before .loop .inv .2) and _ (tests-more _ _ _ _ _ (c .before .before .before .before .before .before .before .before .before .before .before .test-at .ensures) (c .before .before .before .before .before .before .before .before .before .before .before .before .loop .inv .0) (c .before .before .before .if1 .left)) (c .before .before .before .before .before .before .before .put-test .ensures) (c .before .before .before .before .before .before .before .before .before .before .before .before .before .before .before .before .pre .1)
+put-requires c κs = rest-room (c .before .before .before .before .before .before .before .before .before .before .before .before .loop .inv .2) betweenTests _ (tests-more _ _ _ _ _ (c .before .before .before .before .before .before .before .before .before .before .before .test-at .ensures) (c .before .before .before .before .before .before .before .before .before .before .before .before .loop .inv .0) (c .before .before .before .if1 .left)) (c .before .before .before .before .before .before .before .put-test .ensures) (c .before .before .before .before .before .before .before .before .before .before .before .before .before .before .before .before .pre .1)
 
 -- src/writing.rt:121:9
 sub-left : tie.Need-sub-left Inv-loop μ-loop
