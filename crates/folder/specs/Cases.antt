@@ -1,4 +1,5 @@
--- The cases that the bytes of cases.bin have: one after the other, each of four parts, each part behind its length in two bytes; what is missing at the end is empty. Definitions only.
+-- The cases that the bytes of cases.bin have: one after the other, each of four parts, each part behind its length in two bytes;
+-- what is missing at the end is empty. Definitions only.
 use mathlib.Core.Path.{_≡_}
 use mathlib.Core.List.{List, [], _∷_}
 use Prim.Native.Nat.{ℕ, zero, suc, _+_, _-_, _*_, _≤_, _<_}

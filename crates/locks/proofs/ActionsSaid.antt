@@ -1,32 +1,31 @@
 -- The reader of action lists takes the bytes of some strings and no others. Assumes nothing.
 use mathlib.Core.Path.{_≡_, refl, sym, ap, _∙_}
-use mathlib.Core.Bool.{Bool, true, false, cond, not, _&&_, and-eq-true-iff}
-use mathlib.Core.List.{List, [], _∷_, _++_, append-nil}
+use mathlib.Core.Bool.{Bool, true, false, _&&_, and-eq-true-iff}
+use mathlib.Core.List.{List, [], _∷_, _++_}
 use mathlib.Core.Option.{Option, none, some}
 use Prim.Native.Nat.{ℕ, zero, suc, _+_, _-_, _≤_, _<_}
 use native.Mathlib.Omega.{arith}
 use lib.Dec.{eqb, leb, ltb}
-use lib.ListN.{length, getD, take, drop}
-use borrow.Author.Tests.{lt-ltb, le-leb, eq-eqb, ne-eqb, ltb-true, leb-true, eqb-true, eqb-false}
+use lib.ListN.{length}
+use borrow.Author.Tests.{lt-ltb, le-leb, eq-eqb, ne-eqb, ltb-true, leb-true, eqb-true}
 use Rattle.slices.specs.Parts.{part}
 use Rattle.bags.specs.Forms.{InTurn, none as no-more, more}
 use Rattle.bags.specs.Reading.{byte}
 use Rattle.bags.proofs.Laid.{Laid, laid-none, laid-cons, laid-part, laid-join, laid-split, laid-head, laid-is}
 use Rattle.placing.specs.Said.{Word}
 use Rattle.permits.specs.Meaning.{AString}
-use Rattle.locks.specs.Reading.{NextThing, wrong, last, on, inFront, stepped, thingsFrom, stepBy, noPiece, isRuleString, actionAt, actionStep, actionStepOf}
+use Rattle.locks.specs.Reading.{ThingStep, wrong, last, on, inFront, stepped, thingsFrom, stepBy, noPiece, isRuleString, actionAt, actionStep}
 use Rattle.locks.specs.Forms.{ActionBytes, action}
-use Rattle.locks.specs.declared.Piece.{Piece}
 use Rattle.locks.proofs.Strings.{string-test, test-string}
 use Rattle.locks.proofs.ListedLaws.{at-last, at-on}
 
 -- ---- what is listed, by its first step
 
-pub data Steps {A : Type 0} (next : ℕ → NextThing A) (n at : ℕ) : List A → Type 0 where
+pub data Steps {A : Type 0} (next : ℕ → ThingStep A) (n at : ℕ) : List A → Type 0 where
   ends : {x : A} → next at ≡ last x → Steps next n at (x ∷ [])
   goes : {x : A} {m : ℕ} {xs : List A} → next at ≡ on x m → thingsFrom n next m ≡ some xs → Steps next n at (x ∷ xs)
 
-pub steps : {A : Type 0} (next : ℕ → NextThing A) (n at : ℕ) (xs : List A) → thingsFrom (suc n) next at ≡ some xs → Steps next n at xs
+pub steps : {A : Type 0} (next : ℕ → ThingStep A) (n at : ℕ) (xs : List A) → thingsFrom (suc n) next at ≡ some xs → Steps next n at xs
 unfolding thingsFrom
 steps {A} next n at xs h = go (next at) refl h
   where
@@ -37,7 +36,7 @@ steps {A} next n at xs h = go (next at) refl h
     before-some x m q none e h = absurd (let z : _≡_ {A = ℕ} 0 1 = cc in omega arith)
     before-some x m q (some ys) e h = let r : x ∷ ys ≡ xs = cc in to r (goes q e)
 
-    go : (s : NextThing A) → next at ≡ s → stepped s (thingsFrom n next) ≡ some xs → Steps next n at xs
+    go : (s : ThingStep A) → next at ≡ s → stepped s (thingsFrom n next) ≡ some xs → Steps next n at xs
     go wrong q h = absurd (let z : _≡_ {A = ℕ} 0 1 = cc in omega arith)
     go (last x) q h = let r : x ∷ [] ≡ xs = cc in to r (ends q)
     go (on x m) q h = before-some x m q (thingsFrom n next m) refl h

@@ -5,14 +5,13 @@ use mathlib.Core.List.{List, _++_}
 use mathlib.Core.Option.{Option, none, some}
 use Prim.Native.Nat.{ℕ, _+_, _≤_, _<_}
 use native.Mathlib.Omega.{arith}
-use lib.ListN.{length, drop, length-append}
+use lib.ListN.{length, length-append}
 use borrow.Author.Tests.{le-leb, lt-leb}
 use Rattle.slices.specs.Ascii.{bytes}
 use Rattle.placing.specs.Said.{Word}
 use Rattle.permits.specs.Permits.{Test, quoted, testText, permitText}
 use Rattle.locks.specs.Reading.{isVocabulary, isRuleString, testsRead, actionsRead, areSome, textOf, sizeWith, betweenActions, betweenTests, testsText, actionsText}
 use Rattle.locks.specs.Answers.{PutOver, Read, together, readOf, framed, sizeFor, answerFor, roomBy, Locked, Writable, noLock, noRoom}
-use Rattle.locks.specs.declared.Size.{Size}
 use Rattle.locks.specs.declared.Size.the-variants.{Of, Bad}
 use Rattle.locks.specs.declared.Answer.the-variants.{Written, Refused}
 use Rattle.locks.proofs.PutLaws.{put-both, room-left, over-start}

@@ -4,7 +4,7 @@ use mathlib.Core.Bool.{Bool, true, false, cond, _&&_}
 use mathlib.Core.List.{List, [], _∷_}
 use Prim.Native.Nat.{ℕ, zero, suc, _+_, _-_, _≤_, _<_}
 use native.Mathlib.Omega.{arith}
-use lib.Dec.{eqb, leb, ltb}
+use lib.Dec.{eqb, leb}
 use lib.ListN.{length, getD, take, drop, length-drop}
 use lib.Seq.{length-take-le}
 use borrow.Author.Tests.{le-ltb, lt-ltb, le-leb, lt-leb, eq-eqb, ne-eqb, eqb-true, eqb-false, leb-true}
@@ -19,7 +19,7 @@ use Rattle.tokens.specs.declared.classes.Sort.the-variants.{Letters, WordBytes,
 use Rattle.bags.specs.Paths.{every}
 use Rattle.bags.specs.Reading.{byte}
 use Rattle.placing.specs.Said.{Word}
-use Rattle.locks.specs.Reading.{noEntry, wordEnd, pathEnd, entryPlacesAt, wordOf, foundIn, findFrom, isShortWord, isEntry, entriesFrom, isRuleString, EntryLies, EntryIs, noPiece, actionAt, ActionIs}
+use Rattle.locks.specs.Reading.{noEntry, wordEnd, pathEnd, entryPlacesAt, wordOf, findFrom, isShortWord, isEntry, entriesFrom, isRuleString, EntryLies, EntryIs, noPiece, actionAt, ActionIs}
 use Rattle.locks.specs.declared.Piece.{Piece}
 use Rattle.locks.specs.declared.vocabulary.EntryPlaces.{EntryPlaces}
 

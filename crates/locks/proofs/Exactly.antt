@@ -1,35 +1,33 @@
 -- What vocabulary, lock, action list and resource are read as is what they say, both ways, and they say one lock only. Assumes nothing.
 use mathlib.Core.Path.{_≡_, refl, sym, ap, _∙_}
-use mathlib.Core.Bool.{Bool, true, false, cond, _&&_, and-eq-true-iff, false≢true}
+use mathlib.Core.Bool.{Bool, true, false, cond, _&&_, and-eq-true-iff}
 use mathlib.Core.List.{List, [], _∷_, _++_, append-assoc, List·Memᴰ, List·Memᴰ·head, List·Memᴰ·tail, List·Memᴰ·not-nil, List·Memᴰ·cases-cons}
-use mathlib.Core.Logic.{_⊎_, inl, inr, ⊎-elim, _↔_}
+use mathlib.Core.Logic.{⊎-elim, _↔_}
 use mathlib.Core.Option.{Option, none, some}
 use Prim.Native.Nat.{ℕ, zero, suc, _+_, _-_, _≤_, _<_}
 use native.Mathlib.Omega.{arith}
-use lib.Dec.{eqb, leb}
+use lib.Dec.{eqb}
 use lib.ListN.{length, getD, drop}
-use lib.Seq.{getD-drop}
-use borrow.Author.Tests.{le-leb, lt-leb, leb-true, leb-false, eq-eqb, ne-eqb, eqb-true, eqb-false}
+use borrow.Author.Tests.{lt-leb, eq-eqb, ne-eqb, eqb-true, eqb-false}
 use Rattle.slices.proofs.Rest.{rest-at}
-use Rattle.tokens.specs.Forms.{All}
 use Rattle.bags.specs.Forms.{InTurn, none as no-more, more as and-more}
 use Rattle.bags.specs.Paths.{isPath}
-use Rattle.bags.proofs.Laid.{Laid, laid-whole, whole-laid, laid-join, laid-split, laid-cons, laid-head}
+use Rattle.bags.proofs.Laid.{Laid, laid-whole, whole-laid, laid-join, laid-split, laid-head}
 use Rattle.questions.specs.Forms.{Distinct}
 use Rattle.placing.specs.Said.{Word}
 use Rattle.permits.specs.Permits.{Test, permitText}
-use Rattle.permits.specs.Meaning.{AString, Formed, equality, membership, comparison, Fits, Made}
-use Rattle.permits.specs.Promise.{AllFit, PermitSays, OnlySizes, SaysPermit}
+use Rattle.permits.specs.Meaning.{AString, Formed, equality, membership, comparison, Made}
+use Rattle.permits.specs.Promise.{AllFit, PermitSays, OnlySizes}
 use Rattle.permits.proofs.Says.{permit-says, only-sizes}
-use Rattle.locks.specs.Reading.{most, NextThing, wrong, last, on, inFront, thingsFrom, stepBy, endsTest, testAt, testIn, testStep, isVocabulary, isRuleString, testsRead, actionsRead}
-use Rattle.locks.specs.Answers.{Read, together, readOf, answerFor, roomBy, noLock, noRoom}
-use Rattle.locks.specs.Forms.{VocabularyEntry, AWord, VocabularyEntryBytes, vocabularyWords, VocabularyBytes, WrittenTest, TestBytes, value-test, number-test, LockBytes, one, more, Meant, an-equality, a-membership, a-comparison, AllMeant, none as none-meant, next, ActionBytes, action, Compiles, LockSays, Lockable, NoLock}
+use Rattle.locks.specs.Reading.{most, last, on, inFront, thingsFrom, stepBy, endsTest, testAt, testIn, testStep, isVocabulary, isRuleString, testsRead, actionsRead}
+use Rattle.locks.specs.Answers.{Read, together, readOf}
+use Rattle.locks.specs.Forms.{VocabularyEntry, AWord, vocabularyWords, WrittenTest, TestBytes, value-test, number-test, LockBytes, one, more, Meant, an-equality, a-membership, a-comparison, AllMeant, none as none-meant, next, ActionBytes, action, Compiles, LockSays, Lockable}
 use Rattle.locks.proofs.ListedLaws.{at-last, at-on}
 use Rattle.locks.proofs.Strings.{string-test, test-string}
 use Rattle.locks.proofs.Entries.{entriesIn, entries-sound, entries-complete, entry-forms}
 use Rattle.locks.proofs.ActionsSaid.{Steps, ends, goes, steps, actions-sound, actions-complete}
 use Rattle.locks.proofs.TestsRead.{TestSaid, test-sound}
-use Rattle.locks.proofs.TestsMet.{Stop, at-end, at-and, Met, test-met}
+use Rattle.locks.proofs.TestsMet.{at-end, at-and, Met, test-met}
 
 -- ---- the lock that is read
 

@@ -1,17 +1,17 @@
 -- Laws of things that stand one after the other, for any step: how many bytes they have in a permit, and which. Assumes nothing.
 use mathlib.Core.Path.{_≡_, refl, sym, ap, _∙_}
 use mathlib.Core.Bool.{Bool, true, false}
-use mathlib.Core.List.{List, [], _∷_, _++_, map}
+use mathlib.Core.List.{List, [], _∷_, _++_}
 use mathlib.Core.Option.{Option, none, some}
 use Prim.Native.Nat.{ℕ, zero, suc, _+_, _-_, _≤_, _<_}
 use native.Mathlib.Omega.{arith}
 use lib.ListN.{length, length-append}
 use Rattle.permits.specs.Permits.{between}
-use Rattle.locks.specs.Reading.{NextThing, wrong, last, on, inFront, stepped, thingsFrom, stepBy, textOf, sizeWith, areSome}
+use Rattle.locks.specs.Reading.{ThingStep, wrong, last, on, inFront, stepped, thingsFrom, stepBy, textOf, sizeWith, areSome}
 use Rattle.locks.specs.declared.Size.the-variants.{Of, Bad}
 
-module _ {A : Type 0} (next : ℕ → NextThing A) where
-  stepped-some : (s : NextThing A) (rest : ℕ → Option (List A)) → stepped s rest ≡ some [] → ⊥
+module _ {A : Type 0} (next : ℕ → ThingStep A) where
+  stepped-some : (s : ThingStep A) (rest : ℕ → Option (List A)) → stepped s rest ≡ some [] → ⊥
   stepped-some wrong rest e = let z : _≡_ {A = ℕ} 0 1 = cc in omega arith
   stepped-some (last x) rest e = let z : _≡_ {A = ℕ} 0 1 = cc in omega arith
   stepped-some (on x m) rest e = go (rest m) e
@@ -65,7 +65,7 @@ module _ {A : Type 0} (next : ℕ → NextThing A) where
 
 -- ---- what they are in a permit
 
-module _ {A : Type 0} (sep : List ℕ) (text : A → List ℕ) (next : ℕ → NextThing A) (n at : ℕ) (bad end : Bool) (x : A) (m : ℕ) (q : next at ≡ stepBy bad end x m) where
+module _ {A : Type 0} (sep : List ℕ) (text : A → List ℕ) (next : ℕ → ThingStep A) (n at : ℕ) (bad end : Bool) (x : A) (m : ℕ) (q : next at ≡ stepBy bad end x m) where
   pub size-wrong : (k : ℕ) → 0 < n → bad ≡ true → Bad ≡ sizeWith k sep text (thingsFrom n next at)
   unfolding sizeWith stepBy
   size-wrong k h b = rw (at-wrong next n at x m h (q ∙ rw b))

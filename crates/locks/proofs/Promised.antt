@@ -3,16 +3,13 @@ use mathlib.Core.Path.{_≡_, refl, sym, ap, _∙_}
 use mathlib.Core.Bool.{Bool, true, false, cond}
 use mathlib.Core.List.{List, _++_}
 use mathlib.Core.Option.{Option, none, some}
-use Prim.Native.Nat.{ℕ, _≤_, _<_}
+use Prim.Native.Nat.{ℕ}
 use native.Mathlib.Omega.{arith}
 use lib.Dec.{leb}
 use lib.ListN.{length, drop}
 use borrow.Author.Tests.{le-leb, lt-leb, leb-true, leb-false}
-use Rattle.placing.specs.Said.{Word}
-use Rattle.permits.specs.Permits.{Test, permitText}
 use Rattle.locks.specs.Answers.{Read, readOf, answerFor, roomBy, noLock, noRoom, Locked}
-use Rattle.locks.specs.Forms.{Lockable, NoLock}
-use Rattle.locks.specs.Promise.{LockCall, CallSays, permitFor, Answers, no-lock, no-room, permit, answerTo, roomLeft, AnsweredExactly, RoomUnchanged, PermitStands, OneLock}
+use Rattle.locks.specs.Promise.{LockCall, permitFor, Answers, no-lock, no-room, permit, answerTo, AnsweredExactly, RoomUnchanged, PermitStands, OneLock}
 use Rattle.locks.specs.declared.Answer.{Answer}
 use Rattle.locks.specs.declared.Answer.the-variants.{Written, Refused}
 use Rattle.locks.proofs.Exactly.{read-sound, read-complete}

@@ -1,28 +1,26 @@
 -- Laws of the tests of a lock and of the strings of an action list: what stands at a place, and how many bytes it has in a permit. Assumes nothing.
 use mathlib.Core.Path.{_≡_, refl, sym, ap, _∙_}
 use mathlib.Core.Bool.{Bool, true, false, cond, not, _&&_, _||_, and-eq-true-iff}
-use mathlib.Core.List.{List, [], _∷_, _++_, append-assoc}
-use mathlib.Core.Option.{Option, none, some}
-use Prim.Native.Nat.{ℕ, zero, suc, _+_, _-_, _≤_, _<_}
+use mathlib.Core.List.{List, _++_, append-assoc}
+use Prim.Native.Nat.{ℕ, _+_, _-_, _≤_, _<_}
 use native.Mathlib.Omega.{arith}
-use lib.Dec.{eqb, leb, ltb}
-use lib.ListN.{length, getD, take, drop, length-append, length-drop}
+use lib.Dec.{eqb, leb}
+use lib.ListN.{length, take, drop, length-append, length-drop}
 use lib.Seq.{length-take-le}
-use borrow.Author.Tests.{le-leb, lt-leb, eq-eqb, ne-eqb, leb-true}
+use borrow.Author.Tests.{eq-eqb, ne-eqb, leb-true}
 use Rattle.slices.specs.Ascii.{bytes}
 use Rattle.slices.specs.Parts.{part}
 use Rattle.tokens.specs.Kinds as kinds
-use Rattle.tokens.specs.Runs.{runEnd, RunsTo}
+use Rattle.tokens.specs.Runs.{RunsTo}
 use Rattle.tokens.specs.Tokens.{tokenAt, Reads}
 use Rattle.tokens.specs.declared.classes.Sort.the-variants.{Blanks, WordBytes}
 use Rattle.tokens.specs.declared.reader.Token.{Token}
 use Rattle.grammar.specs.Policies.{Comparator, Comparator.More, Comparator.AtLeast, Comparator.Less, Comparator.AtMost}
 use Rattle.placing.specs.Said.{Word}
-use Rattle.permits.specs.Permits.{Test, equal, member, order, quoted, ofPrincipal, signOf, testText}
-use Rattle.locks.specs.Reading.{noEntry, findFrom, most, EntryIs, noTest, goesWith, valueTo, valueBehind, numberFrom, numberBehind, operandAt, endsTest, LiesFrom, PieceIs, testOf, testAt, TestLies, TestIs, comparatorFor, markText, equalityByte, membershipByte, testBy, testSize, testIn, ActionIs, actionAt}
-use Rattle.locks.specs.Reading.{NextThing, thingsFrom, stepBy, testStepOf, testStep, actionStepOf, actionStep, testsRead, actionsRead, sizeWith, SizeIs, textOf, areSome, betweenTests, betweenActions}
+use Rattle.permits.specs.Permits.{equal, member, order, quoted, ofPrincipal, signOf, testText}
+use Rattle.locks.specs.Reading.{findFrom, most, EntryIs, noTest, goesWith, valueTo, valueBehind, numberFrom, numberBehind, operandAt, endsTest, PieceIs, testOf, testAt, TestLies, TestIs, comparatorFor, markText, equalityByte, membershipByte, testBy, testSize, testIn, ActionIs, actionAt}
+use Rattle.locks.specs.Reading.{ThingStep, thingsFrom, testStepOf, testStep, actionStepOf, actionStep, sizeWith, textOf, areSome, betweenTests, betweenActions}
 use Rattle.locks.specs.declared.Piece.{Piece}
-use Rattle.locks.specs.declared.Size.{Size}
 use Rattle.locks.specs.declared.Size.the-variants.{Of, Bad}
 use Rattle.locks.specs.declared.vocabulary.EntryPlaces.{EntryPlaces}
 use Rattle.locks.specs.declared.tests.TestPlaces.{TestPlaces}
@@ -154,7 +152,7 @@ few-of n k m h e = let q : n ≡ m = cc in omega arith
 pub none-of : (k m : ℕ) → Bad ≡ Of m → m ≤ k
 none-of k m e = absurd (let z : _≡_ {A = ℕ} 0 1 = cc in omega arith)
 
-module _ {A : Type 0} (sep : List ℕ) (text : A → List ℕ) (next : ℕ → NextThing A) where
+module _ {A : Type 0} (sep : List ℕ) (text : A → List ℕ) (next : ℕ → ThingStep A) where
   pub size-none : (n k at : ℕ) → n ≤ 0 → Bad ≡ sizeWith k sep text (thingsFrom n next at)
   unfolding sizeWith
   size-none n k at h = rw (none-left next n at h)

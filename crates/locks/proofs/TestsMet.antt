@@ -1,45 +1,43 @@
 -- One test of a lock: what says it is read as it is meant. Assumes nothing.
 use mathlib.Core.Path.{_≡_, refl, sym, ap, _∙_}
-use mathlib.Core.Bool.{Bool, true, false, cond, not, _&&_, _||_, and-eq-true-iff, false≢true}
+use mathlib.Core.Bool.{Bool, true, false, not, _&&_, and-eq-true-iff, false≢true}
 use mathlib.Core.List.{List, [], _∷_, _++_, append-assoc, List·Memᴰ}
-use mathlib.Core.Logic.{_⊎_, inl, inr, ⊎-elim}
-use mathlib.Core.Option.{Option, none, some}
+use mathlib.Core.Logic.{_⊎_, inl, inr}
+use mathlib.Core.Option.{some}
 use Prim.Native.Nat.{ℕ, _+_, _-_, _≤_, _<_}
 use native.Mathlib.Omega.{arith}
 use lib.Dec.{eqb, leb, ltb}
-use lib.ListN.{length, getD, take, drop, length-append, length-drop, drop-of-length-le}
+use lib.ListN.{length, getD, drop, drop-of-length-le}
 use lib.Seq.{getD-drop}
-use borrow.Author.Tests.{lt-ltb, le-leb, lt-leb, eq-eqb, ne-eqb, eqb-true, not-true}
-use Rattle.slices.specs.Ascii.{bytes}
+use borrow.Author.Tests.{lt-ltb, le-leb, lt-leb, ne-eqb, eqb-true, not-true}
 use Rattle.slices.specs.Parts.{part}
 use Rattle.slices.specs.Same.{same}
-use Rattle.tokens.specs.Bytes.{classOf, letter}
+use Rattle.tokens.specs.Bytes.{classOf}
 use Rattle.tokens.specs.Kinds as kinds
 use Rattle.tokens.specs.Runs.{isOf, runEnd}
 use Rattle.tokens.specs.Tokens.{token, tokenAt}
-use Rattle.tokens.specs.Forms.{All, empty, next, Form, a-number, a-mark, Number, signless, minus, whole, pointed, digits-from, Unsigned, marks, digits, sizeOf, mostOf}
-use Rattle.tokens.specs.declared.classes.Sort.the-variants.{Blanks, Digits, Letters, WordBytes}
+use Rattle.tokens.specs.Forms.{All, empty, next, a-number, a-mark, Number, signless, minus, whole, pointed, digits-from, marks, digits}
+use Rattle.tokens.specs.declared.classes.Sort.the-variants.{Blanks, Digits, WordBytes}
 use Rattle.tokens.specs.declared.reader.Token.{Token}
-use Rattle.tokens.proofs.FormLaws.{isAmong, is-among, mark-small}
+use Rattle.tokens.proofs.FormLaws.{isAmong, is-among}
 use Rattle.tokens.proofs.TokenLaws.{digit-byte}
 use Rattle.spelling.proofs.Apart.{calm-apart, blank-calm}
 use Rattle.spelling.specs.Spelling.{apart, calm}
 use Rattle.spelling.specs.Printing.{markKind}
 use Rattle.bags.proofs.Laid.{Laid, laid-split, laid-bytes}
-use Rattle.grammar.specs.Policies.{Comparator, Comparator.More, Comparator.AtLeast, Comparator.Less, Comparator.AtMost}
+use Rattle.grammar.specs.Policies.{Comparator}
 use Rattle.placing.specs.Said.{Word}
-use Rattle.permits.specs.Permits.{Test, equal, member, order, signOf}
+use Rattle.permits.specs.Permits.{Test, signOf}
 use Rattle.permits.specs.Meaning.{Orders, more, at-least, less, at-most, AValue, Fits, equal-fits, member-fits, order-fits}
 use Rattle.permits.proofs.Values.{number-long}
 use Rattle.questions.specs.Forms.{Distinct}
-use Rattle.locks.specs.Reading.{findFrom, most, goesWith, valueBehind, numberBehind, operandAt, endsTest, testOf, testAt, noTest, pathOf, comparatorFor, testBy, testIn, isVocabulary, wordFrom, wordUpTo, wordIn, markIn, operandIn}
-use Rattle.locks.specs.Forms.{WordSort, equality, membership, numbers, sortByte, VocabularyEntry, AWord, a-word, WrittenTest, valued, compared, TestBytes, value-test, number-test, Meant, an-equality, a-membership, a-comparison, vocabularyWords}
+use Rattle.locks.specs.Reading.{findFrom, most, goesWith, valueBehind, numberBehind, operandAt, endsTest, testOf, testAt, pathOf, testBy, testIn, isVocabulary, wordFrom, wordUpTo, wordIn, markIn, operandIn}
+use Rattle.locks.specs.Forms.{WordSort, equality, membership, numbers, sortByte, VocabularyEntry, AWord, a-word, WrittenTest, TestBytes, value-test, number-test, Meant, an-equality, a-membership, a-comparison, vocabularyWords}
 use Rattle.locks.specs.declared.Piece.{Piece}
-use Rattle.locks.specs.declared.vocabulary.EntryPlaces.{EntryPlaces}
 use Rattle.locks.specs.declared.tests.TestPlaces.{TestPlaces}
-use Rattle.locks.proofs.Entries.{sortOf, sort-byte, entriesIn, entryThere, foundAs, find-is, find-sort, some-found, lookup-mem}
+use Rattle.locks.proofs.Entries.{sort-byte, entriesIn, find-is, find-sort, some-found, lookup-mem}
 use Rattle.locks.proofs.TestsSaid.{run-reads, token-reads, colon-reads}
-use Rattle.locks.proofs.TestsRead.{entries, comparator-of, order-goes}
+use Rattle.locks.proofs.TestsRead.{comparator-of, order-goes}
 use Rattle.locks.proofs.Strings.{word-bytes}
 
 -- ---- the byte behind a thing

@@ -1,46 +1,36 @@
 -- One test of a lock: what is read at a place says it, and what says it is read. Assumes nothing.
 use mathlib.Core.Path.{_≡_, refl, sym, ap, _∙_}
-use mathlib.Core.Bool.{Bool, true, false, cond, not, _&&_, _||_, and-eq-true-iff, false≢true}
-use mathlib.Core.List.{List, [], _∷_, _++_, append-assoc, append-nil, List·Memᴰ, Memᴰ·cast}
+use mathlib.Core.Bool.{Bool, true, false, cond, _&&_, _||_, and-eq-true-iff, false≢true}
+use mathlib.Core.List.{List, [], _∷_, _++_, append-assoc, List·Memᴰ, Memᴰ·cast}
 use mathlib.Core.Logic.{_⊎_, inl, inr, ⊎-elim}
-use mathlib.Core.Option.{Option, none, some}
-use Prim.Native.Nat.{ℕ, zero, suc, _+_, _-_, _≤_, _<_}
+use mathlib.Core.Option.{some}
+use Prim.Native.Nat.{ℕ, _-_, _≤_, _<_}
 use native.Mathlib.Omega.{arith}
 use native.Mathlib.Nat.{min-le-left, le-trans}
 use lib.Dec.{eqb, leb, ltb}
-use lib.ListN.{length, getD, take, drop, length-append, length-take, drop-of-length-le}
-use lib.Seq.{getD-drop}
-use borrow.Author.Tests.{lt-ltb, le-leb, lt-leb, eq-eqb, ne-eqb, ltb-true, leb-true, leb-false, eqb-true, eqb-false, not-true}
+use lib.ListN.{length, take, length-take}
+use borrow.Author.Tests.{eq-eqb, ltb-true, leb-true, eqb-true}
 use Rattle.slices.specs.Ascii.{bytes}
 use Rattle.slices.specs.Parts.{part}
-use Rattle.tokens.specs.Bytes.{classOf}
 use Rattle.tokens.specs.Kinds as kinds
-use Rattle.tokens.specs.Runs.{isOf, run, runEnd}
-use Rattle.tokens.specs.Tokens.{token, tokenAt}
-use Rattle.tokens.specs.Forms.{All, empty, next, Form, a-number, a-mark, Number, signless, minus, whole, pointed, digits-from, marks, digits}
-use Rattle.tokens.specs.declared.classes.Sort.the-variants.{Blanks, Digits, Letters, WordBytes}
-use Rattle.tokens.specs.declared.reader.Token.{Token}
-use Rattle.tokens.proofs.FormLaws.{isAmong, is-among}
+use Rattle.tokens.specs.Runs.{runEnd}
+use Rattle.tokens.specs.Forms.{All, next, Number, digits}
+use Rattle.tokens.specs.declared.classes.Sort.the-variants.{Blanks, WordBytes}
 use Rattle.tokens.proofs.ReadLaws.{reads}
 use Rattle.tokens.proofs.RunLaws.{high}
-use Rattle.tokens.proofs.TokenLaws.{digit-byte}
-use Rattle.spelling.proofs.Apart.{calm-apart, blank-calm}
-use Rattle.spelling.specs.Spelling.{apart, calm}
 use Rattle.spelling.specs.Printing.{markKind}
-use Rattle.bags.proofs.Laid.{Laid, laid-none, laid-join, laid-split, laid-is, laid-bytes}
-use Rattle.grammar.specs.Policies.{Comparator, Comparator.More, Comparator.AtLeast, Comparator.Less, Comparator.AtMost}
+use Rattle.bags.proofs.Laid.{Laid, laid-join, laid-bytes}
+use Rattle.grammar.specs.Policies.{Comparator}
 use Rattle.placing.specs.Said.{Word}
-use Rattle.permits.specs.Permits.{Test, equal, member, order, signOf}
+use Rattle.permits.specs.Permits.{Test, signOf}
 use Rattle.permits.specs.Meaning.{Orders, more, at-least, less, at-most, AValue, Fits, equal-fits, member-fits, order-fits}
-use Rattle.permits.proofs.Values.{number-long}
-use Rattle.locks.specs.Reading.{findFrom, most, goesWith, valueBehind, numberBehind, operandAt, endsTest, testOf, testAt, noTest, wordOf, pathOf, comparatorFor, testBy, testIn, isVocabulary, wordFrom, wordUpTo, wordIn, markIn, operandIn}
-use Rattle.locks.specs.Forms.{WordSort, equality, membership, numbers, sortByte, VocabularyEntry, AWord, a-word, WrittenTest, valued, compared, TestBytes, value-test, number-test, Meant, an-equality, a-membership, a-comparison, vocabularyWords}
+use Rattle.locks.specs.Reading.{findFrom, most, goesWith, valueBehind, numberBehind, operandAt, endsTest, testOf, testAt, noTest, pathOf, comparatorFor, testBy, testIn, isVocabulary, wordFrom, wordUpTo, wordIn, markIn, operandIn}
+use Rattle.locks.specs.Forms.{WordSort, VocabularyEntry, AWord, WrittenTest, valued, compared, TestBytes, value-test, number-test, Meant, an-equality, a-membership, a-comparison}
 use Rattle.locks.specs.declared.Piece.{Piece}
 use Rattle.locks.specs.declared.vocabulary.EntryPlaces.{EntryPlaces}
 use Rattle.locks.specs.declared.tests.TestPlaces.{TestPlaces}
-use Rattle.locks.proofs.Entries.{sortOf, sort-byte, entriesIn, entryThere, foundAs, find-is, find-sort, some-found, lookupIn, lookup-some, lookup-mem}
-use Rattle.locks.proofs.TestsSaid.{RunLaid, run-laid, run-reads, token-laid, TokenLaid, colon-laid, ColonLaid, token-reads, colon-reads, order-form, number-form}
-use Rattle.locks.proofs.Strings.{word-bytes}
+use Rattle.locks.proofs.Entries.{sortOf, entriesIn, entryThere, foundAs, find-is, find-sort, lookup-some}
+use Rattle.locks.proofs.TestsSaid.{RunLaid, run-laid, token-laid, colon-laid, order-form, number-form}
 
 -- ---- marks
 

@@ -1,14 +1,14 @@
 -- The reader of locks takes the bytes of tests joined by `&` and no others, and reads each test as it is meant. Assumes nothing.
 use mathlib.Core.Path.{_≡_, refl, sym, ap, _∙_}
-use mathlib.Core.Bool.{Bool, true, false, cond, not, _&&_, _||_, and-eq-true-iff, false≢true}
-use mathlib.Core.List.{List, [], _∷_, _++_, append-assoc, append-nil, List·Memᴰ}
-use mathlib.Core.Logic.{_⊎_, inl, inr, ⊎-elim}
-use Prim.Native.Nat.{ℕ, zero, suc, _+_, _-_, _≤_, _<_}
+use mathlib.Core.Bool.{true, false, not, _||_}
+use mathlib.Core.List.{List, [], _∷_, _++_, append-assoc}
+use mathlib.Core.Logic.{⊎-elim}
+use Prim.Native.Nat.{ℕ, _+_, _-_, _≤_, _<_}
 use native.Mathlib.Omega.{arith}
-use lib.Dec.{eqb, leb, ltb}
+use lib.Dec.{eqb}
 use lib.ListN.{length, getD, take, drop, length-append}
-use lib.Seq.{getD-drop, drop-drop, drop-append-seam, take-append-seam, drop-length}
-use borrow.Author.Tests.{lt-ltb, le-ltb, le-leb, lt-leb, eq-eqb, ne-eqb, ltb-true, leb-true, leb-false, eqb-true, eqb-false, not-true}
+use lib.Seq.{drop-drop, drop-append-seam}
+use borrow.Author.Tests.{eq-eqb, eqb-false, not-true}
 use Rattle.slices.specs.Ascii.{bytes}
 use Rattle.slices.specs.Parts.{part}
 use Rattle.slices.specs.Same.{same}
@@ -16,27 +16,26 @@ use Rattle.slices.proofs.Equal.{same-decides}
 use Rattle.tokens.specs.Bytes.{classOf}
 use Rattle.tokens.specs.Kinds as kinds
 use Rattle.tokens.specs.Runs.{isOf, run, runEnd}
-use Rattle.tokens.specs.Tokens.{token, tokenAt, Reads}
+use Rattle.tokens.specs.Tokens.{token, tokenAt}
 use Rattle.tokens.specs.Words.{wordKind}
-use Rattle.tokens.specs.Forms.{All, empty, next, Form, a-word, a-string, a-number, a-mark, Number, signless, minus, whole, pointed, digits-from, Among, first, later, marks, digits, sizeOf, mostOf, Longest, Stands, end-of-text, a-token, too-long, a-colon, bad-byte, unended, bad-inside, StandsAt}
+use Rattle.tokens.specs.Forms.{All, Form, a-word, a-string, a-number, a-mark, Number, Among, marks, sizeOf, mostOf, Stands, end-of-text, a-token, too-long, a-colon, bad-byte, unended, bad-inside}
 use Rattle.tokens.specs.declared.classes.Sort.{Sort}
-use Rattle.tokens.specs.declared.classes.Sort.the-variants.{Blanks, Digits, Letters, WordBytes}
+use Rattle.tokens.specs.declared.classes.Sort.the-variants.{Blanks}
 use Rattle.tokens.specs.declared.reader.Token.{Token}
-use Rattle.tokens.proofs.FormLaws.{run-is, Split, split, split-run, reach, markReach, no-form, mark-passes, is-among, isAmong}
+use Rattle.tokens.proofs.FormLaws.{run-is, Split, split, split-run, reach, no-form, mark-passes}
 use Rattle.tokens.proofs.KindLaws.{kind-among, word-high}
 use Rattle.tokens.proofs.Longest.{longest-token, one-token}
 use Rattle.tokens.proofs.ReadLaws.{reads}
 use Rattle.tokens.proofs.RunLaws.{high}
 use Rattle.tokens.proofs.Told.{token-told}
-use Rattle.tokens.proofs.TokenLaws.{every, digit-byte}
-use Rattle.spelling.proofs.Apart.{form-longest, form-first, form-kind, calm-apart, blank-calm}
-use Rattle.spelling.specs.Spelling.{apart, calm}
+use Rattle.tokens.proofs.TokenLaws.{every}
+use Rattle.spelling.proofs.Apart.{form-longest, form-first, form-kind}
+use Rattle.spelling.specs.Spelling.{apart}
 use Rattle.spelling.specs.Printing.{markKind}
-use Rattle.bags.proofs.Laid.{Laid, laid-none, laid-cons, laid-part, laid-join, laid-split, laid-head, laid-is, laid-bytes}
-use Rattle.grammar.specs.Policies.{Comparator, Comparator.More, Comparator.AtLeast, Comparator.Less, Comparator.AtMost}
-use Rattle.placing.specs.Said.{Word}
-use Rattle.permits.specs.Permits.{Test, equal, member, order, signOf}
-use Rattle.permits.specs.Meaning.{Orders, more, at-least, less, at-most, AValue}
+use Rattle.bags.proofs.Laid.{Laid, laid-part}
+use Rattle.grammar.specs.Policies.{Comparator}
+use Rattle.permits.specs.Permits.{order, signOf}
+use Rattle.permits.specs.Meaning.{Orders, more, at-least, less, at-most}
 
 -- ---- runs, where they lie
 

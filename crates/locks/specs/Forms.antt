@@ -1,5 +1,5 @@
--- Locks as document 02 words them, request 2: which bytes say which vocabulary, lock and action list, and what they say together. That the readers take these bytes and no others,
--- and that bytes say one lock only, is proved in proofs/Exactly.antt. Definitions only.
+-- Locks as document 02 words them, request 2: which bytes say which vocabulary, lock and action list, and what they say together.
+-- That the readers take these bytes and no others, and that bytes say one lock only, is proved in proofs/Exactly.antt. Definitions only.
 use mathlib.Core.Path.{_≡_}
 use mathlib.Core.Bool.{true}
 use mathlib.Core.List.{List, [], _∷_, _++_, map, List·Memᴰ}
@@ -102,7 +102,8 @@ pub record Compiles (text : List ℕ) : Type 0 where
   pub says : SaysPolicies text policies
   pub short : length text ≤ 8192
 
--- What vocabulary v, lock l, action list a and resource r say: these actions and these tests. Each field is a thing that document 02 names; without any of them it is 28.
+-- What vocabulary v, lock l, action list a and resource r say: these actions and these tests. Each field is a thing that document 02 names;
+-- without any of them it is 28.
 pub record LockSays (v l a r : List ℕ) (actions : List Word) (tests : List Test) : Type 0 where
   -- the vocabulary's words, each with a path and a sort: not over 16, none repeated, words and paths as in 01
   pub entries : List VocabularyEntry

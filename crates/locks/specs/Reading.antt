@@ -1,4 +1,5 @@
--- The readers of a lock, its vocabulary and its action list: what stands at a place, and what all of it says. Definitions only; specs/Forms.antt has the same as document 02 words it.
+-- The readers of a lock, its vocabulary and its action list: what stands at a place, and what all of it says. Definitions only;
+-- specs/Forms.antt has the same as document 02 words it.
 use mathlib.Core.Path.{_≡_}
 use mathlib.Core.Bool.{Bool, true, false, cond, not, _&&_, _||_}
 use mathlib.Core.List.{List, [], _∷_, _++_, map}
@@ -253,10 +254,10 @@ pub record ActionIs (a : List ℕ) (p isOf : Piece) : Type 0 where
 -- ---- one thing after the other
 
 -- what stands at a place: nothing of the form; the last thing; a thing, and the place where the next one stands
-pub data NextThing (A : Type 0) : Type 0 where
-  wrong : NextThing A
-  last : A → NextThing A
-  on : A → ℕ → NextThing A
+pub data ThingStep (A : Type 0) : Type 0 where
+  wrong : ThingStep A
+  last : A → ThingStep A
+  on : A → ℕ → ThingStep A
 
 -- a thing before others
 abbrev pub inFront : {A : Type 0} → A → Option (List A) → Option (List A)
@@ -264,32 +265,32 @@ inFront x none = none
 inFront x (some xs) = some (x ∷ xs)
 
 -- what stands at a place, and the rest from the place where the next thing stands
-abbrev pub stepped : {A : Type 0} → NextThing A → (ℕ → Option (List A)) → Option (List A)
+abbrev pub stepped : {A : Type 0} → ThingStep A → (ℕ → Option (List A)) → Option (List A)
 stepped wrong rest = none
 stepped (last x) rest = some (x ∷ [])
 stepped (on x at) rest = inFront x (rest at)
 
 -- at most n things from a place on, up to the last
-unfoldable pub thingsFrom : {A : Type 0} → ℕ → (ℕ → NextThing A) → ℕ → Option (List A)
+unfoldable pub thingsFrom : {A : Type 0} → ℕ → (ℕ → ThingStep A) → ℕ → Option (List A)
 thingsFrom zero next at = none
 thingsFrom (suc n) next at = stepped (next at) (thingsFrom n next)
 
 -- a step by what is wrong with it, and whether it is the last
-unfoldable pub stepBy : {A : Type 0} → Bool → Bool → A → ℕ → NextThing A
+unfoldable pub stepBy : {A : Type 0} → Bool → Bool → A → ℕ → ThingStep A
 stepBy bad end x at = cond bad wrong (cond end (last x) (on x at))
 
 -- a test and what follows it: the next one stands behind the `&`
-abbrev pub testStepOf : List ℕ → List ℕ → TestPlaces → NextThing Test
+abbrev pub testStepOf : List ℕ → List ℕ → TestPlaces → ThingStep Test
 testStepOf v l t = stepBy (eqb (t .sort) 0) (eqb (t .next) (length l)) (testIn v l t) (t .next + 1)
 
-unfoldable pub testStep : List ℕ → List ℕ → ℕ → NextThing Test
+unfoldable pub testStep : List ℕ → List ℕ → ℕ → ThingStep Test
 testStep v l at = testStepOf v l (testAt v l at)
 
 -- an action and what follows it
-abbrev pub actionStepOf : List ℕ → Piece → NextThing Word
+abbrev pub actionStepOf : List ℕ → Piece → ThingStep Word
 actionStepOf a p = stepBy (not (p .good)) (eqb (p .end) (length a)) (part a (p .start) (p .end - p .start)) (p .end)
 
-unfoldable pub actionStep : List ℕ → ℕ → NextThing Word
+unfoldable pub actionStep : List ℕ → ℕ → ThingStep Word
 actionStep a at = actionStepOf a (actionAt a at)
 
 -- the tests of a lock

@@ -32,8 +32,8 @@ pub data PartLent : List ℕ → List ℕ → List ℕ → Type 0 where
 -- so many requests: subject, action and resource of each
 pub data Lent : ℕ → List ℕ → List Request → Type 0 where
   none : {bytes : List ℕ} → Lent zero bytes []
-  more : {n : ℕ} {bytes subject behind action behind′ resource rest : List ℕ} {qs : List Request} → PartLent bytes subject behind → PartLent behind action behind′
-      → PartLent behind′ resource rest → Lent n rest qs → Lent (suc n) bytes (request subject action resource ∷ qs)
+  more : {n : ℕ} {bytes subject behind action behind′ resource rest : List ℕ} {qs : List Request} → PartLent bytes subject behind
+      → PartLent behind action behind′ → PartLent behind′ resource rest → Lent n rest qs → Lent (suc n) bytes (request subject action resource ∷ qs)
 
 -- ---- refusals
 
@@ -45,7 +45,8 @@ pub data RequestAccepted (text table : List ℕ) (q : Request) : Type 0 where
 -- the refusals of the requests in turn: the first refused request refuses the tally; 0 where none is refused
 pub data FirstRefused (text table : List ℕ) : List Request → ℕ → Type 0 where
   none-refused : FirstRefused text table [] 0
-  passed : {q : Request} {qs : List Request} {number : ℕ} → RequestAccepted text table q → FirstRefused text table qs number → FirstRefused text table (q ∷ qs) number
+  passed : {q : Request} {qs : List Request} {number : ℕ} → RequestAccepted text table q → FirstRefused text table qs number
+      → FirstRefused text table (q ∷ qs) number
   bad-request : {q : Request} {qs : List Request} {number : ℕ} → RequestRefused q number → FirstRefused text table (q ∷ qs) number
   not-compiled : {q : Request} {qs : List Request} → Wellformed q → (Begun text table → ⊥) → FirstRefused text table (q ∷ qs) 20
 
