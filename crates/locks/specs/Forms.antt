@@ -102,8 +102,7 @@ pub record Compiles (text : List ℕ) : Type 0 where
   pub says : SaysPolicies text policies
   pub short : length text ≤ 8192
 
--- What vocabulary v, lock l, action list a and resource r say: these actions and these tests. Each field is a thing that document 02 names;
--- without any of them it is 28.
+-- What vocabulary v, lock l, action list a and resource r say: these actions and tests. Each field is a thing that document 02 names; without one it is 28.
 pub record LockSays (v l a r : List ℕ) (actions : List Word) (tests : List Test) : Type 0 where
   -- the vocabulary's words, each with a path and a sort: not over 16, none repeated, words and paths as in 01
   pub entries : List VocabularyEntry

@@ -21,7 +21,7 @@ use Rattle.sheets.specs.Sheets.{sectionsIn, requestRefusal, unless}
 use Rattle.tallies.specs.Lent.{lentPart, behindLentPart, requestsOf}
 use Rattle.tallies.specs.Tallies.{groupCount, firstRefusal, talliedOf, tallyRefusal, countsAfter}
 use Rattle.tallies.specs.Promise as promise
-use Rattle.tallies.specs.Promise.{TallyCall, PartLent, whole, missing, Lent, more, RequestAccepted, the-system, none-wrong, FirstRefused, none-refused, passed, bad-request, not-compiled}
+use Rattle.tallies.specs.Promise.{TallyCall, PartLent, whole, missing, Lent, more, Passes, the-system, none-wrong, FirstRefused, none-refused, passed, bad-request, not-compiled}
 use Rattle.tallies.specs.Promise.{TallyRefused, no-request, too-many, no-question, by-request, TallyRefusedExactly, OneLent}
 
 -- ---- how requests are lent
@@ -112,7 +112,7 @@ module _ (text table : List ℕ) where
   first-read [] = none-refused
   first-read (q ∷ qs) = first-more q qs (firstRefusal text table qs) (first-read qs)
 
-  pub accepted-none : {q : Request} → RequestAccepted text table q → requestRefusal text table q ≡ 0
+  pub accepted-none : {q : Request} → Passes text table q → requestRefusal text table q ≡ 0
   unfolding requestRefusal
   accepted-none (the-system e) = rw e
   accepted-none (none-wrong f b) = rw (f .other, f .subject-is, f .action-is, f .resource-is, begins-then text table b)
@@ -172,7 +172,7 @@ requests-many zero bytes = refl
 requests-many (suc n) bytes = ap suc (requests-many n (behindLentPart (behindLentPart (behindLentPart bytes))))
 
 -- every request is accepted
-pub all-accepted : {text table : List ℕ} {qs : List Request} {n : ℕ} → FirstRefused text table qs n → n ≡ 0 → {k : ℕ} {q : Request} → Numbered k q qs → RequestAccepted text table q
+pub all-accepted : {text table : List ℕ} {qs : List Request} {n : ℕ} → FirstRefused text table qs n → n ≡ 0 → {k : ℕ} {q : Request} → Numbered k q qs → Passes text table q
 all-accepted (passed a f) z first = a
 all-accepted (passed a f) z (later i) = all-accepted f z i
 all-accepted (bad-request (bad-subject e f)) z i = absurd (omega arith)
@@ -187,7 +187,7 @@ pub record TallyHeard (c : TallyCall) : Type 0 where
   pub columns : List Column
   pub question-says : QuestionBytes (c .question) base columns
   pub lent : Lent (c .many) (c .requests) (requestsOf (c .many) (c .requests))
-  pub accepted : {k : ℕ} {q : Request} → Numbered k q (requestsOf (c .many) (c .requests)) → RequestAccepted (c .text) (c .table) q
+  pub accepted : {k : ℕ} {q : Request} → Numbered k q (requestsOf (c .many) (c .requests)) → Passes (c .text) (c .table) q
 
 heard-by : (c : TallyCall) {n : ℕ} → n ≡ 0 → TallyRefused c n → TallyHeard c
 heard-by c z (no-request e) = absurd (omega arith)

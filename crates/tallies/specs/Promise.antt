@@ -38,15 +38,14 @@ pub data Lent : ℕ → List ℕ → List Request → Type 0 where
 -- ---- refusals
 
 -- nothing is refused of a request: it is the system's, or it is well-formed and the table is the text's
-pub data RequestAccepted (text table : List ℕ) (q : Request) : Type 0 where
-  the-system : isSystem (q .subject) ≡ true → RequestAccepted text table q
-  none-wrong : Wellformed q → Begun text table → RequestAccepted text table q
+pub data Passes (text table : List ℕ) (q : Request) : Type 0 where
+  the-system : isSystem (q .subject) ≡ true → Passes text table q
+  none-wrong : Wellformed q → Begun text table → Passes text table q
 
 -- the refusals of the requests in turn: the first refused request refuses the tally; 0 where none is refused
 pub data FirstRefused (text table : List ℕ) : List Request → ℕ → Type 0 where
   none-refused : FirstRefused text table [] 0
-  passed : {q : Request} {qs : List Request} {number : ℕ} → RequestAccepted text table q → FirstRefused text table qs number
-      → FirstRefused text table (q ∷ qs) number
+  passed : {q : Request} {qs : List Request} {number : ℕ} → Passes text table q → FirstRefused text table qs number → FirstRefused text table (q ∷ qs) number
   bad-request : {q : Request} {qs : List Request} {number : ℕ} → RequestRefused q number → FirstRefused text table (q ∷ qs) number
   not-compiled : {q : Request} {qs : List Request} → Wellformed q → (Begun text table → ⊥) → FirstRefused text table (q ∷ qs) 20
 
