@@ -7,7 +7,7 @@ use Rattle.slices.specs.Ascii.{bytes}
 use Rattle.grammar.specs.Policies.{Root.Principal, Comparator, Comparator.Equal}
 use Rattle.grammar.specs.Policies.{text, number, attribute, literal, TreeOf, compare, within, both, any, pinned, oneOf, PolicyOf}
 use Rattle.placing.specs.Said.{Word}
--- a string with its quotes, and a comparator's mark
+-- a string with its quotes, and a comparator's sign
 pub use Rattle.spelling.specs.Marks.{quoted}
 unfoldable pub use Rattle.spelling.specs.Marks.{signOf}
 

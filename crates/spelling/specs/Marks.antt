@@ -9,7 +9,7 @@ use Rattle.grammar.specs.Policies.{Comparator, Comparator.Equal, Comparator.Not
 abbrev pub quoted : List ℕ → List ℕ
 quoted s = quote ∷ (s ++ quote ∷ [])
 
--- a comparator's mark
+-- a comparator's sign
 unfoldable pub signOf : Comparator → List ℕ
 signOf Equal = bytes "=="
 signOf NotEqual = bytes "!="
