@@ -33,6 +33,7 @@ pub record Read : Type 0 where
   pub actions : List Word
   pub tests : List Test
 
+-- both, where both are there
 abbrev pub together : Option (List Word) → Option (List Test) → Option Read
 together none ts = none
 together (some acts) none = none

@@ -48,7 +48,7 @@ unfoldable pub firstRefusal : List ℕ → List ℕ → List Request → ℕ
 firstRefusal text table [] = 0
 firstRefusal text table (q ∷ qs) = unless (requestRefusal text table q) (firstRefusal text table qs) (λ n. n)
 
--- ---- the counts
+-- ---- the counts: eight groups, one for each request, and behind them their sums
 
 abbrev pub groupCount : ℕ
 groupCount = 8
