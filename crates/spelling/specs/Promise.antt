@@ -1,0 +1,29 @@
+-- What is promised of printed policies: read again, they say themselves. Definitions only.
+use mathlib.Core.Path.{_≡_}
+use mathlib.Core.List.{List, [], map}
+use Prim.Native.Nat.{ℕ}
+use Rattle.grammar.specs.Policies.{Policy, PolicyOf}
+use Rattle.grammar.specs.Grammar.{SaysPolicies}
+use Rattle.placing.specs.Said.{Word, wordsOf}
+use Rattle.spelling.specs.Layout.{Written, laidOut, WellWritten}
+use Rattle.spelling.specs.Printed.{plainly, policiesTokens, printedText}
+use Rattle.spelling.specs.Printable.{PrintablePolicies}
+
+-- A text says policies with these words.
+pub record SaysWords (text : List ℕ) (ws : List (PolicyOf Word)) : Type 0 where
+  pub policies : List Policy
+  pub says : SaysPolicies text policies
+  pub words : wordsOf text policies ≡ ws
+
+-- Policies that keep the limits, printed with any blanks that keep their tokens apart, are read as these policies.
+unfoldable pub PrintedIsSaid : Type 0
+PrintedIsSaid = (xs : List Written) (ws : List (PolicyOf Word)) → PrintablePolicies ws → map plainly xs ≡ policiesTokens ws → WellWritten xs []
+    → SaysWords (laidOut xs) ws
+
+-- So they are where single blanks stand between their tokens.
+unfoldable pub SpacedIsSaid : Type 0
+SpacedIsSaid = (ws : List (PolicyOf Word)) → PrintablePolicies ws → SaysWords (printedText ws) ws
+
+-- And what a text says keeps the limits, so that it can be printed.
+unfoldable pub SaidIsPrintable : Type 0
+SaidIsPrintable = (text : List ℕ) (ps : List Policy) → SaysPolicies text ps → PrintablePolicies (wordsOf text ps)
