@@ -10,27 +10,29 @@ use lib.ListN.{length, drop, length-append}
 use lib.Seq.{take-append-seam, drop-drop}
 use borrow.Author.Tests.{eq-eqb, le-leb, lt-ltb}
 use Rattle.slices.specs.Ascii.{bytes}
+use Rattle.slices.specs.Same.{same}
 use Rattle.tokens.specs.Blanks.{unblanked}
 use Rattle.tokens.specs.Kinds as kinds
-use Rattle.tokens.specs.Forms.{All, quote, digits}
+use Rattle.tokens.specs.Forms.{All, empty, next, quote, digits}
 use Rattle.tokens.specs.declared.classes.Sort.the-variants.{Blanks}
+use Rattle.tokens.proofs.Opened.{tokens-opened}
 use Rattle.reading.specs.Lexemes.{Lexeme, is, size}
 use Rattle.reading.specs.Reads.{Reading, Chain, Chain.alone, Chain.more, Onto.onto, Before, After}
 use Rattle.grammar.specs.Policies.{Comparator.Equal, Comparator.NotEqual, Comparator.More, Comparator.AtLeast, Comparator.Less, Comparator.AtMost}
 use Rattle.grammar.specs.Policies.{Span, span, Root, Root.Principal, Root.Resource, Root.Env, Root.Action, Comparator, LiteralOf, Literal, text, number}
 use Rattle.grammar.specs.Policies.{attribute, literal, TreeOf, Tree}
-use Rattle.grammar.specs.Policies.{OperandOf, Operand, compare, within, both, PartOf, any, pinned, ActionsOf, oneOf, PolicyOf}
+use Rattle.grammar.specs.Policies.{OperandOf, Operand, compare, within, has, both, PartOf, any, pinned, ActionsOf, oneOf, PolicyOf}
 use Rattle.grammar.specs.Rules.{isRoot, rootOf, isLiteral, literalOf, isComparator, comparatorOf, admitted, isEffect, spanOf, principalTypes}
-use Rattle.grammar.specs.Grammar.{sizes, Path, APath, rooted, Attribute, AnOperand, given, Element, element, Listing, Simple, comparison, held, Joined}
+use Rattle.grammar.specs.Grammar.{sizes, Path, spanned, APath, rooted, Attribute, AnOperand, given, Element, element, Listing, Simple, comparison, held, having, Joined}
 use Rattle.grammar.specs.Grammar.{Condition, Conjunction, Conditions}
 use Rattle.grammar.specs.Grammar.{Typed, ResourceRest, ActionRest, When, PolicyRest}
 use Rattle.grammar.specs.Grammar as grammar
-use Rattle.placing.specs.Placed.{bytesAt, quotedAt, unblankedAt}
+use Rattle.placing.specs.Placed.{bytesAt, quotedAt, unblankedAt, IsName, a-name}
 use Rattle.placing.specs.Said.{Word, literalWords, listWords, operandWords, treeWords, partWords, actionWords, conditionWords, policyWords, wordsOf}
 use Rattle.placing.proofs.Paths.{unblanked-append, unblanked-blanks, unblanked-name, lone-dot}
 use Rattle.spelling.specs.Layout.{Written, written, laidOut, readAs, lexemeOf, standing}
 use Rattle.spelling.specs.Printing.{HasAt, OfKind, PrintsAt, Prints, PrintsLiteral, PrintsList, PrintsPath, markKind, rootKind}
-use Rattle.spelling.specs.Printing.{effectKind, RootedPath, rootedWords, PrintsText}
+use Rattle.spelling.specs.Printing.{effectKind, pathWords, RootedPath, rootedWords, PrintsText}
 use Rattle.spelling.specs.Printing as printing
 use Rattle.spelling.specs.Marks.{quoted, markOf}
 use Rattle.spelling.proofs.Laid.{read-fitting}
@@ -188,6 +190,34 @@ path-says {b} {xs} t at k h =
     leading (printing.PrintsPath.first a i) = a
     leading (printing.PrintsPath.more k e f i) = leading k
 
+-- a path after any root but the action's
+pub prints-path : {root : Root} {b : List ℕ} {xs : List Written} {p : Word} → (root ≡ Action → ⊥) → PrintsPath b xs p → length p ≤ 64
+    → Prints (APath sizes root) pathWords xs p
+prints-path {b = b} {xs = xs} {p = p} n k h =
+    record { anywhere = λ at r. record { what = pathFrom at b xs p; reads = path-read n k h at r; says = λ t q. path-says t at k q } }
+
+-- the action's one path
+name-word : IsName (bytes "name")
+unfolding tokens-opened
+name-word = a-name refl (next refl (next refl (next refl empty))) refl
+
+pub prints-name : {b : List ℕ} → All Blanks b → Prints (APath sizes Action) pathWords (written b kinds.name (bytes "name") ∷ []) (bytes "name")
+unfolding standing laidOut readAs admitted same
+prints-name {b} a = record { anywhere = go }
+  where
+    y : Written
+    y = written b kinds.name (bytes "name")
+
+    go : (at : ℕ) (r : List Lexeme) → PrintsAt (APath sizes Action) pathWords (y ∷ []) (bytes "name") at r
+    go at r = record {
+      what = pathFrom at b (y ∷ []) (bytes "name");
+      reads =
+          subst (APath sizes Action (lexemeOf at y ∷ r) r)
+          (paths-same (at + length b) (omega (arith, length-append b (bytes "name"))) (omega arith))
+          (alone (grammar.FirstName.first refl refl));
+      says = λ t q. path-says t at (printing.PrintsPath.first a name-word) q;
+    }
+
 -- a root's word
 root-is : (root : Root) (x : Lexeme) → x .kind ≡ rootKind root → (isRoot x ≡ true) × (rootOf x ≡ root)
 unfolding rootKind rootOf
@@ -196,26 +226,53 @@ root-is Resource x e = (rw e, rw e)
 root-is Env x e = (rw e, rw e)
 root-is Action x e = (rw e, rw e)
 
--- an attribute: a root's word, a dot, and a path; of the action there is another one only
+module _ {root : Root} {x y : Written} {xs : List Written} {p : Word} (e : OfKind (rootKind root) x) (k : Prints (APath sizes root) pathWords xs p) where
+  -- an attribute: a root's word, a dot, and a path
+  pub prints-rooted : OfKind kinds.dot y → Prints RootedPath rootedWords (x ∷ y ∷ xs) (root, p)
+  unfolding standing
+  prints-rooted f = record { anywhere = go }
+    where
+      go : (at : ℕ) (r : List Lexeme) → PrintsAt RootedPath rootedWords (x ∷ y ∷ xs) (root, p) at r
+      go at r =
+          let start = at + length (x .blanks) + length (x .bytes) + length (y .blanks) + length (y .bytes) in
+          let lead = lexemeOf at x in
+          let is-root = root-is root lead (e .read-as) in
+          let here = k .anywhere start r in
+          let path : APath sizes (rootOf lead) (standing start xs ++ r) r (here .what) =
+          subst (λ (s : Root). APath sizes s (standing start xs ++ r) r (here .what)) (sym (is-root .1)) (here .reads) in
+          let whole : Attribute sizes (standing at (x ∷ y ∷ xs) ++ r) r (attribute (rootOf lead) (spanned (here .what))) =
+          rooted (is-root .0) (f .read-as) path in
+          record {
+            what = (root, spanned (here .what));
+            reads = rw (is-root .1) at whole;
+            says = λ t q. ap (λ (w : Word). (root, w)) (here .says t (has-behind y xs (has-behind x (y ∷ xs) q)));
+          }
+
+  -- a root's word, `has` and a path
+  pub prints-presence : OfKind kinds.hasWord y → Prints (Simple sizes) treeWords (x ∷ y ∷ xs) (has root p)
+  unfolding standing treeWords
+  prints-presence f = record { anywhere = go }
+    where
+      go : (at : ℕ) (r : List Lexeme) → PrintsAt (Simple sizes) treeWords (x ∷ y ∷ xs) (has root p) at r
+      go at r =
+          let start = at + length (x .blanks) + length (x .bytes) + length (y .blanks) + length (y .bytes) in
+          let lead = lexemeOf at x in
+          let is-root = root-is root lead (e .read-as) in
+          let here = k .anywhere start r in
+          let path : APath sizes (rootOf lead) (standing start xs ++ r) r (here .what) =
+          subst (λ (s : Root). APath sizes s (standing start xs ++ r) r (here .what)) (sym (is-root .1)) (here .reads) in
+          let whole : Simple sizes (standing at (x ∷ y ∷ xs) ++ r) r (has (rootOf lead) (spanned (here .what))) =
+          having (is-root .0) (f .read-as) path in
+          record {
+            what = has root (spanned (here .what));
+            reads = rw (is-root .1) at whole;
+            says = λ t q. ap (has root) (here .says t (has-behind y xs (has-behind x (y ∷ xs) q)));
+          }
+
+-- an attribute of another root than the action
 pub prints-attribute : {root : Root} {x d : Written} {b : List ℕ} {xs : List Written} {p : Word} → (root ≡ Action → ⊥) → OfKind (rootKind root) x
     → OfKind kinds.dot d → PrintsPath b xs p → length p ≤ 64 → Prints RootedPath rootedWords (x ∷ d ∷ xs) (root, p)
-unfolding standing
-prints-attribute {root} {x} {d} {b} {xs} {p} n e f k h = record { anywhere = go }
-  where
-    go : (at : ℕ) (r : List Lexeme) → PrintsAt RootedPath rootedWords (x ∷ d ∷ xs) (root, p) at r
-    go at r =
-        let start = at + length (x .blanks) + length (x .bytes) + length (d .blanks) + length (d .bytes) in
-        let lead = lexemeOf at x in
-        let is-root = root-is root lead (e .read-as) in
-        let path : APath sizes (rootOf lead) (standing start xs ++ r) r (pathFrom start b xs p) =
-        subst (λ (s : Root). APath sizes s (standing start xs ++ r) r (pathFrom start b xs p)) (sym (is-root .1)) (path-read n k h start r) in
-        let whole : Attribute sizes (standing at (x ∷ d ∷ xs) ++ r) r (attribute (rootOf lead) (span (start + length b) (past start xs))) =
-        rooted (is-root .0) (f .read-as) path in
-        record {
-          what = (root, span (start + length b) (past start xs));
-          reads = rw (is-root .1) at whole;
-          says = λ t q. ap (λ (w : Word). (root, w)) (path-says t start k (has-behind d xs (has-behind x (d ∷ xs) q)));
-        }
+prints-attribute n e f k h = prints-rooted e (prints-path n k h) f
 
 -- an attribute is an operand
 pub prints-given : {xs : List Written} {root : Root} {p : Word} → Prints RootedPath rootedWords xs (root, p)

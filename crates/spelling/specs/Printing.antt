@@ -15,7 +15,7 @@ use Rattle.grammar.specs.Policies.{Span, Root, Root.Principal, Root.Resource, R
 use Rattle.grammar.specs.Policies.{Which}
 use Rattle.grammar.specs.Policies as policies
 use Rattle.grammar.specs.Rules.{literalOf}
-use Rattle.grammar.specs.Grammar.{Attribute, RuleText, sizes}
+use Rattle.grammar.specs.Grammar.{Path, spanned, Attribute, RuleText, sizes}
 use Rattle.placing.specs.Placed.{unblankedAt, IsName}
 use Rattle.placing.specs.Said.{Word, literalWords, wordsOf}
 use Rattle.spelling.specs.Layout.{Written, written, laidOut, readAs, lexemeOf, standing}
@@ -84,6 +84,10 @@ truthKind false = kinds.falseWord
 unfoldable pub callKind : Which → ℕ
 callKind policies.Which.All = kinds.containsAllWord
 callKind policies.Which.Any = kinds.containsAnyWord
+
+-- the words of a path
+abbrev pub pathWords : List ℕ → Path → Word
+pathWords t p = unblankedAt t (spanned p)
 
 -- an attribute by its root and its path, and its words
 abbrev pub RootedPath : Reading (Root × Span)
