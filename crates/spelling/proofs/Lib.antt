@@ -9,3 +9,5 @@ pub mod Texts
 pub mod Fixed
 pub mod Printing
 pub mod Productions
+pub mod Conditions
+pub mod Policies

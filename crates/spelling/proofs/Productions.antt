@@ -43,7 +43,7 @@ use Rattle.spelling.proofs.Printing.{laid-append, prints-onto, prints-l
 -- ---- literals
 
 -- a string between its quotes
-string-bytes : (t : List ℕ) (start : ℕ) (s : List ℕ) → HasAt t start (quoted s) → quotedAt t (span start (start + length (quoted s))) ≡ s
+pub string-bytes : (t : List ℕ) (start : ℕ) (s : List ℕ) → HasAt t start (quoted s) → quotedAt t (span start (start + length (quoted s))) ≡ s
 string-bytes t start s h =
     let size : start + length (quoted s) - start - 2 ≡ length s = omega (arith, length-append s (quote ∷ [])) in
     let here : drop (start + 1) t ≡ s ++ (quote ∷ h .rest) =
@@ -55,7 +55,7 @@ own-bytes : (t : List ℕ) (start : ℕ) (p : List ℕ) → HasAt t start p → 
 own-bytes t start p h = let size : start + length p - start ≡ length p = omega arith in rw (size, h .is) (take-append-seam p (h .rest))
 
 -- a string within its size
-string-fits : (s : List ℕ) → length s ≤ 127 → readAs kinds.string (quoted s) ≡ kinds.string
+pub string-fits : (s : List ℕ) → length s ≤ 127 → readAs kinds.string (quoted s) ≡ kinds.string
 string-fits s h = read-fitting kinds.string (quoted s) (omega (arith, length-append s (quote ∷ [])))
 
 -- a string, and a number
@@ -95,7 +95,7 @@ abbrev pathFrom : ℕ → List ℕ → List Written → Word → Path
 pathFrom at b xs p = record { start = at + length b; end = past at xs; used = length p }
 
 -- a name within its size
-name-fits : (n : Word) → length n ≤ 64 → readAs kinds.name n ≡ kinds.name
+pub name-fits : (n : Word) → length n ≤ 64 → readAs kinds.name n ≡ kinds.name
 name-fits n h = read-fitting kinds.name n h
 
 -- any root but the action's takes any path of at most 64 bytes
@@ -227,47 +227,40 @@ root-is Env x e = (rw e, rw e)
 root-is Action x e = (rw e, rw e)
 
 module _ {root : Root} {x y : Written} {xs : List Written} {p : Word} (e : OfKind (rootKind root) x) (k : Prints (APath sizes root) pathWords xs p) where
-  -- an attribute: a root's word, a dot, and a path
-  pub prints-rooted : OfKind kinds.dot y → Prints RootedPath rootedWords (x ∷ y ∷ xs) (root, p)
+  -- a root's word, a token of the kind s, and a path
+  prints-after-root : {A B : Type 0} {R : Reading A} {words : List ℕ → A → B} (f : Root → Span → A) (g : Root → Word → B) {s : ℕ}
+      → ((t : List ℕ) (c : Span) → words t (f root c) ≡ g root (unblankedAt t c))
+      → ((l m : Lexeme) (i r : List Lexeme) (q : Path) → isRoot l ≡ true → m .kind ≡ s → APath sizes (rootOf l) i r q
+      → R (l ∷ m ∷ i) r (f (rootOf l) (spanned q)))
+      → OfKind s y → Prints R words (x ∷ y ∷ xs) (g root p)
   unfolding standing
-  prints-rooted f = record { anywhere = go }
+  prints-after-root {R = R} {words = words} f g {s} said read u = record { anywhere = go }
     where
-      go : (at : ℕ) (r : List Lexeme) → PrintsAt RootedPath rootedWords (x ∷ y ∷ xs) (root, p) at r
+      go : (at : ℕ) (r : List Lexeme) → PrintsAt R words (x ∷ y ∷ xs) (g root p) at r
       go at r =
-          let start = at + length (x .blanks) + length (x .bytes) + length (y .blanks) + length (y .bytes) in
+          let next = at + length (x .blanks) + length (x .bytes) in
+          let start = next + length (y .blanks) + length (y .bytes) in
           let lead = lexemeOf at x in
           let is-root = root-is root lead (e .read-as) in
           let here = k .anywhere start r in
           let path : APath sizes (rootOf lead) (standing start xs ++ r) r (here .what) =
-          subst (λ (s : Root). APath sizes s (standing start xs ++ r) r (here .what)) (sym (is-root .1)) (here .reads) in
-          let whole : Attribute sizes (standing at (x ∷ y ∷ xs) ++ r) r (attribute (rootOf lead) (spanned (here .what))) =
-          rooted (is-root .0) (f .read-as) path in
+          subst (λ (o : Root). APath sizes o (standing start xs ++ r) r (here .what)) (sym (is-root .1)) (here .reads) in
           record {
-            what = (root, spanned (here .what));
-            reads = rw (is-root .1) at whole;
-            says = λ t q. ap (λ (w : Word). (root, w)) (here .says t (has-behind y xs (has-behind x (y ∷ xs) q)));
+            what = f root (spanned (here .what));
+            reads =
+                subst (λ (o : Root). R (standing at (x ∷ y ∷ xs) ++ r) r (f o (spanned (here .what)))) (is-root .1)
+                (read lead (lexemeOf next y) (standing start xs ++ r) r (here .what) (is-root .0) (u .read-as) path);
+            says = λ t q. said t (spanned (here .what)) ∙ ap (g root) (here .says t (has-behind y xs (has-behind x (y ∷ xs) q)));
           }
 
-  -- a root's word, `has` and a path
+  -- an attribute: with a dot between
+  pub prints-rooted : OfKind kinds.dot y → Prints RootedPath rootedWords (x ∷ y ∷ xs) (root, p)
+  prints-rooted = prints-after-root (λ o c. (o, c)) (λ o w. (o, w)) (λ t c. refl) (λ l m i r q. rooted)
+
+  -- with `has` between
   pub prints-presence : OfKind kinds.hasWord y → Prints (Simple sizes) treeWords (x ∷ y ∷ xs) (has root p)
-  unfolding standing treeWords
-  prints-presence f = record { anywhere = go }
-    where
-      go : (at : ℕ) (r : List Lexeme) → PrintsAt (Simple sizes) treeWords (x ∷ y ∷ xs) (has root p) at r
-      go at r =
-          let start = at + length (x .blanks) + length (x .bytes) + length (y .blanks) + length (y .bytes) in
-          let lead = lexemeOf at x in
-          let is-root = root-is root lead (e .read-as) in
-          let here = k .anywhere start r in
-          let path : APath sizes (rootOf lead) (standing start xs ++ r) r (here .what) =
-          subst (λ (s : Root). APath sizes s (standing start xs ++ r) r (here .what)) (sym (is-root .1)) (here .reads) in
-          let whole : Simple sizes (standing at (x ∷ y ∷ xs) ++ r) r (has (rootOf lead) (spanned (here .what))) =
-          having (is-root .0) (f .read-as) path in
-          record {
-            what = has root (spanned (here .what));
-            reads = rw (is-root .1) at whole;
-            says = λ t q. ap (has root) (here .says t (has-behind y xs (has-behind x (y ∷ xs) q)));
-          }
+  unfolding treeWords
+  prints-presence = prints-after-root has has (λ t c. refl) (λ l m i r q. having)
 
 -- an attribute of another root than the action
 pub prints-attribute : {root : Root} {x d : Written} {b : List ℕ} {xs : List Written} {p : Word} → (root ≡ Action → ⊥) → OfKind (rootKind root) x
@@ -485,7 +478,7 @@ prints-policy {permits} {ps} {os} {rs} {cs} {p} {s} {a} {c} k₁ k₂ k₃ k₄ 
         }
 
 -- an effect's word
-effect-is : (permits : Bool) (x : Lexeme) → x .kind ≡ effectKind permits → (isEffect x ≡ true) × (is kinds.permitWord x ≡ permits)
+pub effect-is : (permits : Bool) (x : Lexeme) → x .kind ≡ effectKind permits → (isEffect x ≡ true) × (is kinds.permitWord x ≡ permits)
 unfolding effectKind
 effect-is true x e = (rw e, rw e)
 effect-is false x e = (rw e, rw e)
