@@ -20,7 +20,7 @@ use Rattle.placing.specs.Said.{Word, literalWords, listWords, operandWords, tre
 use Rattle.spelling.specs.Layout.{Written, written, laidOut, lexemeOf, standing}
 use Rattle.spelling.specs.Printing.{PrintsAt, Prints, OfKind, PrintsLiteral, truthKind, callKind, RootedPath, rootedWords}
 use Rattle.spelling.specs.Marks.{quoted}
-use Rattle.spelling.proofs.Printing.{past, standing-then, has-first, has-then, has-token, has-last, pastToken, tokens-around, prints-led, prints-then}
+use Rattle.spelling.proofs.Printing.{past, standing-then, has-first, has-then, has-token, has-last, pastToken, tokens-around, prints-led, Twice, twiceWords}
 use Rattle.spelling.proofs.Printing.{prints-around, prints-before}
 use Rattle.spelling.proofs.Productions.{string-bytes, string-fits, prints-joined}
 
@@ -133,13 +133,14 @@ module _ {Inner : Reading Tree} where
   prints-brackets e p = prints-led brackets brackets (λ t a. refl) p e (λ y i r a. bracketed)
 
   -- `if`, with what is before `then`, what is before `else`, and the rest
-  pub prints-choice : {x : Written} {xs ys zs : List Written} {c a b : TreeOf Word} → OfKind kinds.ifWord x
-      → Prints (Before kinds.thenWord Inner) treeWords xs c → Prints (Before kinds.elseWord Inner) treeWords ys a
-      → Prints Inner treeWords zs b → Prints (ConditionOver sizes Inner) treeWords (x ∷ (xs ++ (ys ++ zs))) (choice c a b)
+  pub prints-choice : {x : Written} {xs : List Written} {c a b : TreeOf Word} → OfKind kinds.ifWord x
+      → Prints (Twice (Before kinds.thenWord Inner) (Twice (Before kinds.elseWord Inner) Inner)) (twiceWords treeWords (twiceWords treeWords treeWords)) xs (c, (a, b))
+      → Prints (ConditionOver sizes Inner) treeWords (x ∷ xs) (choice c a b)
   unfolding treeWords
-  prints-choice e p q s =
+  prints-choice e p =
       prints-led (λ (a : Tree × (Tree × Tree)). choice (a .0) (a .1 .0) (a .1 .1))
-      (λ (a : TreeOf Word × (TreeOf Word × TreeOf Word)). choice (a .0) (a .1 .0) (a .1 .1)) (λ t a. refl) (prints-then p (prints-then q s)) e (λ y i r a h k. conditional h (k .first) (k .second .first) (k .second .second))
+      (λ (a : TreeOf Word × (TreeOf Word × TreeOf Word)). choice (a .0) (a .1 .0) (a .1 .1)) (λ t a. refl) p e
+      (λ y i r a h k. conditional h (k .first) (k .second .first) (k .second .second))
 
 -- joined by `||`
 pub prints-either : {C : Reading Tree} {xs ys : List Written} {x : Written} {a b : TreeOf Word} → Prints (Disjunction C) treeWords xs a → OfKind kinds.or x

@@ -11,3 +11,4 @@ pub mod Printing
 pub mod Productions
 pub mod Conditions
 pub mod Policies
+pub mod Plain

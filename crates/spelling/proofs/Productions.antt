@@ -21,7 +21,7 @@ use Rattle.reading.specs.Reads.{Reading, Chain, Chain.alone, Chain.more, Onto.o
 use Rattle.grammar.specs.Policies.{Comparator.Equal, Comparator.NotEqual, Comparator.More, Comparator.AtLeast, Comparator.Less, Comparator.AtMost}
 use Rattle.grammar.specs.Policies.{Span, span, Root, Root.Principal, Root.Resource, Root.Env, Root.Action, Comparator, LiteralOf, Literal, text, number}
 use Rattle.grammar.specs.Policies.{attribute, literal, TreeOf, Tree}
-use Rattle.grammar.specs.Policies.{OperandOf, Operand, compare, within, has, both, PartOf, any, pinned, ActionsOf, oneOf, PolicyOf}
+use Rattle.grammar.specs.Policies.{OperandOf, Operand, compare, within, has, both, PartOf, Part, any, pinned, ActionsOf, Actions, oneOf, PolicyOf}
 use Rattle.grammar.specs.Rules.{isRoot, rootOf, isLiteral, literalOf, isComparator, comparatorOf, admitted, isEffect, spanOf, principalTypes}
 use Rattle.grammar.specs.Grammar.{sizes, Path, spanned, APath, rooted, Attribute, AnOperand, given, Element, element, Listing, Simple, comparison, held, having, Joined}
 use Rattle.grammar.specs.Grammar.{Condition, Conjunction, Conditions}
@@ -38,7 +38,7 @@ use Rattle.spelling.specs.Marks.{quoted, markOf}
 use Rattle.spelling.proofs.Laid.{read-fitting}
 use Rattle.spelling.proofs.Fixed.{isFixed, written-opened}
 use Rattle.spelling.proofs.Printing.{past, standing-then, has-right, has-first, has-then, has-token, has-behind, pastToken, tokens-around, has-last}
-use Rattle.spelling.proofs.Printing.{laid-append, prints-onto, prints-led, prints-around, prints-before, prints-after, prints-as}
+use Rattle.spelling.proofs.Printing.{laid-append, prints-onto, prints-led, prints-around, prints-before, prints-after, prints-as, Twice, twiceWords, prints-then}
 
 -- ---- literals
 
@@ -439,7 +439,27 @@ pub prints-when : {x : Written} {xs : List Written} {c : TreeOf Word} → OfKind
 unfolding standing conditionWords
 prints-when e p = prints-led (λ a. some a) (λ a. some a) (λ t a. refl) p e (λ y i r a. grammar.When.braces)
 
--- a policy behind its effect: the three parts of its target, and its condition
+-- the three parts of a policy's target, and its condition, one behind the other
+abbrev pub PolicyParts : Reading (Part × (Actions × (Part × Option Tree)))
+PolicyParts =
+    Twice (After kinds.leftRound (After kinds.principalWord (Before kinds.comma (Typed principalTypes))))
+    (Twice (After kinds.actionWord (Before kinds.comma (ActionRest sizes)))
+    (Twice (After kinds.resourceWord (Before kinds.rightRound ResourceRest)) (Before kinds.semicolon (When sizes))))
+
+abbrev pub partsWords : List ℕ → Part × (Actions × (Part × Option Tree)) → PartOf Word × (ActionsOf Word × (PartOf Word × Option (TreeOf Word)))
+partsWords = twiceWords partWords (twiceWords actionWords (twiceWords partWords conditionWords))
+
+-- a policy behind its effect
+pub prints-parts : {permits : Bool} {xs : List Written} {p s : PartOf Word} {a : ActionsOf Word} {c : Option (TreeOf Word)}
+    → Prints PolicyParts partsWords xs (p, (a, (s, c)))
+    → Prints (PolicyRest sizes permits) policyWords xs (record { permits = permits; principal = p; action = a; resource = s; condition = c })
+prints-parts {permits} k = prints-onto (made Span) (made Word) (λ t a. refl) k
+    (λ i r a h. grammar.PolicyRest.rest (h .first) (h .second .first) (h .second .second .first) (h .second .second .second))
+  where
+    made : (W : Type 0) → PartOf W × (ActionsOf W × (PartOf W × Option (TreeOf W))) → PolicyOf W
+    made W a = record { permits = permits; principal = a .0; action = a .1 .0; resource = a .1 .1 .0; condition = a .1 .1 .1 }
+
+-- by each of them
 pub prints-policy : {permits : Bool} {ps os rs cs : List Written} {p s : PartOf Word} {a : ActionsOf Word} {c : Option (TreeOf Word)}
     → Prints (After kinds.leftRound (After kinds.principalWord (Before kinds.comma (Typed principalTypes)))) partWords ps p
     → Prints (After kinds.actionWord (Before kinds.comma (ActionRest sizes))) actionWords os a
@@ -447,35 +467,7 @@ pub prints-policy : {permits : Bool} {ps os rs cs : List Written} {p s : PartOf 
     → Prints (Before kinds.semicolon (When sizes)) conditionWords cs c
     → Prints (PolicyRest sizes permits) policyWords (ps ++ (os ++ (rs ++ cs)))
     (record { permits = permits; principal = p; action = a; resource = s; condition = c })
-prints-policy {permits} {ps} {os} {rs} {cs} {p} {s} {a} {c} k₁ k₂ k₃ k₄ = record { anywhere = go }
-  where
-    policy : PolicyOf Word
-    policy = record { permits = permits; principal = p; action = a; resource = s; condition = c }
-
-    go : (at : ℕ) (r : List Lexeme) → PrintsAt (PolicyRest sizes permits) policyWords (ps ++ (os ++ (rs ++ cs))) policy at r
-    go at r =
-        let two = past at ps in
-        let three = past two os in
-        let four = past three rs in
-        let h₄ = k₄ .anywhere four r in
-        let h₃ = k₃ .anywhere three (standing four cs ++ r) in
-        let h₂ = k₂ .anywhere two (standing three rs ++ (standing four cs ++ r)) in
-        let h₁ = k₁ .anywhere at (standing two os ++ (standing three rs ++ (standing four cs ++ r))) in
-        let parts : standing at (ps ++ (os ++ (rs ++ cs))) ++ r ≡ standing at ps ++ (standing two os ++ (standing three rs ++ (standing four cs ++ r))) =
-        rw (standing-then at ps (os ++ (rs ++ cs)) r, standing-then two os (rs ++ cs) r, standing-then three rs cs r) in
-        record {
-          what = record { permits = permits; principal = h₁ .what; action = h₂ .what; resource = h₃ .what; condition = h₄ .what };
-          reads = rw parts (grammar.PolicyRest.rest (h₁ .reads) (h₂ .reads) (h₃ .reads) (h₄ .reads));
-          says = λ t h.
-              let b₂ = has-then ps (os ++ (rs ++ cs)) h in
-              let b₃ = has-then os (rs ++ cs) b₂ in
-              rw (
-                h₁ .says t (has-first ps (os ++ (rs ++ cs)) h),
-                h₂ .says t (has-first os (rs ++ cs) b₂),
-                h₃ .says t (has-first rs cs b₃),
-                h₄ .says t (has-then rs cs b₃),
-              );
-        }
+prints-policy k₁ k₂ k₃ k₄ = prints-parts (prints-then k₁ (prints-then k₂ (prints-then k₃ k₄)))
 
 -- an effect's word
 pub effect-is : (permits : Bool) (x : Lexeme) → x .kind ≡ effectKind permits → (isEffect x ≡ true) × (is kinds.permitWord x ≡ permits)
