@@ -12,3 +12,4 @@ pub mod Productions
 pub mod Conditions
 pub mod Policies
 pub mod Plain
+pub mod Whole

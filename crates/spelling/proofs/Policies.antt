@@ -18,30 +18,22 @@ use Rattle.grammar.specs.Grammar as grammar
 use Rattle.placing.specs.Said.{Word, partWords, actionWords, conditionWords, policyWords, wordsOf}
 use Rattle.spelling.specs.Layout.{Written, written, laidOut, readAs, lexemeOf, standing}
 use Rattle.spelling.specs.Printing.{HasAt, OfKind, PrintsAt, Prints, effectKind, PrintsText}
-use Rattle.spelling.proofs.Laid.{read-fitting}
 use Rattle.spelling.proofs.Printing.{past, standing-append, standing-then, has-first, has-then, has-behind, prints-as}
-use Rattle.spelling.proofs.Productions.{name-fits, effect-is}
+use Rattle.spelling.proofs.Productions.{effect-is}
 
 -- ---- parts
 
 -- `is` and the name of a type
-pub prints-typed : {types : List (List ℕ)} {x : Written} {b : List ℕ} {m : Word} {n : ℕ} → OfKind kinds.isWord x → length m ≤ 64
-    → typeAmong types 1 m ≡ n → eqb n 0 ≡ false → Prints (Typed types) partWords (x ∷ written b kinds.name m ∷ []) (typed n)
+pub prints-typed : {types : List (List ℕ)} {x y : Written} {n : ℕ} → OfKind kinds.isWord x → OfKind kinds.name y → typeAmong types 1 (y .bytes) ≡ n
+    → eqb n 0 ≡ false → Prints (Typed types) partWords (x ∷ y ∷ []) (typed n)
 unfolding standing partWords
-prints-typed {types} {x} {b} {m} {n} e h k o = record { anywhere = go }
+prints-typed {types} {x} {y} {n} e f k o = record { anywhere = go }
   where
-    y : Written
-    y = written b kinds.name m
-
     go : (at : ℕ) (r : List Lexeme) → PrintsAt (Typed types) partWords (x ∷ y ∷ []) (typed n) at r
     go at r =
         let z = lexemeOf (at + length (x .blanks) + length (x .bytes)) y in
-        let one : isType types z ≡ true = rw (name-fits m h, k, o) in
-        record {
-          what = typed (typeOf types z);
-          reads = grammar.Typed.one (e .read-as) one;
-          says = λ t q. ap typed k;
-        }
+        let one : isType types z ≡ true = rw (f .read-as, k, o) in
+        record { what = typed (typeOf types z); reads = grammar.Typed.one (e .read-as) one; says = λ t q. ap typed k }
 
 -- a resource part that is bare, or `is` one of its types
 pub prints-sort : {xs : List Written} {p : PartOf Word} → Prints (Typed resourceTypes) partWords xs p → Prints ResourceRest partWords xs p

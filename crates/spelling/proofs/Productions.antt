@@ -95,7 +95,7 @@ abbrev pathFrom : ℕ → List ℕ → List Written → Word → Path
 pathFrom at b xs p = record { start = at + length b; end = past at xs; used = length p }
 
 -- a name within its size
-pub name-fits : (n : Word) → length n ≤ 64 → readAs kinds.name n ≡ kinds.name
+name-fits : (n : Word) → length n ≤ 64 → readAs kinds.name n ≡ kinds.name
 name-fits n h = read-fitting kinds.name n h
 
 -- any root but the action's takes any path of at most 64 bytes
@@ -357,7 +357,7 @@ list-words t [] ks = refl
 list-words t (l ∷ ls) ks = ap (λ (m : List (LiteralOf Word)). literalWords t l ∷ m) (list-words t ls ks)
 
 -- literals with commas between them, as they are read
-abbrev Elements : (Lexeme → Bool) → Reading (List Literal)
+abbrev pub Elements : (Lexeme → Bool) → Reading (List Literal)
 Elements sort = Chain (λ ls. is kinds.comma) (Element sizes sort []) (λ ls comma. Element sizes sort ls)
 
 -- what is read of them, as many as there are
@@ -395,12 +395,15 @@ list-read (printing.PrintsList.more {xs = xs} {c = c} {x = x} {ls = ls} {l = l} 
       many = length-append (before .printed .what) (literalOf y ∷ []) ∙ (let m = before .many in omega arith);
     }
 
--- a list of 1 to 16 literals in its brackets
+-- 1 to 16 literals
+pub prints-elements : {sort : Lexeme → Bool} {xs : List Written} {ls : List (LiteralOf Word)} → PrintsList sort xs ls → length ls ≤ 16
+    → Prints (Elements sort) listWords xs ls
+prints-elements k h = record { anywhere = λ at r. list-read k h at r .printed }
+
+-- in their brackets
 pub prints-list : {sort : Lexeme → Bool} {xs : List Written} {ls : List (LiteralOf Word)} {x y : Written} → OfKind kinds.leftSquare x → PrintsList sort xs ls
     → length ls ≤ 16 → OfKind kinds.rightSquare y → Prints (Listing sizes sort) listWords (x ∷ (xs ++ y ∷ [])) ls
-prints-list {sort} {xs} {ls} {x} {y} e k h f =
-    let inside : Prints (Elements sort) listWords xs ls = record { anywhere = λ at r. list-read k h at r .printed } in
-    prints-after (prints-before inside {x = y} f) {x = x} e
+prints-list {x = x} {y = y} e k h f = prints-after (prints-before (prints-elements k h) {x = y} f) {x = x} e
 
 -- ---- policies
 
