@@ -13,3 +13,4 @@ pub mod Conditions
 pub mod Policies
 pub mod Plain
 pub mod Whole
+pub mod Theorems

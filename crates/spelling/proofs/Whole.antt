@@ -1,4 +1,4 @@
--- Whole policies are printed as their tokens: words, conditions by their nesting, policies, texts. Assumes nothing.
+-- Words, lists and whole conditions are printed as their tokens: conditions by their nesting. Assumes nothing.
 use mathlib.Core.Path.{_≡_, refl, ap, _∙_, sym, subst}
 use mathlib.Core.Bool.{Bool, true, false, cond}
 use mathlib.Core.List.{List, [], _∷_, _++_, append-assoc, append-nil, map}
@@ -72,7 +72,7 @@ unfolding written-opened truthKind truthToken
 truth-token true = fixed refl
 truth-token false = fixed refl
 
-effect-token : (b : Bool) → FixedToken (effectKind b) (effectToken b)
+pub effect-token : (b : Bool) → FixedToken (effectKind b) (effectToken b)
 unfolding written-opened effectKind effectToken
 effect-token true = fixed refl
 effect-token false = fixed refl
@@ -193,7 +193,7 @@ printed-attribute {root} h = printed-behind (root-token root) dot-token (λ x y 
 -- ---- literals
 
 -- a literal of a sort is printed as its token
-record PrintedLiteral (sort : Lexeme → Bool) (l : LiteralOf Word) : Type 0 where
+pub record PrintedLiteral (sort : Lexeme → Bool) (l : LiteralOf Word) : Type 0 where
   prints : (b : List ℕ) → PrintsLiteral sort (written b (literalToken l .0) (literalToken l .1)) l
   formed : FormedToken (literalToken l)
 
@@ -203,7 +203,7 @@ printed-literal (of-string {s} h) = record { prints = λ b. string-literal (prin
 printed-literal (of-number {n} h) = record { prints = λ b. prints-number n (h .size); formed = record { form = a-number (h .form) } }
 printed-literal (of-truth {b}) = record { prints = λ c. prints-truth (kind-of c (truth-token b)); formed = truth-token b .formed }
 
-printed-action : {l : LiteralOf Word} → PrintableAction l → PrintedLiteral (is kinds.string) l
+pub printed-action : {l : LiteralOf Word} → PrintableAction l → PrintedLiteral (is kinds.string) l
 unfolding literalToken
 printed-action (of-action {s} h) = record { prints = λ b. prints-string s (h .size); formed = record { form = a-string (h .all) } }
 
@@ -233,7 +233,7 @@ module _ {sort : Lexeme → Bool} {P : LiteralOf Word → Type 0} (one : (l : Li
       go (and-laid {b = b} a k) = prints-elements (more-literals (printing.PrintsList.first (one l p .prints b)) h k) f
 
   -- in brackets
-  printed-list : {ls : List (LiteralOf Word)} → PrintableList P ls → PrintedAs (Listing sizes sort) listWords (listTokens ls) ls
+  pub printed-list : {ls : List (LiteralOf Word)} → PrintableList P ls → PrintedAs (Listing sizes sort) listWords (listTokens ls) ls
   unfolding written-opened
   printed-list h = printed-after (fixed refl) (printed-before (fixed refl) (printed-elements (h .each) (h .some) (h .few)))
 
@@ -316,7 +316,7 @@ printed-condition zero c h = printed-over {C = NoneDeeper} {R = Nothing} (λ a k
 printed-condition (suc d) c h = printed-over (printed-condition d) h
 
 -- in braces
-printed-when : {c : Option (TreeOf Word)} → PrintableWhen c → PrintedAs (When sizes) conditionWords (whenTokens c) c
+pub printed-when : {c : Option (TreeOf Word)} → PrintableWhen c → PrintedAs (When sizes) conditionWords (whenTokens c) c
 unfolding written-opened whenTokens
 printed-when without = record { laid = go; formed = none-left }
   where
