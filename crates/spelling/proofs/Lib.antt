@@ -14,3 +14,4 @@ pub mod Policies
 pub mod Plain
 pub mod Whole
 pub mod Theorems
+pub mod Back
