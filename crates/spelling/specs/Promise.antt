@@ -1,5 +1,6 @@
 -- What is promised of printed policies: read again, they say themselves. Definitions only.
 use mathlib.Core.Path.{_≡_}
+use mathlib.Core.Logic.{_↔_}
 use mathlib.Core.List.{List, [], map}
 use Prim.Native.Nat.{ℕ}
 use Rattle.grammar.specs.Policies.{Policy, PolicyOf}
@@ -27,3 +28,12 @@ SpacedIsSaid = (ws : List (PolicyOf Word)) → PrintablePolicies ws → SaysWord
 -- And what a text says keeps the limits, so that it can be printed.
 unfoldable pub SaidIsPrintable : Type 0
 SaidIsPrintable = (text : List ℕ) (ps : List Policy) → SaysPolicies text ps → PrintablePolicies (wordsOf text ps)
+
+-- Some text says policies with these words.
+pub record SaidSomewhere (ws : List (PolicyOf Word)) : Type 0 where
+  pub text : List ℕ
+  pub says : SaysWords text ws
+
+-- So the limits are kept by exactly the policies that some text says.
+unfoldable pub PrintableExactly : Type 0
+PrintableExactly = (ws : List (PolicyOf Word)) → PrintablePolicies ws ↔ SaidSomewhere ws
