@@ -1,34 +1,32 @@
 -- What a text says can be printed: its policies, by their words, keep the grammar and the limits. Assumes nothing.
-use mathlib.Core.Path.{_≡_, refl, ap, sym, subst}
+use mathlib.Core.Path.{_≡_, refl, ap, subst}
 use mathlib.Core.Bool.{Bool, true, false}
 use mathlib.Core.List.{List, [], _∷_, _++_, append-nil}
 use mathlib.Core.Option.{Option, none, some}
 use Prim.Native.Nat.{ℕ, zero, suc, _+_, _-_, _≤_, _<_}
 use native.Mathlib.Nat.{min-le-left}
 use native.Mathlib.Omega.{arith}
-use lib.ListN.{length, take, drop, length-take}
+use lib.ListN.{length, drop, length-take}
 use borrow.Author.Tests.{le-leb, lt-leb}
 use Rattle.tokens.specs.Bytes.{classOf}
-use Rattle.tokens.specs.Kinds as kinds
 use Rattle.tokens.specs.Runs.{isOf}
 use Rattle.tokens.specs.Forms.{All, empty, next, SomeDigits, digits-from, Unsigned, whole, Number, signless, digits}
 use Rattle.tokens.specs.Forms as forms
 use Rattle.tokens.specs.declared.classes.Sort.the-variants.{Digits as digitBytes}
 use Rattle.tokens.specs.Sizes.{mostInside}
-use Rattle.tokens.proofs.FormLaws.{some-all}
 use Rattle.tokens.proofs.Longest.{digits-append, digits-all}
 use Rattle.numbers.specs.Literals.{Digits, minus, pointed, IsNumber}
 use Rattle.numbers.specs.Literals as literals
 use Rattle.reading.specs.Lexemes.{Lexeme}
-use Rattle.reading.specs.Reads.{Reading, Chain.alone, Chain.more, Onto.onto, Before, Before.ended, After.begun}
-use Rattle.grammar.specs.Policies.{Root, Span, LiteralOf, Literal, Operand, TreeOf, Tree, both, either, Part, Actions, Policy}
+use Rattle.reading.specs.Reads.{Reading, Chain.alone, Chain.more, Onto.onto, Before.ended, After.begun}
+use Rattle.grammar.specs.Policies.{Root, Span, LiteralOf, Literal, Operand, TreeOf, Tree, both, Part, Actions, Policy}
 use Rattle.grammar.specs.Rules.{principalTypes, resourceTypes}
-use Rattle.grammar.specs.Grammar.{Limits, sizes, Simple, comparison, likeness, listed, held, call, having, Conjunction, Disjunction, ConditionOver, simple}
-use Rattle.grammar.specs.Grammar.{negation, bracketed, conditional, Nothing, Condition, When, PolicyRest, Policies, SaysPolicies}
+use Rattle.grammar.specs.Grammar.{sizes, Simple, comparison, likeness, listed, held, call, having, Conjunction, Disjunction, ConditionOver, simple}
+use Rattle.grammar.specs.Grammar.{negation, bracketed, conditional, Nothing, Condition, When, PolicyRest, Policies}
 use Rattle.grammar.specs.Grammar as grammar
 use Rattle.grammar.proofs.Exactly.{says-exactly}
 use Rattle.placing.specs.Placed.{quotedAt, Each, none-left, and-each, StringPlaced, LiteralPlaced, ActionPlaced, OperandPlaced, Listed, TreePlaced, PathPlaced}
-use Rattle.placing.specs.Placed.{PrincipalPlaced, ResourcePlaced, ActionsPlaced, ConditionPlaced, PolicyPlaced, PoliciesPlaced}
+use Rattle.placing.specs.Placed.{PrincipalPlaced, ResourcePlaced, ActionsPlaced, ConditionPlaced, PolicyPlaced}
 use Rattle.placing.specs.Placed as placed
 use Rattle.placing.specs.Said.{Word, literalWords, listWords, operandWords, treeWords, partWords, actionWords, conditionWords, policyWords, wordsOf}
 use Rattle.placing.proofs.EachLaws.{each-append, each-both}

@@ -1,10 +1,10 @@
 -- How further conditions are printed: true and false, `like`, `in` a list, calls, `!`, brackets, `if` and `||`. Assumes nothing.
-use mathlib.Core.Path.{_≡_, refl, ap, _∙_, subst}
+use mathlib.Core.Path.{_≡_, refl, ap}
 use mathlib.Core.Bool.{Bool, true, false}
-use mathlib.Core.List.{List, [], _∷_, _++_, append-assoc}
-use Prim.Native.Nat.{ℕ, suc, _+_, _-_, _≤_}
+use mathlib.Core.List.{List, [], _∷_, _++_}
+use Prim.Native.Nat.{ℕ, _+_, _-_, _≤_}
 use native.Mathlib.Omega.{arith}
-use lib.ListN.{length, take, length-append}
+use lib.ListN.{length, length-append}
 use lib.Seq.{take-append-seam}
 use Rattle.tokens.specs.Kinds as kinds
 use Rattle.tokens.specs.Forms.{quote}
@@ -13,15 +13,15 @@ use Rattle.reading.specs.Reads.{Reading, Before, After, After.begun}
 use Rattle.grammar.specs.Policies.{Span, Root, Which, LiteralOf, truth, OperandOf, TreeOf, Tree, constant, like, among, contains, not, brackets, either, choice}
 use Rattle.grammar.specs.Policies as policies
 use Rattle.grammar.specs.Rules.{inside, spanOf, isTruth, isLiteral, literalOf, isContains, whichOf, isPattern}
-use Rattle.grammar.specs.Grammar.{sizes, Attribute, AnOperand, Listing, Simple, likeness, listed, call, ConditionOver, negation, bracketed, conditional}
-use Rattle.grammar.specs.Grammar.{Condition, Conjunction, Disjunction}
+use Rattle.grammar.specs.Grammar.{sizes, AnOperand, Listing, Simple, likeness, listed, call, ConditionOver, negation, bracketed, conditional}
+use Rattle.grammar.specs.Grammar.{Conjunction, Disjunction}
 use Rattle.grammar.specs.Grammar as grammar
 use Rattle.placing.specs.Said.{Word, literalWords, listWords, operandWords, treeWords}
-use Rattle.spelling.specs.Layout.{Written, written, laidOut, lexemeOf, standing}
+use Rattle.spelling.specs.Layout.{Written, written, lexemeOf, standing}
 use Rattle.spelling.specs.Printing.{PrintsAt, Prints, OfKind, PrintsLiteral, truthKind, callKind, RootedPath, rootedWords}
 use Rattle.spelling.specs.Marks.{quoted}
-use Rattle.spelling.proofs.Printing.{past, standing-then, has-first, has-then, has-token, has-last, pastToken, tokens-around, prints-led, Twice, twiceWords}
-use Rattle.spelling.proofs.Printing.{prints-around, prints-before}
+use Rattle.spelling.proofs.Printing.{past, has-first, has-token, has-last, pastToken, tokens-around, prints-led, Twice, twiceWords}
+use Rattle.spelling.proofs.Printing.{prints-around}
 use Rattle.spelling.proofs.Productions.{string-bytes, string-fits, prints-joined}
 
 -- ---- true and false

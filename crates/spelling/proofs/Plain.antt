@@ -1,13 +1,12 @@
 -- Plain tokens that are written with any blanks before each, and what is printed as them however they are written so. Assumes nothing.
-use mathlib.Core.Path.{_≡_, refl, ap, sym, subst}
 use mathlib.Core.List.{List, [], _∷_, _++_, map}
 use Prim.Native.Nat.{ℕ}
-use Rattle.tokens.specs.Forms.{All, empty, next, Form}
+use Rattle.tokens.specs.Forms.{All}
 use Rattle.tokens.specs.declared.classes.Sort.the-variants.{Blanks}
 use Rattle.reading.specs.Reads.{Reading, Before, After}
 use Rattle.placing.specs.Placed.{Each, none-left, and-each}
 use Rattle.placing.proofs.EachLaws.{each-append}
-use Rattle.spelling.specs.Layout.{Written, written, laidOut, WellWritten, none, one}
+use Rattle.spelling.specs.Layout.{Written, written, WellWritten, none, one}
 use Rattle.spelling.specs.Printing.{OfKind, Prints}
 use Rattle.spelling.specs.Printed.{PlainToken, plainly}
 use Rattle.spelling.proofs.Fixed.{FormedToken, FixedToken}

@@ -1,8 +1,8 @@
 -- How further parts of a policy are printed: types, every action, no condition; and several policies as one text. Assumes nothing.
-use mathlib.Core.Path.{_≡_, refl, ap, _∙_, sym, subst}
+use mathlib.Core.Path.{_≡_, refl, ap, sym, subst}
 use mathlib.Core.Bool.{Bool, true, false}
 use mathlib.Core.List.{List, [], _∷_, _++_, append-assoc, append-nil}
-use mathlib.Core.Option.{Option, none}
+use mathlib.Core.Option.{none}
 use Prim.Native.Nat.{ℕ, suc, _+_, _≤_, _<_}
 use native.Mathlib.Omega.{arith}
 use lib.ListN.{length, length-append}
@@ -12,13 +12,13 @@ use Rattle.tokens.specs.Kinds as kinds
 use Rattle.tokens.specs.Sizes.{mostPolicies}
 use Rattle.reading.specs.Lexemes.{Lexeme, is}
 use Rattle.grammar.specs.Policies.{PartOf, typed, every, PolicyOf, Policy}
-use Rattle.grammar.specs.Rules.{isEffect, isType, typeOf, typeAmong, resourceTypes}
+use Rattle.grammar.specs.Rules.{isType, typeOf, typeAmong, resourceTypes}
 use Rattle.grammar.specs.Grammar.{sizes, Typed, ResourceRest, ActionRest, When, PolicyRest, Policies}
 use Rattle.grammar.specs.Grammar as grammar
 use Rattle.placing.specs.Said.{Word, partWords, actionWords, conditionWords, policyWords, wordsOf}
-use Rattle.spelling.specs.Layout.{Written, written, laidOut, readAs, lexemeOf, standing}
+use Rattle.spelling.specs.Layout.{Written, laidOut, lexemeOf, standing}
 use Rattle.spelling.specs.Printing.{HasAt, OfKind, PrintsAt, Prints, effectKind, PrintsText}
-use Rattle.spelling.proofs.Printing.{past, standing-append, standing-then, has-first, has-then, has-behind, prints-as}
+use Rattle.spelling.proofs.Printing.{past, standing-append, has-first, has-then, has-behind, prints-as}
 use Rattle.spelling.proofs.Productions.{effect-is}
 
 -- ---- parts

@@ -23,7 +23,7 @@ use Rattle.grammar.specs.Policies.{Span, span, Root, Root.Principal, Root.Resou
 use Rattle.grammar.specs.Policies.{attribute, literal, TreeOf, Tree}
 use Rattle.grammar.specs.Policies.{OperandOf, Operand, compare, within, has, both, PartOf, Part, any, pinned, ActionsOf, Actions, oneOf, PolicyOf}
 use Rattle.grammar.specs.Rules.{isRoot, rootOf, isLiteral, literalOf, isComparator, comparatorOf, admitted, isEffect, spanOf, principalTypes}
-use Rattle.grammar.specs.Grammar.{sizes, Path, spanned, APath, rooted, Attribute, AnOperand, given, Element, element, Listing, Simple, comparison, held, having, Joined}
+use Rattle.grammar.specs.Grammar.{sizes, Path, spanned, APath, rooted, AnOperand, given, Element, element, Listing, Simple, comparison, held, having, Joined}
 use Rattle.grammar.specs.Grammar.{Condition, Conjunction, Conditions}
 use Rattle.grammar.specs.Grammar.{Typed, ResourceRest, ActionRest, When, PolicyRest}
 use Rattle.grammar.specs.Grammar as grammar
@@ -37,7 +37,7 @@ use Rattle.spelling.specs.Printing as printing
 use Rattle.spelling.specs.Marks.{quoted, markOf}
 use Rattle.spelling.proofs.Laid.{read-fitting}
 use Rattle.spelling.proofs.Fixed.{isFixed, written-opened}
-use Rattle.spelling.proofs.Printing.{past, standing-then, has-right, has-first, has-then, has-token, has-behind, pastToken, tokens-around, has-last}
+use Rattle.spelling.proofs.Printing.{past, standing-then, has-right, has-first, has-token, has-behind, pastToken, tokens-around, has-last}
 use Rattle.spelling.proofs.Printing.{laid-append, prints-onto, prints-led, prints-around, prints-before, prints-after, prints-as, Twice, twiceWords, prints-then}
 
 -- ---- literals

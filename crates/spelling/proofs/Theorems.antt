@@ -1,7 +1,7 @@
 -- Policies that keep document 01's limits are printed as their tokens, and the text of these says them. Assumes nothing.
 use mathlib.Core.Path.{_≡_, refl, ap, subst}
-use mathlib.Core.Bool.{true, false}
-use mathlib.Core.List.{List, [], _∷_, _++_, map}
+use mathlib.Core.Bool.{false}
+use mathlib.Core.List.{List, [], _∷_, map}
 use Prim.Native.Nat.{ℕ, zero, suc, _-_, _≤_, _<_}
 use Prim.Native.Char.{code}
 use native.Mathlib.Omega.{arith}
@@ -24,7 +24,7 @@ use Rattle.spelling.specs.Marks.{quoted}
 use Rattle.spelling.specs.Printing.{Prints}
 use Rattle.spelling.specs.Printed.{PlainToken, plainly, effectToken, partTokens, actionTokens, restTokens, policiesTokens, spacedOut, printedText}
 use Rattle.spelling.specs.Printable.{PrintableTyped, of-any, of-type, PrintableResource, of-sort, of-pin, PrintableActions, of-every, of-some}
-use Rattle.spelling.specs.Printable.{PrintablePolicy, PrintablePolicies}
+use Rattle.spelling.specs.Printable.{PrintablePolicy}
 use Rattle.spelling.specs.Promise.{PrintedIsSaid, SpacedIsSaid}
 use Rattle.spelling.proofs.Apart.{calm-apart}
 use Rattle.spelling.proofs.Fixed.{written-opened, FormedToken, FixedToken, fixed}

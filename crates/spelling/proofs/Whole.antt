@@ -1,61 +1,54 @@
 -- Words, lists and whole conditions are printed as their tokens: conditions by their nesting. Assumes nothing.
-use mathlib.Core.Path.{_≡_, refl, ap, _∙_, sym, subst}
+use mathlib.Core.Path.{_≡_, refl, sym, subst}
 use mathlib.Core.Bool.{Bool, true, false, cond}
-use mathlib.Core.List.{List, [], _∷_, _++_, append-assoc, append-nil, map}
+use mathlib.Core.List.{List, [], _∷_, _++_, append-assoc, append-nil}
 use mathlib.Core.Option.{Option, none, some}
 use Prim.Native.Nat.{ℕ, zero, suc, _+_, _≤_, _<_}
 use Prim.Native.Char.{code}
 use native.Mathlib.Omega.{arith}
 use lib.Dec.{eqb}
-use lib.ListN.{length, getD}
+use lib.ListN.{length}
 use borrow.Author.Tests.{ne-eqb}
 use Rattle.slices.specs.Ascii.{bytes}
 use Rattle.tokens.specs.Bytes.{classOf}
 use Rattle.tokens.specs.Kinds as kinds
 use Rattle.tokens.specs.Runs.{isOf}
 use Rattle.tokens.specs.Forms.{All, empty, next, Form, a-word, a-string, a-number}
-use Rattle.tokens.specs.Sizes.{mostInside, mostPolicies}
-use Rattle.tokens.specs.declared.classes.Sort.the-variants.{Blanks, WordBytes}
+use Rattle.tokens.specs.Sizes.{mostInside}
+use Rattle.tokens.specs.declared.classes.Sort.the-variants.{WordBytes}
 use Rattle.reading.specs.Lexemes.{Lexeme, is}
-use Rattle.reading.specs.Reads.{Reading, Before, After}
-use Rattle.grammar.specs.Policies.{Root, Root.Principal, Root.Resource, Root.Env, Root.Action, Which, Comparator, LiteralOf, text, number, truth, OperandOf}
-use Rattle.grammar.specs.Policies.{attribute, literal, TreeOf, Tree, constant, like, both, either, PartOf, ActionsOf, PolicyOf}
+use Rattle.reading.specs.Reads.{Reading}
+use Rattle.grammar.specs.Policies.{Root, Root.Principal, Root.Resource, Root.Env, Root.Action, Which, Comparator, LiteralOf, OperandOf}
+use Rattle.grammar.specs.Policies.{literal, TreeOf, Tree, constant, like, both}
 use Rattle.grammar.specs.Policies as policies
-use Rattle.grammar.specs.Rules.{isLiteral, isPattern, principalTypes, resourceTypes, typeAmong}
-use Rattle.grammar.specs.Grammar.{sizes, APath, AnOperand, Listing, Simple, Joined, Conjunction, Disjunction, ConditionOver, Nothing, Condition, Conditions}
-use Rattle.grammar.specs.Grammar.{Typed, ResourceRest, ActionRest, When, PolicyRest}
+use Rattle.grammar.specs.Rules.{isLiteral, isPattern}
+use Rattle.grammar.specs.Grammar.{sizes, APath, AnOperand, Listing, Simple, Conjunction, Disjunction, ConditionOver, Nothing, Condition}
+use Rattle.grammar.specs.Grammar.{When}
 use Rattle.grammar.specs.Grammar as grammar
 use Rattle.placing.specs.Placed.{IsName, a-name, IsPath, one-name, one-more, Each, none-left, and-each}
-use Rattle.placing.specs.Said.{Word, literalWords, listWords, operandWords, treeWords, partWords, actionWords, conditionWords, policyWords}
+use Rattle.placing.specs.Said.{Word, listWords, operandWords, treeWords, conditionWords}
 use Rattle.placing.proofs.EachLaws.{each-append}
-use Rattle.spelling.specs.Spelling.{calm}
-use Rattle.spelling.specs.Layout.{Written, written, laidOut, readAs, standing, WellWritten}
-use Rattle.spelling.specs.Layout as layout
+use Rattle.spelling.specs.Layout.{Written, written}
 use Rattle.spelling.specs.Marks.{quoted, markOf}
-use Rattle.spelling.specs.Printing.{OfKind, Prints, PrintsLiteral, PrintsList, PrintsPath, markKind, rootKind, truthKind, callKind, effectKind, pathWords}
-use Rattle.spelling.specs.Printing.{RootedPath, rootedWords, PrintsText}
+use Rattle.spelling.specs.Printing.{Prints, PrintsLiteral, PrintsList, PrintsPath, markKind, rootKind, truthKind, callKind, effectKind, pathWords}
+use Rattle.spelling.specs.Printing.{RootedPath, rootedWords}
 use Rattle.spelling.specs.Printing as printing
-use Rattle.spelling.specs.Printed.{PlainToken, plainly, truthToken, effectToken, rootToken, whichToken, markToken, intoFirst, pathTokens, attributeTokens}
-use Rattle.spelling.specs.Printed.{literalToken, commaTokens, literalTokens, listTokens, operandTokens, treeTokens, partTokens, actionTokens, whenTokens}
-use Rattle.spelling.specs.Printed.{restTokens, policyTokens, policiesTokens, spacedOut, printedText}
-use Rattle.spelling.specs.Printable.{PrintableString, PrintableNumber, PrintablePath, PrintableLiteral, of-string, of-number, of-truth, PrintableAction, of-action}
+use Rattle.spelling.specs.Printed.{PlainToken, truthToken, effectToken, rootToken, whichToken, markToken, intoFirst, pathTokens, attributeTokens}
+use Rattle.spelling.specs.Printed.{literalToken, commaTokens, literalTokens, listTokens, operandTokens, treeTokens, whenTokens}
+use Rattle.spelling.specs.Printable.{PrintableString, PrintablePath, PrintableLiteral, of-string, of-number, of-truth, PrintableAction, of-action}
 use Rattle.spelling.specs.Printable.{PrintableOperand, of-attribute, of-literal, PrintableList, PrintableSimple, of-constant, of-comparison, of-likeness}
 use Rattle.spelling.specs.Printable.{of-list, of-member, of-call, of-presence, PrintableJoined, PrintableDisjunction, PrintableOver, of-simple, of-negation}
-use Rattle.spelling.specs.Printable.{of-brackets, of-choice, NoneDeeper, PrintableCondition, PrintableWhen, without, of-when, PrintableTyped, of-any, of-type}
-use Rattle.spelling.specs.Printable.{PrintableResource, of-sort, of-pin, PrintableActions, of-every, of-some, PrintablePolicy, PrintablePolicies}
+use Rattle.spelling.specs.Printable.{of-brackets, of-choice, NoneDeeper, PrintableCondition, PrintableWhen, without, of-when}
 use Rattle.spelling.specs.Printable as printable
-use Rattle.spelling.specs.Promise.{PrintedIsSaid, SpacedIsSaid}
-use Rattle.spelling.proofs.Apart.{calm-apart}
-use Rattle.spelling.proofs.Fixed.{written-opened, isFixedToken, FormedToken, FixedToken, fixed}
-use Rattle.spelling.proofs.Spelled.{laid-out-stand}
+use Rattle.spelling.proofs.Fixed.{written-opened, FormedToken, FixedToken, fixed}
 use Rattle.spelling.proofs.Printing.{prints-as}
 use Rattle.spelling.proofs.Productions.{prints-string, prints-number, string-literal, prints-literal, prints-path, prints-name, prints-rooted}
-use Rattle.spelling.proofs.Productions.{prints-presence, prints-given, prints-comparison, prints-within, prints-simple, prints-alone, prints-both}
-use Rattle.spelling.proofs.Productions.{Elements, prints-elements, prints-bare, prints-pinned, prints-actions, prints-when, prints-parts}
+use Rattle.spelling.proofs.Productions.{prints-presence, prints-given, prints-comparison, prints-within, prints-alone, prints-both}
+use Rattle.spelling.proofs.Productions.{Elements, prints-elements, prints-when}
 use Rattle.spelling.proofs.Conditions.{prints-truth, prints-constant, prints-likeness, prints-among, prints-call, prints-negation, prints-brackets}
 use Rattle.spelling.proofs.Conditions.{prints-choice, prints-either}
-use Rattle.spelling.proofs.Policies.{prints-typed, prints-sort, prints-every, prints-without, PrintsPolicies, prints-none, prints-next, prints-policies}
-use Rattle.spelling.proofs.Plain.{LaidAs, none-laid, and-laid, well-laid, Parts, parts, laid-parts, PrintedAs, printed-as, printed-led, printed-behind}
+use Rattle.spelling.proofs.Policies.{prints-without}
+use Rattle.spelling.proofs.Plain.{LaidAs, none-laid, and-laid, Parts, parts, laid-parts, PrintedAs, printed-as, printed-led, printed-behind}
 use Rattle.spelling.proofs.Plain.{printed-then, printed-around, printed-before, printed-after, kind-of}
 
 -- ---- words and marks
