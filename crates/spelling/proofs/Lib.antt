@@ -15,3 +15,4 @@ pub mod Plain
 pub mod Whole
 pub mod Theorems
 pub mod Back
+pub mod Examples
