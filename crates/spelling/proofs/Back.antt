@@ -31,15 +31,15 @@ use Rattle.placing.specs.Placed as placed
 use Rattle.placing.specs.Said.{Word, literalWords, listWords, operandWords, treeWords, partWords, actionWords, conditionWords, policyWords, wordsOf}
 use Rattle.placing.proofs.EachLaws.{each-append, each-both}
 use Rattle.placing.proofs.Theorems.{policies-placed}
-use Rattle.spelling.specs.Printed.{printedText}
+use Rattle.spelling.specs.Printed.{closely, printedBy}
 use Rattle.spelling.specs.Printable.{PrintableString, PrintableNumber, PrintablePath, PrintableLiteral, of-string, of-number, of-truth, PrintableAction, of-action}
 use Rattle.spelling.specs.Printable.{PrintableOperand, of-attribute, of-literal, PrintableList, PrintableSimple, of-constant, of-comparison, of-likeness}
 use Rattle.spelling.specs.Printable.{of-list, of-member, of-call, of-presence, PrintableJoined, PrintableDisjunction, PrintableOver, of-simple, of-negation}
 use Rattle.spelling.specs.Printable.{of-brackets, of-choice, NoneDeeper, PrintableCondition, PrintableWhen, without, of-when, PrintableTyped, of-any, of-type}
 use Rattle.spelling.specs.Printable.{PrintableResource, of-sort, of-pin, PrintableActions, of-every, of-some, PrintablePolicy, PrintablePolicies}
 use Rattle.spelling.specs.Printable as printable
-use Rattle.spelling.specs.Promise.{SpacedIsSaid, SaidIsPrintable, PrintableExactly}
-use Rattle.spelling.proofs.Theorems.{spaced-is-said}
+use Rattle.spelling.specs.Promise.{PrintedByIsSaid, SaidIsPrintable, PrintableExactly}
+use Rattle.spelling.proofs.Theorems.{printed-by-is-said}
 
 -- ---- numbers
 
@@ -229,8 +229,8 @@ said-is-printable text ps s =
     }
 
 pub printable-exactly : PrintableExactly
-unfolding PrintableExactly SpacedIsSaid SaidIsPrintable
+unfolding PrintableExactly PrintedByIsSaid SaidIsPrintable
 printable-exactly ws = (
-  λ h. record { text = printedText ws; says = spaced-is-said ws h },
+  λ h. record { text = printedBy closely ws; says = printed-by-is-said closely ws h },
   λ s. let said = s .says in subst PrintablePolicies (said .words) (said-is-printable (s .text) (said .policies) (said .says)),
 )

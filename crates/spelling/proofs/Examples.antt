@@ -1,4 +1,4 @@
--- A policy that has every kind of condition, and its text as it is printed. Assumes nothing.
+-- A policy that has every kind of condition, and its text as it is printed in two ways. Assumes nothing.
 use mathlib.Core.Path.{_≡_, refl}
 use mathlib.Core.Bool.{true, false}
 use mathlib.Core.List.{List, [], _∷_, _++_}
@@ -10,11 +10,12 @@ use Rattle.grammar.specs.Policies.{literal, TreeOf, constant, compare, like, am
 use Rattle.grammar.specs.Policies.{typed, oneOf, PolicyOf}
 use Rattle.grammar.specs.Rules.{principalTypes, resourceTypes}
 use Rattle.placing.specs.Said.{Word}
-use Rattle.spelling.specs.Layout.{laidOut}
 use Rattle.spelling.specs.Marks.{markOf}
 use Rattle.spelling.specs.Printing.{markKind, rootKind, truthKind, callKind, effectKind}
 use Rattle.spelling.specs.Printed.{truthToken, effectToken, rootToken, whichToken, intoFirst, pathTokens, literalToken, commaTokens, literalTokens}
-use Rattle.spelling.specs.Printed.{operandTokens, treeTokens, partTokens, actionTokens, whenTokens, restTokens, policiesTokens, spacedOut, printedText}
+use Rattle.spelling.specs.Printed.{operandTokens, treeTokens, partTokens, actionTokens, whenTokens, restTokens, policiesTokens, blankBetween, laidBehind, laidBy}
+use Rattle.spelling.specs.Printed.{printedBy, closely}
+use Rattle.spelling.proofs.Fixed.{written-opened}
 
 -- a presence and brackets negated; or a choice by a comparison, between a pattern and a call; or two memberships
 pub condition : TreeOf Word
@@ -34,13 +35,28 @@ policy = record {
   condition = some condition;
 }
 
--- its text
+-- its text, as a permit of docs/LOCKS.md is spelled, and with single blanks
 pub rule : List ℕ
 rule =
+    bytes "forbid(principal is tool, action in [\"set\", \"read\"], resource is shaft) when { env has door.state && !(true)"
+    ++ (bytes " || if principal.level >= 3 then action.name like \"s*\" else resource.tags.containsAll([\"a\", false])"
+    ++ bytes " || \"a\" in principal.teams && env.shift in [1, 2] };")
+
+pub wideRule : List ℕ
+wideRule =
     bytes "forbid ( principal is tool , action in [ \"set\" , \"read\" ] , resource is shaft ) when { env has door . state && ! ( true )"
     ++ (bytes " || if principal . level >= 3 then action . name like \"s*\" else resource . tags . containsAll ( [ \"a\" , false ] )"
     ++ bytes " || \"a\" in principal . teams && env . shift in [ 1 , 2 ] } ;")
 
-pub rule-printed : printedText (policy ∷ []) ≡ rule
-unfolding policy condition rule printedText spacedOut policiesTokens restTokens whenTokens actionTokens partTokens treeTokens operandTokens literalTokens commaTokens literalToken pathTokens intoFirst rootToken whichToken effectToken truthToken laidOut markOf markKind rootKind truthKind callKind effectKind principalTypes resourceTypes
+-- one word for what is computed
+unfoldable printed-opened : Unit {0}
+unfolding written-opened policy condition rule wideRule printedBy laidBy laidBehind blankBetween closely policiesTokens restTokens whenTokens actionTokens partTokens treeTokens operandTokens literalTokens commaTokens literalToken pathTokens intoFirst rootToken whichToken effectToken truthToken markOf markKind rootKind truthKind callKind effectKind principalTypes resourceTypes
+printed-opened = tt
+
+pub rule-printed : printedBy closely (policy ∷ []) ≡ rule
+unfolding printed-opened
 rule-printed = refl
+
+pub rule-spaced : printedBy (λ t u. false) (policy ∷ []) ≡ wideRule
+unfolding printed-opened
+rule-spaced = refl

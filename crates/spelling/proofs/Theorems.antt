@@ -1,12 +1,12 @@
 -- Policies that keep document 01's limits are printed as their tokens, and the text of these says them. Assumes nothing.
 use mathlib.Core.Path.{_≡_, refl, ap, subst}
-use mathlib.Core.Bool.{false}
-use mathlib.Core.List.{List, [], _∷_, map}
+use mathlib.Core.Bool.{Bool, true, false, cond, _&&_}
+use mathlib.Core.List.{List, [], _∷_, _++_, append-nil, map}
 use Prim.Native.Nat.{ℕ, zero, suc, _-_, _≤_, _<_}
 use Prim.Native.Char.{code}
 use native.Mathlib.Omega.{arith}
 use lib.Dec.{eqb}
-use lib.ListN.{length, getD}
+use lib.ListN.{length, getD, List·getD-append}
 use Rattle.slices.specs.Ascii.{bytes}
 use Rattle.tokens.specs.Bytes.{classOf}
 use Rattle.tokens.specs.Kinds as kinds
@@ -18,15 +18,18 @@ use Rattle.grammar.specs.Grammar.{sizes, Typed, ResourceRest, ActionRest, Polic
 use Rattle.placing.specs.Placed.{Each, none-left, and-each}
 use Rattle.placing.specs.Said.{Word, partWords, actionWords, policyWords}
 use Rattle.placing.proofs.EachLaws.{each-append}
-use Rattle.spelling.specs.Spelling.{calm}
+use Rattle.spelling.specs.Spelling.{apart, calm}
 use Rattle.spelling.specs.Layout.{Written, written, laidOut, standing, WellWritten, none, one}
 use Rattle.spelling.specs.Marks.{quoted}
 use Rattle.spelling.specs.Printing.{Prints}
-use Rattle.spelling.specs.Printed.{PlainToken, plainly, effectToken, partTokens, actionTokens, restTokens, policiesTokens, spacedOut, printedText}
+use Rattle.spelling.specs.Printed.{PlainToken, plainly, effectToken, partTokens, actionTokens, restTokens, policiesTokens, blankBetween, laidBehind, laidBy}
+use Rattle.spelling.specs.Printed.{printedBy}
 use Rattle.spelling.specs.Printable.{PrintableTyped, of-any, of-type, PrintableResource, of-sort, of-pin, PrintableActions, of-every, of-some}
 use Rattle.spelling.specs.Printable.{PrintablePolicy}
-use Rattle.spelling.specs.Promise.{PrintedIsSaid, SpacedIsSaid}
+use Rattle.spelling.specs.Promise.{PrintedIsSaid, PrintedByIsSaid}
+use Rattle.tokens.proofs.TokenLaws.{and-right}
 use Rattle.spelling.proofs.Apart.{calm-apart}
+use Rattle.spelling.proofs.Joins.{form-some}
 use Rattle.spelling.proofs.Fixed.{written-opened, FormedToken, FixedToken, fixed}
 use Rattle.spelling.proofs.Spelled.{laid-out-stand}
 use Rattle.spelling.proofs.Productions.{prints-bare, prints-pinned, prints-actions, prints-parts}
@@ -140,20 +143,55 @@ printed-is-said xs ws h e w =
       words = printed .says;
     }
 
--- tokens with single blanks between them
-spaced-well : {b : List ℕ} {ts : List PlainToken} → All Blanks b → Each FormedToken ts → WellWritten (spacedOut b ts) []
-unfolding spacedOut laidOut calm classOf
-spaced-well a none-left = none
-spaced-well a (and-each {a = t} f none-left) = one a (f .form) (calm-apart (t .1) 0 refl) none
-spaced-well a (and-each {a = t} f (and-each g h)) = one a (f .form) (calm-apart (t .1) (code " ") refl) (spaced-well (next refl empty) (and-each g h))
+-- tokens with blanks between them by a test
+module _ (hugs : PlainToken → PlainToken → Bool) where
+  -- blanks, and the first byte behind the token t
+  between-blanks : (t u : PlainToken) → All Blanks (blankBetween hugs t u)
+  unfolding blankBetween classOf
+  between-blanks t u = go (hugs t u && apart (t .1) (getD (u .1) 0 0))
+    where
+      go : (b : Bool) → All Blanks (cond b [] (code " " ∷ []))
+      go true = empty
+      go false = next refl empty
 
-spaced-plainly : (b : List ℕ) (ts : List PlainToken) → map plainly (spacedOut b ts) ≡ ts
-unfolding spacedOut
-spaced-plainly b [] = refl
-spaced-plainly b (t ∷ ts) = ap (λ (us : List PlainToken). t ∷ us) (spaced-plainly (code " " ∷ []) ts)
+  between-apart : (t u : PlainToken) (q : List ℕ) → FormedToken u → apart (t .1) (getD (blankBetween hugs t u ++ (u .1 ++ q)) 0 0) ≡ true
+  unfolding blankBetween calm classOf
+  between-apart t u q f = go (hugs t u && apart (t .1) (getD (u .1) 0 0)) (λ e. and-right (hugs t u) _ e)
+    where
+      go : (b : Bool) → (b ≡ true → apart (t .1) (getD (u .1) 0 0) ≡ true) → apart (t .1) (getD (cond b [] (code " " ∷ []) ++ (u .1 ++ q)) 0 0) ≡ true
+      go true h = rw (List·getD-append (u .1) q 0 0 (form-some (f .form))) (h refl)
+      go false h = calm-apart (t .1) (code " ") refl
 
-pub spaced-is-said : SpacedIsSaid
-unfolding PrintedIsSaid SpacedIsSaid printedText
-spaced-is-said ws h =
+  -- any token with others behind it
+  token-well : {b : List ℕ} {t : PlainToken} {ts : List PlainToken} → All Blanks b → Each FormedToken (t ∷ ts)
+      → WellWritten (written b (t .0) (t .1) ∷ laidBehind hugs t ts) []
+  unfolding laidBehind laidOut calm classOf
+  token-well {t = t} a (and-each f none-left) = one a (f .form) (calm-apart (t .1) 0 refl) none
+  token-well {t = t} a (and-each f (and-each {a = u} {l = us} g h)) =
+      let behind = laidBehind hugs t (u ∷ us) in
+      let clear : apart (t .1) (getD (laidOut behind ++ []) 0 0) ≡ true =
+      rw (append-nil (laidOut behind)) (between-apart t u (laidOut (laidBehind hugs u us)) g) in
+      one a (f .form) clear (token-well (between-blanks t u) (and-each g h))
+
+  laid-by-well : {ts : List PlainToken} → Each FormedToken ts → WellWritten (laidBy hugs ts) []
+  unfolding laidBy
+  laid-by-well none-left = none
+  laid-by-well (and-each f h) = token-well empty (and-each f h)
+
+  -- they are these tokens
+  behind-plainly : (t : PlainToken) (ts : List PlainToken) → map plainly (laidBehind hugs t ts) ≡ ts
+  unfolding laidBehind
+  behind-plainly t [] = refl
+  behind-plainly t (u ∷ us) = ap (λ (ts : List PlainToken). u ∷ ts) (behind-plainly u us)
+
+  laid-by-plainly : (ts : List PlainToken) → map plainly (laidBy hugs ts) ≡ ts
+  unfolding laidBy
+  laid-by-plainly [] = refl
+  laid-by-plainly (t ∷ ts) = ap (λ (us : List PlainToken). t ∷ us) (behind-plainly t ts)
+
+-- so with any test
+pub printed-by-is-said : PrintedByIsSaid
+unfolding PrintedIsSaid PrintedByIsSaid printedBy
+printed-by-is-said hugs ws h =
     let ts = policiesTokens ws in
-    printed-is-said (spacedOut [] ts) ws h (spaced-plainly [] ts) (spaced-well empty (policies-formed (h .each)))
+    printed-is-said (laidBy hugs ts) ws h (laid-by-plainly hugs ts) (laid-by-well hugs (policies-formed (h .each)))

@@ -36,6 +36,7 @@ pub record PrintablePath (root : Root) (p : Word) : Type 0 where
 
 -- ---- literals, operands, lists
 
+-- a literal
 pub data PrintableLiteral : LiteralOf Word → Type 0 where
   of-string : {s : Word} → PrintableString s → PrintableLiteral (text s)
   of-number : {n : Word} → PrintableNumber n → PrintableLiteral (number n)
@@ -45,6 +46,7 @@ pub data PrintableLiteral : LiteralOf Word → Type 0 where
 pub data PrintableAction : LiteralOf Word → Type 0 where
   of-action : {s : Word} → PrintableString s → PrintableAction (text s)
 
+-- an operand
 pub data PrintableOperand : OperandOf Word → Type 0 where
   of-attribute : {root : Root} {p : Word} → PrintablePath root p → PrintableOperand (attribute root p)
   of-literal : {l : LiteralOf Word} → PrintableLiteral l → PrintableOperand (literal l)
@@ -77,7 +79,7 @@ pub data PrintableJoined (join : TreeOf Word → TreeOf Word → TreeOf Word) (C
 abbrev pub PrintableDisjunction : (TreeOf Word → Type 0) → TreeOf Word → Type 0
 PrintableDisjunction C = PrintableJoined either (PrintableJoined both C)
 
--- a condition, where Inner is of those one level deeper: no `||` and no `&&` stands in `!` or `if`, or `||` in `&&`, but in brackets
+-- a condition, where Inner is of those one level deeper: what stands in `!` and `if` is joined by neither `&&` nor `||`, unless in brackets
 pub data PrintableOver (Inner : TreeOf Word → Type 0) : TreeOf Word → Type 0 where
   of-simple : {c : TreeOf Word} → PrintableSimple c → PrintableOver Inner c
   of-negation : {c : TreeOf Word} → Inner c → PrintableOver Inner (not c)

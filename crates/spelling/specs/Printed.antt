@@ -1,5 +1,5 @@
--- The tokens that policies are printed as, by their words alone, and their text with single blanks between the tokens. Definitions only.
-use mathlib.Core.Bool.{Bool, true, false, cond}
+-- The tokens that policies are printed as, by their words alone, and their text with blanks between the tokens by a test. Definitions only.
+use mathlib.Core.Bool.{Bool, true, false, cond, _&&_, _||_}
 use mathlib.Core.List.{List, [], _∷_, _++_}
 use mathlib.Core.Option.{Option, none, some}
 use Prim.Native.Nat.{ℕ, _-_}
@@ -7,6 +7,7 @@ use Prim.Native.Char.{code}
 use lib.Dec.{eqb}
 use lib.ListN.{getD}
 use Rattle.slices.specs.Ascii.{bytes}
+use Rattle.tokens.specs.Bytes as byteClasses
 use Rattle.tokens.specs.Kinds as kinds
 use Rattle.grammar.specs.Policies.{Root, Root.Principal, Root.Resource, Root.Env, Root.Action, Which, Which.All, Which.Any, Comparator}
 use Rattle.grammar.specs.Policies.{LiteralOf, text, number, truth, OperandOf, attribute, literal}
@@ -14,6 +15,7 @@ use Rattle.grammar.specs.Policies.{TreeOf, constant, compare, like, among, with
 use Rattle.grammar.specs.Policies.{PartOf, any, typed, pinned, ActionsOf, every, oneOf, PolicyOf}
 use Rattle.grammar.specs.Rules.{principalTypes, resourceTypes}
 use Rattle.placing.specs.Said.{Word}
+use Rattle.spelling.specs.Spelling.{apart}
 use Rattle.spelling.specs.Layout.{Written, written, laidOut}
 use Rattle.spelling.specs.Marks.{quoted, markOf}
 use Rattle.spelling.specs.Printing.{markKind, rootKind, truthKind, callKind, effectKind}
@@ -72,6 +74,7 @@ attributeTokens root p = rootToken root ∷ (kinds.dot, bytes ".") ∷ pathToken
 
 -- ---- literals, lists, operands
 
+-- a literal
 unfoldable pub literalToken : LiteralOf Word → PlainToken
 literalToken (text s) = (kinds.string, quoted s)
 literalToken (number n) = (kinds.number, n)
@@ -91,12 +94,14 @@ literalTokens (l ∷ ls) = literalToken l ∷ commaTokens ls
 abbrev pub listTokens : List (LiteralOf Word) → List PlainToken
 listTokens ls = (kinds.leftSquare, bytes "[") ∷ (literalTokens ls ++ (kinds.rightSquare, bytes "]") ∷ [])
 
+-- an operand
 unfoldable pub operandTokens : OperandOf Word → List PlainToken
 operandTokens (attribute root p) = attributeTokens root p
 operandTokens (literal l) = literalToken l ∷ []
 
 -- ---- conditions
 
+-- a condition; brackets stand where the tree has them, and nowhere else
 unfoldable pub treeTokens : TreeOf Word → List PlainToken
 treeTokens (constant b) = truthToken b ∷ []
 treeTokens (compare c a b) = operandTokens a ++ markToken c ∷ operandTokens b
@@ -152,11 +157,27 @@ policiesTokens (p ∷ ps) = policyTokens p ++ policiesTokens ps
 
 -- ---- a text of them
 
--- tokens with single blanks between them, the first behind the blanks b
-unfoldable pub spacedOut : List ℕ → List PlainToken → List Written
-spacedOut b [] = []
-spacedOut b (t ∷ ts) = written b (t .0) (t .1) ∷ spacedOut (code " " ∷ []) ts
+-- what stands between two tokens: nothing where the test says so and the second does not make the first longer, else a blank
+unfoldable pub blankBetween : (PlainToken → PlainToken → Bool) → PlainToken → PlainToken → List ℕ
+blankBetween hugs t u = cond (hugs t u && apart (t .1) (getD (u .1) 0 0)) [] (code " " ∷ [])
 
--- the text of policies so, with no blank before the first token
-unfoldable pub printedText : List (PolicyOf Word) → List ℕ
-printedText ps = laidOut (spacedOut [] (policiesTokens ps))
+-- tokens written so behind another
+unfoldable pub laidBehind : (PlainToken → PlainToken → Bool) → PlainToken → List PlainToken → List Written
+laidBehind hugs t [] = []
+laidBehind hugs t (u ∷ us) = written (blankBetween hugs t u) (u .0) (u .1) ∷ laidBehind hugs u us
+
+-- the first of them with no blank before it
+unfoldable pub laidBy : (PlainToken → PlainToken → Bool) → List PlainToken → List Written
+laidBy hugs [] = []
+laidBy hugs (t ∷ ts) = written [] (t .0) (t .1) ∷ laidBehind hugs t ts
+
+-- the text of policies so
+unfoldable pub printedBy : (PlainToken → PlainToken → Bool) → List (PolicyOf Word) → List ℕ
+printedBy hugs ps = laidOut (laidBy hugs (policiesTokens ps))
+
+-- as docs/LOCKS.md spells a permit: no blank before `,` `;` `)` `]` `.`, behind `(` `[` `.` `!`, and between permit, forbid, containsAll, containsAny and `(`
+unfoldable pub closely : PlainToken → PlainToken → Bool
+closely t u =
+    byteClasses.oneOf (kinds.comma ∷ kinds.semicolon ∷ kinds.rightRound ∷ kinds.rightSquare ∷ kinds.dot ∷ []) (u .0)
+    || byteClasses.oneOf (kinds.leftRound ∷ kinds.leftSquare ∷ kinds.dot ∷ kinds.bang ∷ []) (t .0)
+    || (eqb (u .0) kinds.leftRound && byteClasses.oneOf (kinds.permitWord ∷ kinds.forbidWord ∷ kinds.containsAllWord ∷ kinds.containsAnyWord ∷ []) (t .0))

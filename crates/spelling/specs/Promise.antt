@@ -1,13 +1,14 @@
 -- What is promised of printed policies: read again, they say themselves. Definitions only.
 use mathlib.Core.Path.{_≡_}
 use mathlib.Core.Logic.{_↔_}
+use mathlib.Core.Bool.{Bool}
 use mathlib.Core.List.{List, [], map}
 use Prim.Native.Nat.{ℕ}
 use Rattle.grammar.specs.Policies.{Policy, PolicyOf}
 use Rattle.grammar.specs.Grammar.{SaysPolicies}
 use Rattle.placing.specs.Said.{Word, wordsOf}
 use Rattle.spelling.specs.Layout.{Written, laidOut, WellWritten}
-use Rattle.spelling.specs.Printed.{plainly, policiesTokens, printedText}
+use Rattle.spelling.specs.Printed.{PlainToken, plainly, policiesTokens, printedBy}
 use Rattle.spelling.specs.Printable.{PrintablePolicies}
 
 -- A text says policies with these words.
@@ -21,9 +22,9 @@ unfoldable pub PrintedIsSaid : Type 0
 PrintedIsSaid = (xs : List Written) (ws : List (PolicyOf Word)) → PrintablePolicies ws → map plainly xs ≡ policiesTokens ws → WellWritten xs []
     → SaysWords (laidOut xs) ws
 
--- So they are where single blanks stand between their tokens.
-unfoldable pub SpacedIsSaid : Type 0
-SpacedIsSaid = (ws : List (PolicyOf Word)) → PrintablePolicies ws → SaysWords (printedText ws) ws
+-- So they are where a test says between which tokens no blank stands.
+unfoldable pub PrintedByIsSaid : Type 0
+PrintedByIsSaid = (hugs : PlainToken → PlainToken → Bool) (ws : List (PolicyOf Word)) → PrintablePolicies ws → SaysWords (printedBy hugs ws) ws
 
 -- And what a text says keeps the limits, so that it can be printed.
 unfoldable pub SaidIsPrintable : Type 0
