@@ -8,14 +8,9 @@ use Rattle.slices.specs.Ascii.{bytes}
 use Rattle.grammar.specs.Policies.{Root.Principal, Root.Resource, Root.Env, Root.Action, Comparator.AtLeast, Which.All, text, number, truth, attribute}
 use Rattle.grammar.specs.Policies.{literal, TreeOf, constant, compare, like, among, within, contains, has, not, brackets, both, either, choice}
 use Rattle.grammar.specs.Policies.{typed, oneOf, PolicyOf}
-use Rattle.grammar.specs.Rules.{principalTypes, resourceTypes}
 use Rattle.placing.specs.Said.{Word}
-use Rattle.spelling.specs.Marks.{markOf}
-use Rattle.spelling.specs.Printing.{markKind, rootKind, truthKind, callKind, effectKind}
-use Rattle.spelling.specs.Printed.{truthToken, effectToken, rootToken, whichToken, intoFirst, pathTokens, literalToken, commaTokens, literalTokens}
-use Rattle.spelling.specs.Printed.{operandTokens, treeTokens, partTokens, actionTokens, whenTokens, restTokens, policiesTokens, blankBetween, laidBehind, laidBy}
 use Rattle.spelling.specs.Printed.{printedBy, closely}
-use Rattle.spelling.proofs.Fixed.{written-opened}
+use Rattle.spelling.proofs.Plain.{printed-opened}
 
 -- a presence and brackets negated; or a choice by a comparison, between a pattern and a call; or two memberships
 pub condition : TreeOf Word
@@ -48,15 +43,10 @@ wideRule =
     ++ (bytes " || if principal . level >= 3 then action . name like \"s*\" else resource . tags . containsAll ( [ \"a\" , false ] )"
     ++ bytes " || \"a\" in principal . teams && env . shift in [ 1 , 2 ] } ;")
 
--- one word for what is computed
-unfoldable printed-opened : Unit {0}
-unfolding written-opened policy condition rule wideRule printedBy laidBy laidBehind blankBetween closely policiesTokens restTokens whenTokens actionTokens partTokens treeTokens operandTokens literalTokens commaTokens literalToken pathTokens intoFirst rootToken whichToken effectToken truthToken markOf markKind rootKind truthKind callKind effectKind principalTypes resourceTypes
-printed-opened = tt
-
 pub rule-printed : printedBy closely (policy ∷ []) ≡ rule
-unfolding printed-opened
+unfolding printed-opened policy condition rule
 rule-printed = refl
 
 pub rule-spaced : printedBy (λ t u. false) (policy ∷ []) ≡ wideRule
-unfolding printed-opened
+unfolding printed-opened policy condition wideRule
 rule-spaced = refl

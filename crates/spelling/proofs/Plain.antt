@@ -4,12 +4,16 @@ use Prim.Native.Nat.{ℕ}
 use Rattle.tokens.specs.Forms.{All}
 use Rattle.tokens.specs.declared.classes.Sort.the-variants.{Blanks}
 use Rattle.reading.specs.Reads.{Reading, Before, After}
+use Rattle.grammar.specs.Rules.{principalTypes, resourceTypes}
 use Rattle.placing.specs.Placed.{Each, none-left, and-each}
 use Rattle.placing.proofs.EachLaws.{each-append}
 use Rattle.spelling.specs.Layout.{Written, written, WellWritten, none, one}
-use Rattle.spelling.specs.Printing.{OfKind, Prints}
-use Rattle.spelling.specs.Printed.{PlainToken, plainly}
-use Rattle.spelling.proofs.Fixed.{FormedToken, FixedToken}
+use Rattle.spelling.specs.Marks.{markOf}
+use Rattle.spelling.specs.Printing.{OfKind, Prints, markKind, rootKind, truthKind, callKind, effectKind}
+use Rattle.spelling.specs.Printed.{PlainToken, plainly, truthToken, effectToken, rootToken, whichToken, intoFirst, pathTokens, literalToken}
+use Rattle.spelling.specs.Printed.{commaTokens, literalTokens, operandTokens, treeTokens, partTokens, actionTokens, whenTokens, restTokens}
+use Rattle.spelling.specs.Printed.{policiesTokens, blankBetween, laidBehind, laidBy, printedBy, closely}
+use Rattle.spelling.proofs.Fixed.{written-opened, FormedToken, FixedToken}
 use Rattle.spelling.proofs.Printing.{prints-before, prints-after, Twice, twiceWords, prints-then}
 
 -- ---- plain tokens, written
@@ -98,3 +102,8 @@ module _ {A B : Type 0} {R : Reading A} {words : List ℕ → A → B} {ts : Lis
 
   pub printed-after : PrintedAs (After k R) words (t ∷ ts) w
   printed-after = printed-led f (λ x xs e h. prints-after h e) p
+
+-- One word for proofs that compute with printed policies.
+unfoldable pub printed-opened : Unit {0}
+unfolding written-opened printedBy laidBy laidBehind blankBetween closely policiesTokens restTokens whenTokens actionTokens partTokens treeTokens operandTokens literalTokens commaTokens literalToken pathTokens intoFirst rootToken whichToken effectToken truthToken markOf markKind rootKind truthKind callKind effectKind principalTypes resourceTypes
+printed-opened = tt

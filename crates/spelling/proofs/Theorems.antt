@@ -2,7 +2,7 @@
 use mathlib.Core.Path.{_≡_, refl, ap, subst}
 use mathlib.Core.Bool.{Bool, true, false, cond, _&&_}
 use mathlib.Core.List.{List, [], _∷_, _++_, append-nil, map}
-use Prim.Native.Nat.{ℕ, zero, suc, _-_, _≤_, _<_}
+use Prim.Native.Nat.{ℕ, zero, suc, _≤_, _<_}
 use Prim.Native.Char.{code}
 use native.Mathlib.Omega.{arith}
 use lib.Dec.{eqb}
@@ -22,7 +22,7 @@ use Rattle.spelling.specs.Spelling.{apart, calm}
 use Rattle.spelling.specs.Layout.{Written, written, laidOut, standing, WellWritten, none, one}
 use Rattle.spelling.specs.Marks.{quoted}
 use Rattle.spelling.specs.Printing.{Prints}
-use Rattle.spelling.specs.Printed.{PlainToken, plainly, effectToken, partTokens, actionTokens, restTokens, policiesTokens, blankBetween, laidBehind, laidBy}
+use Rattle.spelling.specs.Printed.{PlainToken, plainly, effectToken, typeName, partTokens, actionTokens, restTokens, policiesTokens, blankBetween, laidBehind, laidBy}
 use Rattle.spelling.specs.Printed.{printedBy}
 use Rattle.spelling.specs.Printable.{PrintableTyped, of-any, of-type, PrintableResource, of-sort, of-pin, PrintableActions, of-every, of-some}
 use Rattle.spelling.specs.Printable.{PrintablePolicy}
@@ -42,9 +42,9 @@ use Rattle.spelling.proofs.Whole.{effect-token, printed-action, printed
 
 -- the n-th of some types has a name, which is a token and has that number among them
 record TypeNamed (types : List (List ℕ)) (n : ℕ) : Type 0 where
-  number : typeAmong types 1 (getD types (n - 1) []) ≡ n
+  number : typeAmong types 1 (typeName types n) ≡ n
   some : eqb n 0 ≡ false
-  token : FixedToken kinds.name (kinds.name, getD types (n - 1) [])
+  token : FixedToken kinds.name (kinds.name, typeName types n)
 
 principal-named : (n : ℕ) → 0 < n → n ≤ length principalTypes → TypeNamed principalTypes n
 unfolding written-opened principalTypes typeAmong
@@ -78,7 +78,7 @@ printed-typed {types} named (of-type {n} s f) = record { laid = go; formed = and
     word : FixedToken kinds.isWord (kinds.isWord, bytes "is")
     word = fixed refl
 
-    go : {xs : List Written} → LaidAs ((kinds.isWord, bytes "is") ∷ (kinds.name, getD types (n - 1) []) ∷ []) xs → Prints (Typed types) partWords xs (typed n)
+    go : {xs : List Written} → LaidAs ((kinds.isWord, bytes "is") ∷ (kinds.name, typeName types n) ∷ []) xs → Prints (Typed types) partWords xs (typed n)
     go (and-laid {b = b} d (and-laid {b = c} e none-laid)) = prints-typed (kind-of b word) (kind-of c (a .token)) (a .number) (a .some)
 
 -- a resource part

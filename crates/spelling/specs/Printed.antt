@@ -122,10 +122,14 @@ treeTokens (choice c a b) =
 
 -- ---- policies
 
+-- the name of the type with this number
+abbrev pub typeName : List (List ℕ) → ℕ → List ℕ
+typeName types n = getD types (n - 1) []
+
 -- what a part asks, where its types have these names
 unfoldable pub partTokens : List (List ℕ) → PartOf Word → List PlainToken
 partTokens types any = []
-partTokens types (typed n) = (kinds.isWord, bytes "is") ∷ (kinds.name, getD types (n - 1) []) ∷ []
+partTokens types (typed n) = (kinds.isWord, bytes "is") ∷ (kinds.name, typeName types n) ∷ []
 partTokens types (pinned s) = (kinds.equal, bytes "==") ∷ (kinds.string, quoted s) ∷ []
 
 -- what the action part asks
