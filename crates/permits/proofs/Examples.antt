@@ -9,6 +9,8 @@ use Rattle.grammar.specs.Policies.{Comparator.More, Comparator.AtLeast, Compara
 use Rattle.grammar.specs.Parser.{read-text}
 use Rattle.placing.specs.Said.{Word, wordsOf}
 use Rattle.meaning.proofs.Opened.{meaning-opened}
+use Rattle.spelling.specs.Printed.{closely, printedBy}
+use Rattle.spelling.proofs.Plain.{printed-opened}
 use Rattle.permits.specs.Permits.{Test, equal, member, order, signOf, between, testText, permitText, testTree, joinedTo, permitPolicy}
 
 -- two actions on a shaft, for the own firm's people who are taught and of grade 3 at least
@@ -37,6 +39,11 @@ worked-text = refl
 pub worked-words : wordsIn permit (read-text (tokensOf permit)) ≡ permitPolicy actions (bytes "shaft:A") own others ∷ []
 unfolding meaning-opened permitPolicy joinedTo testTree
 worked-words = refl
+
+-- it is what is printed of its policy
+pub worked-printed : printedBy closely (permitPolicy actions (bytes "shaft:A") own others ∷ []) ≡ permit
+unfolding printed-opened permitPolicy joinedTo testTree
+worked-printed = refl
 
 -- one action, one test; an empty resource, a name with dots, every order
 pub small-text :

@@ -157,3 +157,28 @@ module _ {A B : Type 0} {R : Reading A} {words : List ℕ → A → B} {xs : Lis
   -- what R reads is what S does
   pub prints-as : {S : Reading A} → ((i r : List Lexeme) (a : A) → R i r a → S i r a) → Prints S words xs w
   prints-as h = prints-onto (λ a. a) (λ b. b) (λ t a. refl) p h
+
+-- what R reads, and then what S does
+pub record Twice {A B : Type 0} (R : Reading A) (S : Reading B) (i r : List Lexeme) (p : A × B) : Type 0 where
+  pub between : List Lexeme
+  pub first : R i between (p .0)
+  pub second : S between r (p .1)
+
+-- the words of both
+abbrev pub twiceWords : {A B C D : Type 0} → (List ℕ → A → B) → (List ℕ → C → D) → List ℕ → A × C → B × D
+twiceWords words₁ words₂ t p = (words₁ t (p .0), words₂ t (p .1))
+
+-- one behind the other
+pub prints-then : {A B C D : Type 0} {R : Reading A} {S : Reading C} {words₁ : List ℕ → A → B} {words₂ : List ℕ → C → D} {xs ys : List WrittenToken} {v : B} {w : D}
+    → Prints R words₁ xs v → Prints S words₂ ys w → Prints (Twice R S) (twiceWords words₁ words₂) (xs ++ ys) (v, w)
+prints-then {R = R} {S = S} {words₁ = words₁} {words₂ = words₂} {xs = xs} {ys = ys} {v = v} {w = w} p q = record { anywhere = go }
+  where
+    go : (at : ℕ) (r : List Lexeme) → PrintsAt (Twice R S) (twiceWords words₁ words₂) (xs ++ ys) (v, w) at r
+    go at r =
+        let right = q .anywhere (past at xs) r in
+        let left = p .anywhere at (standing (past at xs) ys ++ r) in
+        record {
+          what = (left .what, right .what);
+          reads = rw (standing-then at xs ys r) (record { between = standing (past at xs) ys ++ r; first = left .reads; second = right .reads });
+          says = λ t b. rw (left .says t (has-first xs ys b), right .says t (has-then xs ys b));
+        }

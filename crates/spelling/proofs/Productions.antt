@@ -10,38 +10,40 @@ use lib.ListN.{length, drop, length-append}
 use lib.Seq.{take-append-seam, drop-drop}
 use borrow.Author.Tests.{eq-eqb, le-leb, lt-ltb}
 use Rattle.slices.specs.Ascii.{bytes}
+use Rattle.slices.specs.Same.{same}
 use Rattle.tokens.specs.Blanks.{unblanked}
 use Rattle.tokens.specs.Kinds as kinds
-use Rattle.tokens.specs.Forms.{All, quote, digits}
+use Rattle.tokens.specs.Forms.{All, empty, next, quote, digits}
 use Rattle.tokens.specs.declared.classes.Sort.the-variants.{Blanks}
+use Rattle.tokens.proofs.Opened.{tokens-opened}
 use Rattle.reading.specs.Lexemes.{Lexeme, is, size}
 use Rattle.reading.specs.Reads.{Reading, Chain, Chain.alone, Chain.more, Onto.onto, Before, After}
 use Rattle.grammar.specs.Policies.{Comparator.Equal, Comparator.NotEqual, Comparator.More, Comparator.AtLeast, Comparator.Less, Comparator.AtMost}
 use Rattle.grammar.specs.Policies.{Span, span, Root, Root.Principal, Root.Resource, Root.Env, Root.Action, Comparator, LiteralOf, Literal, text, number}
 use Rattle.grammar.specs.Policies.{attribute, literal, TreeOf, Tree}
-use Rattle.grammar.specs.Policies.{OperandOf, Operand, compare, within, both, PartOf, any, pinned, ActionsOf, oneOf, PolicyOf}
+use Rattle.grammar.specs.Policies.{OperandOf, Operand, compare, within, has, both, PartOf, Part, any, pinned, ActionsOf, Actions, oneOf, PolicyOf}
 use Rattle.grammar.specs.Rules.{isRoot, rootOf, isLiteral, literalOf, isComparator, comparatorOf, admitted, isEffect, spanOf, principalTypes}
-use Rattle.grammar.specs.Grammar.{sizes, Path, APath, rooted, Attribute, AnOperand, given, Element, element, Listing, Simple, comparison, held, Joined}
+use Rattle.grammar.specs.Grammar.{sizes, Path, spanned, APath, rooted, AnOperand, given, Element, element, Listing, Simple, comparison, held, having, Joined}
 use Rattle.grammar.specs.Grammar.{Condition, Conjunction, Conditions}
 use Rattle.grammar.specs.Grammar.{Typed, ResourceRest, ActionRest, When, PolicyRest}
 use Rattle.grammar.specs.Grammar as grammar
-use Rattle.placing.specs.Placed.{bytesAt, quotedAt, unblankedAt}
+use Rattle.placing.specs.Placed.{bytesAt, quotedAt, unblankedAt, IsName, a-name}
 use Rattle.placing.specs.Said.{Word, literalWords, listWords, operandWords, treeWords, partWords, actionWords, conditionWords, policyWords, wordsOf}
 use Rattle.placing.proofs.Paths.{unblanked-append, unblanked-blanks, unblanked-name, lone-dot}
 use Rattle.spelling.specs.Layout.{WrittenToken, written, laidOut, readAs, lexemeOf, standing}
 use Rattle.spelling.specs.Printing.{HasAt, OfKind, PrintsAt, Prints, PrintsLiteral, PrintsList, PrintsPath, markKind, rootKind}
-use Rattle.spelling.specs.Printing.{effectWord, RootedPath, rootedWords, PrintsText}
+use Rattle.spelling.specs.Printing.{effectWord, pathWords, RootedPath, rootedWords, PrintsText}
 use Rattle.spelling.specs.Printing as printing
 use Rattle.spelling.specs.Marks.{quoted, signOf}
 use Rattle.spelling.proofs.Laid.{read-fitting}
 use Rattle.spelling.proofs.Fixed.{isFixed, written-opened}
-use Rattle.spelling.proofs.Printing.{past, standing-then, has-right, has-first, has-then, has-token, has-behind, pastToken, tokens-around, has-last}
-use Rattle.spelling.proofs.Printing.{laid-append, prints-onto, prints-led, prints-around, prints-before, prints-after, prints-as}
+use Rattle.spelling.proofs.Printing.{past, standing-then, has-right, has-first, has-token, has-behind, pastToken, tokens-around, has-last}
+use Rattle.spelling.proofs.Printing.{laid-append, prints-onto, prints-led, prints-around, prints-before, prints-after, prints-as, Twice, twiceWords, prints-then}
 
 -- ---- literals
 
 -- a string between its quotes
-string-bytes : (t : List ℕ) (start : ℕ) (s : List ℕ) → HasAt t start (quoted s) → quotedAt t (span start (start + length (quoted s))) ≡ s
+pub string-bytes : (t : List ℕ) (start : ℕ) (s : List ℕ) → HasAt t start (quoted s) → quotedAt t (span start (start + length (quoted s))) ≡ s
 string-bytes t start s h =
     let size : start + length (quoted s) - start - 2 ≡ length s = omega (arith, length-append s (quote ∷ [])) in
     let here : drop (start + 1) t ≡ s ++ (quote ∷ h .rest) =
@@ -53,7 +55,7 @@ own-bytes : (t : List ℕ) (start : ℕ) (p : List ℕ) → HasAt t start p → 
 own-bytes t start p h = let size : start + length p - start ≡ length p = omega arith in rw (size, h .is) (take-append-seam p (h .rest))
 
 -- a string within its size
-string-fits : (s : List ℕ) → length s ≤ 127 → readAs kinds.string (quoted s) ≡ kinds.string
+pub string-fits : (s : List ℕ) → length s ≤ 127 → readAs kinds.string (quoted s) ≡ kinds.string
 string-fits s h = read-fitting kinds.string (quoted s) (omega (arith, length-append s (quote ∷ [])))
 
 -- a string, and a number
@@ -188,6 +190,34 @@ path-says {b} {xs} t at k h =
     leading (printing.PrintsPath.first a i) = a
     leading (printing.PrintsPath.more k e f i) = leading k
 
+-- a path after any root but the action's
+pub prints-path : {root : Root} {b : List ℕ} {xs : List WrittenToken} {p : Word} → (root ≡ Action → ⊥) → PrintsPath b xs p → length p ≤ 64
+    → Prints (APath sizes root) pathWords xs p
+prints-path {b = b} {xs = xs} {p = p} n k h =
+    record { anywhere = λ at r. record { what = pathFrom at b xs p; reads = path-read n k h at r; says = λ t q. path-says t at k q } }
+
+-- the action's one path
+name-word : IsName (bytes "name")
+unfolding tokens-opened
+name-word = a-name refl (next refl (next refl (next refl empty))) refl
+
+pub prints-name : {b : List ℕ} → All Blanks b → Prints (APath sizes Action) pathWords (written b kinds.name (bytes "name") ∷ []) (bytes "name")
+unfolding standing laidOut readAs admitted same
+prints-name {b} a = record { anywhere = go }
+  where
+    y : WrittenToken
+    y = written b kinds.name (bytes "name")
+
+    go : (at : ℕ) (r : List Lexeme) → PrintsAt (APath sizes Action) pathWords (y ∷ []) (bytes "name") at r
+    go at r = record {
+      what = pathFrom at b (y ∷ []) (bytes "name");
+      reads =
+          subst (APath sizes Action (lexemeOf at y ∷ r) r)
+          (paths-same (at + length b) (omega (arith, length-append b (bytes "name"))) (omega arith))
+          (alone (grammar.FirstName.first refl refl));
+      says = λ t q. path-says t at (printing.PrintsPath.first a name-word) q;
+    }
+
 -- a root's word
 root-is : (root : Root) (x : Lexeme) → x .kind ≡ rootKind root → (isRoot x ≡ true) × (rootOf x ≡ root)
 unfolding rootKind rootOf
@@ -196,26 +226,46 @@ root-is Resource x e = (rw e, rw e)
 root-is Env x e = (rw e, rw e)
 root-is Action x e = (rw e, rw e)
 
--- an attribute: a root's word, a dot, and a path; of the action there is another one only
+module _ {root : Root} {x y : WrittenToken} {xs : List WrittenToken} {p : Word} (e : OfKind (rootKind root) x) (k : Prints (APath sizes root) pathWords xs p) where
+  -- a root's word, a token of the kind s, and a path
+  prints-after-root : {A B : Type 0} {R : Reading A} {words : List ℕ → A → B} (f : Root → Span → A) (g : Root → Word → B) {s : ℕ}
+      → ((t : List ℕ) (c : Span) → words t (f root c) ≡ g root (unblankedAt t c))
+      → ((l m : Lexeme) (i r : List Lexeme) (q : Path) → isRoot l ≡ true → m .kind ≡ s → APath sizes (rootOf l) i r q
+      → R (l ∷ m ∷ i) r (f (rootOf l) (spanned q)))
+      → OfKind s y → Prints R words (x ∷ y ∷ xs) (g root p)
+  unfolding standing
+  prints-after-root {R = R} {words = words} f g {s} said read u = record { anywhere = go }
+    where
+      go : (at : ℕ) (r : List Lexeme) → PrintsAt R words (x ∷ y ∷ xs) (g root p) at r
+      go at r =
+          let next = at + length (x .blanks) + length (x .bytes) in
+          let start = next + length (y .blanks) + length (y .bytes) in
+          let lead = lexemeOf at x in
+          let is-root = root-is root lead (e .read-as) in
+          let here = k .anywhere start r in
+          let path : APath sizes (rootOf lead) (standing start xs ++ r) r (here .what) =
+          subst (λ (o : Root). APath sizes o (standing start xs ++ r) r (here .what)) (sym (is-root .1)) (here .reads) in
+          record {
+            what = f root (spanned (here .what));
+            reads =
+                subst (λ (o : Root). R (standing at (x ∷ y ∷ xs) ++ r) r (f o (spanned (here .what)))) (is-root .1)
+                (read lead (lexemeOf next y) (standing start xs ++ r) r (here .what) (is-root .0) (u .read-as) path);
+            says = λ t q. said t (spanned (here .what)) ∙ ap (g root) (here .says t (has-behind y xs (has-behind x (y ∷ xs) q)));
+          }
+
+  -- an attribute: with a dot between
+  pub prints-rooted : OfKind kinds.dot y → Prints RootedPath rootedWords (x ∷ y ∷ xs) (root, p)
+  prints-rooted = prints-after-root (λ o c. (o, c)) (λ o w. (o, w)) (λ t c. refl) (λ l m i r q. rooted)
+
+  -- with `has` between
+  pub prints-presence : OfKind kinds.hasWord y → Prints (Simple sizes) treeWords (x ∷ y ∷ xs) (has root p)
+  unfolding treeWords
+  prints-presence = prints-after-root has has (λ t c. refl) (λ l m i r q. having)
+
+-- an attribute of another root than the action
 pub prints-attribute : {root : Root} {x d : WrittenToken} {b : List ℕ} {xs : List WrittenToken} {p : Word} → (root ≡ Action → ⊥) → OfKind (rootKind root) x
     → OfKind kinds.dot d → PrintsPath b xs p → length p ≤ 64 → Prints RootedPath rootedWords (x ∷ d ∷ xs) (root, p)
-unfolding standing
-prints-attribute {root} {x} {d} {b} {xs} {p} n e f k h = record { anywhere = go }
-  where
-    go : (at : ℕ) (r : List Lexeme) → PrintsAt RootedPath rootedWords (x ∷ d ∷ xs) (root, p) at r
-    go at r =
-        let start = at + length (x .blanks) + length (x .bytes) + length (d .blanks) + length (d .bytes) in
-        let lead = lexemeOf at x in
-        let is-root = root-is root lead (e .read-as) in
-        let path : APath sizes (rootOf lead) (standing start xs ++ r) r (pathFrom start b xs p) =
-        subst (λ (s : Root). APath sizes s (standing start xs ++ r) r (pathFrom start b xs p)) (sym (is-root .1)) (path-read n k h start r) in
-        let whole : Attribute sizes (standing at (x ∷ d ∷ xs) ++ r) r (attribute (rootOf lead) (span (start + length b) (past start xs))) =
-        rooted (is-root .0) (f .read-as) path in
-        record {
-          what = (root, span (start + length b) (past start xs));
-          reads = rw (is-root .1) at whole;
-          says = λ t q. ap (λ (w : Word). (root, w)) (path-says t start k (has-behind d xs (has-behind x (d ∷ xs) q)));
-        }
+prints-attribute n e f k h = prints-rooted e (prints-path n k h) f
 
 -- an attribute is an operand
 pub prints-given : {xs : List WrittenToken} {root : Root} {p : Word} → Prints RootedPath rootedWords xs (root, p)
@@ -307,7 +357,7 @@ list-words t [] ks = refl
 list-words t (l ∷ ls) ks = ap (λ (m : List (LiteralOf Word)). literalWords t l ∷ m) (list-words t ls ks)
 
 -- literals with commas between them, as they are read
-abbrev Elements : (Lexeme → Bool) → Reading (List Literal)
+abbrev pub Elements : (Lexeme → Bool) → Reading (List Literal)
 Elements sort = Chain (λ ls. is kinds.comma) (Element sizes sort []) (λ ls comma. Element sizes sort ls)
 
 -- what is read of them, as many as there are
@@ -345,12 +395,15 @@ list-read (printing.PrintsList.more {xs = xs} {c = c} {x = x} {ls = ls} {l = l} 
       many = length-append (before .printed .what) (literalOf y ∷ []) ∙ (let m = before .many in omega arith);
     }
 
--- a list of 1 to 16 literals in its brackets
+-- 1 to 16 literals
+pub prints-elements : {sort : Lexeme → Bool} {xs : List WrittenToken} {ls : List (LiteralOf Word)} → PrintsList sort xs ls → length ls ≤ 16
+    → Prints (Elements sort) listWords xs ls
+prints-elements k h = record { anywhere = λ at r. list-read k h at r .printed }
+
+-- in their brackets
 pub prints-list : {sort : Lexeme → Bool} {xs : List WrittenToken} {ls : List (LiteralOf Word)} {x y : WrittenToken} → OfKind kinds.leftSquare x → PrintsList sort xs ls
     → length ls ≤ 16 → OfKind kinds.rightSquare y → Prints (Listing sizes sort) listWords (x ∷ (xs ++ y ∷ [])) ls
-prints-list {sort} {xs} {ls} {x} {y} e k h f =
-    let inside : Prints (Elements sort) listWords xs ls = record { anywhere = λ at r. list-read k h at r .printed } in
-    prints-after (prints-before inside {x = y} f) {x = x} e
+prints-list {x = x} {y = y} e k h f = prints-after (prints-before (prints-elements k h) {x = y} f) {x = x} e
 
 -- ---- policies
 
@@ -389,7 +442,27 @@ pub prints-when : {x : WrittenToken} {xs : List WrittenToken} {c : TreeOf Word} 
 unfolding standing conditionWords
 prints-when e p = prints-led (λ a. some a) (λ a. some a) (λ t a. refl) p e (λ y i r a. grammar.When.braces)
 
--- a policy behind its effect: the three parts of its target, and its condition
+-- the three parts of a policy's target, and its condition, one behind the other
+abbrev pub PolicyParts : Reading (Part × (Actions × (Part × Option Tree)))
+PolicyParts =
+    Twice (After kinds.leftRound (After kinds.principalWord (Before kinds.comma (Typed principalTypes))))
+    (Twice (After kinds.actionWord (Before kinds.comma (ActionRest sizes)))
+    (Twice (After kinds.resourceWord (Before kinds.rightRound ResourceRest)) (Before kinds.semicolon (When sizes))))
+
+abbrev pub partsWords : List ℕ → Part × (Actions × (Part × Option Tree)) → PartOf Word × (ActionsOf Word × (PartOf Word × Option (TreeOf Word)))
+partsWords = twiceWords partWords (twiceWords actionWords (twiceWords partWords conditionWords))
+
+-- a policy behind its effect
+pub prints-parts : {permits : Bool} {xs : List WrittenToken} {p s : PartOf Word} {a : ActionsOf Word} {c : Option (TreeOf Word)}
+    → Prints PolicyParts partsWords xs (p, (a, (s, c)))
+    → Prints (PolicyRest sizes permits) policyWords xs (record { permits = permits; principal = p; action = a; resource = s; condition = c })
+prints-parts {permits} k = prints-onto (made Span) (made Word) (λ t a. refl) k
+    (λ i r a h. grammar.PolicyRest.rest (h .first) (h .second .first) (h .second .second .first) (h .second .second .second))
+  where
+    made : (W : Type 0) → PartOf W × (ActionsOf W × (PartOf W × Option (TreeOf W))) → PolicyOf W
+    made W a = record { permits = permits; principal = a .0; action = a .1 .0; resource = a .1 .1 .0; condition = a .1 .1 .1 }
+
+-- by each of them
 pub prints-policy : {permits : Bool} {ps os rs cs : List WrittenToken} {p s : PartOf Word} {a : ActionsOf Word} {c : Option (TreeOf Word)}
     → Prints (After kinds.leftRound (After kinds.principalWord (Before kinds.comma (Typed principalTypes)))) partWords ps p
     → Prints (After kinds.actionWord (Before kinds.comma (ActionRest sizes))) actionWords os a
@@ -397,38 +470,10 @@ pub prints-policy : {permits : Bool} {ps os rs cs : List WrittenToken} {p s : Pa
     → Prints (Before kinds.semicolon (When sizes)) conditionWords cs c
     → Prints (PolicyRest sizes permits) policyWords (ps ++ (os ++ (rs ++ cs)))
     (record { permits = permits; principal = p; action = a; resource = s; condition = c })
-prints-policy {permits} {ps} {os} {rs} {cs} {p} {s} {a} {c} k₁ k₂ k₃ k₄ = record { anywhere = go }
-  where
-    policy : PolicyOf Word
-    policy = record { permits = permits; principal = p; action = a; resource = s; condition = c }
-
-    go : (at : ℕ) (r : List Lexeme) → PrintsAt (PolicyRest sizes permits) policyWords (ps ++ (os ++ (rs ++ cs))) policy at r
-    go at r =
-        let two = past at ps in
-        let three = past two os in
-        let four = past three rs in
-        let h₄ = k₄ .anywhere four r in
-        let h₃ = k₃ .anywhere three (standing four cs ++ r) in
-        let h₂ = k₂ .anywhere two (standing three rs ++ (standing four cs ++ r)) in
-        let h₁ = k₁ .anywhere at (standing two os ++ (standing three rs ++ (standing four cs ++ r))) in
-        let parts : standing at (ps ++ (os ++ (rs ++ cs))) ++ r ≡ standing at ps ++ (standing two os ++ (standing three rs ++ (standing four cs ++ r))) =
-        rw (standing-then at ps (os ++ (rs ++ cs)) r, standing-then two os (rs ++ cs) r, standing-then three rs cs r) in
-        record {
-          what = record { permits = permits; principal = h₁ .what; action = h₂ .what; resource = h₃ .what; condition = h₄ .what };
-          reads = rw parts (grammar.PolicyRest.rest (h₁ .reads) (h₂ .reads) (h₃ .reads) (h₄ .reads));
-          says = λ t h.
-              let b₂ = has-then ps (os ++ (rs ++ cs)) h in
-              let b₃ = has-then os (rs ++ cs) b₂ in
-              rw (
-                h₁ .says t (has-first ps (os ++ (rs ++ cs)) h),
-                h₂ .says t (has-first os (rs ++ cs) b₂),
-                h₃ .says t (has-first rs cs b₃),
-                h₄ .says t (has-then rs cs b₃),
-              );
-        }
+prints-policy k₁ k₂ k₃ k₄ = prints-parts (prints-then k₁ (prints-then k₂ (prints-then k₃ k₄)))
 
 -- an effect's word
-effect-is : (permits : Bool) (x : Lexeme) → x .kind ≡ effectWord permits → (isEffect x ≡ true) × (is kinds.permitWord x ≡ permits)
+pub effect-is : (permits : Bool) (x : Lexeme) → x .kind ≡ effectWord permits → (isEffect x ≡ true) × (is kinds.permitWord x ≡ permits)
 unfolding effectWord
 effect-is true x e = (rw e, rw e)
 effect-is false x e = (rw e, rw e)

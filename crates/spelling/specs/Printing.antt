@@ -12,8 +12,10 @@ use Rattle.reading.specs.Lexemes.{Lexeme}
 use Rattle.reading.specs.Reads.{Reading}
 use Rattle.grammar.specs.Policies.{Comparator, Comparator.Equal, Comparator.NotEqual, Comparator.More, Comparator.AtLeast, Comparator.Less, Comparator.AtMost}
 use Rattle.grammar.specs.Policies.{Span, Root, Root.Principal, Root.Resource, Root.Env, Root.Action, LiteralOf, attribute, Policy, PolicyOf}
+use Rattle.grammar.specs.Policies.{Which}
+use Rattle.grammar.specs.Policies as policies
 use Rattle.grammar.specs.Rules.{literalOf}
-use Rattle.grammar.specs.Grammar.{Attribute, RuleText, sizes}
+use Rattle.grammar.specs.Grammar.{Path, spanned, Attribute, RuleText, sizes}
 use Rattle.placing.specs.Placed.{unblankedAt, IsName}
 use Rattle.placing.specs.Said.{Word, literalWords, wordsOf}
 use Rattle.spelling.specs.Layout.{WrittenToken, written, laidOut, readAs, lexemeOf, standing}
@@ -73,6 +75,19 @@ rootKind Action = kinds.actionWord
 unfoldable pub effectWord : Bool → ℕ
 effectWord true = kinds.permitWord
 effectWord false = kinds.forbidWord
+
+-- of true and false, and of the two calls
+unfoldable pub truthKind : Bool → ℕ
+truthKind true = kinds.trueWord
+truthKind false = kinds.falseWord
+
+unfoldable pub callKind : Which → ℕ
+callKind policies.Which.All = kinds.containsAllWord
+callKind policies.Which.Any = kinds.containsAnyWord
+
+-- the words of a path
+abbrev pub pathWords : List ℕ → Path → Word
+pathWords t p = unblankedAt t (spanned p)
 
 -- an attribute by its root and its path, and its words
 abbrev pub RootedPath : Reading (Root × Span)
