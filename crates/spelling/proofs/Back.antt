@@ -32,10 +32,13 @@ use Rattle.placing.specs.Said.{Word, literalWords, listWords, operandWords, tre
 use Rattle.placing.proofs.EachLaws.{each-append, each-both}
 use Rattle.placing.proofs.Theorems.{policies-placed}
 use Rattle.spelling.specs.Printed.{closely, printedBy}
-use Rattle.spelling.specs.Printable.{PrintableString, PrintableNumber, PrintablePath, PrintableLiteral, of-string, of-number, of-truth, PrintableAction, of-action}
+use Rattle.spelling.specs.Printable.{PrintableString, PrintableNumber, PrintablePath, PrintableLiteral}
+use Rattle.spelling.specs.Printable.{of-string, of-number, of-truth, PrintableAction, of-action}
 use Rattle.spelling.specs.Printable.{PrintableOperand, of-attribute, of-literal, PrintableList, PrintableSimple, of-constant, of-comparison, of-likeness}
-use Rattle.spelling.specs.Printable.{of-list, of-member, of-call, of-presence, PrintableJoined, PrintableDisjunction, PrintableOver, of-simple, of-negation}
-use Rattle.spelling.specs.Printable.{of-brackets, of-choice, NoneDeeper, PrintableCondition, PrintableWhen, without, of-when, PrintableTyped, of-any, of-type}
+use Rattle.spelling.specs.Printable.{of-list, of-member, of-call, of-presence}
+use Rattle.spelling.specs.Printable.{PrintableJoined, PrintableDisjunction, PrintableOver, of-simple, of-negation}
+use Rattle.spelling.specs.Printable.{of-brackets, of-choice, NoneDeeper, PrintableCondition, PrintableWhen}
+use Rattle.spelling.specs.Printable.{without, of-when, PrintableTyped, of-any, of-type}
 use Rattle.spelling.specs.Printable.{PrintableResource, of-sort, of-pin, PrintableActions, of-every, of-some, PrintablePolicy, PrintablePolicies}
 use Rattle.spelling.specs.Printable as printable
 use Rattle.spelling.specs.Promise.{PrintedByIsSaid, SaidIsPrintable, PrintableExactly}
@@ -92,7 +95,10 @@ module _ (t : List ℕ) where
   string-said : {s : Span} → StringPlaced t s → PrintableString (quotedAt t s)
   string-said {s} h = record {
     all = h .inside;
-    size = let few = h .few in omega (arith, length-take (s .end - s .start - 2) (drop (s .start + 1) t), min-le-left (s .end - s .start - 2) (length (drop (s .start + 1) t)));
+    size =
+        let n = s .end - s .start - 2 in
+        let behind = drop (s .start + 1) t in
+        let few = h .few in omega (arith, length-take n behind, min-le-left n (length behind));
   }
 
   literal-said : {l : Literal} → LiteralPlaced t l → PrintableLiteral (literalWords t l)

@@ -134,7 +134,8 @@ module _ {Inner : Reading Tree} where
 
   -- `if`, with what is before `then`, what is before `else`, and the rest
   pub prints-choice : {x : WrittenToken} {xs : List WrittenToken} {c a b : TreeOf Word} → OfKind kinds.ifWord x
-      → Prints (Twice (Before kinds.thenWord Inner) (Twice (Before kinds.elseWord Inner) Inner)) (twiceWords treeWords (twiceWords treeWords treeWords)) xs (c, (a, b))
+      → Prints (Twice (Before kinds.thenWord Inner) (Twice (Before kinds.elseWord Inner) Inner)) (twiceWords treeWords (twiceWords treeWords treeWords)) xs
+      (c, (a, b))
       → Prints (ConditionOver sizes Inner) treeWords (x ∷ xs) (choice c a b)
   unfolding treeWords
   prints-choice e p =

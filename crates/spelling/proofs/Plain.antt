@@ -58,7 +58,8 @@ module _ {A B C D : Type 0} {R : Reading A} {S : Reading C} {words₁ : List ℕ
   printed-as law p = record { laid = λ {xs} h. law xs (p .laid h); formed = p .formed }
 
   -- with a token before them
-  pub printed-led : {k : ℕ} {t : PlainToken} → FixedToken k t → ((x : WrittenToken) (xs : List WrittenToken) → OfKind k x → Prints R words₁ xs v → Prints S words₂ (x ∷ xs) w)
+  pub printed-led : {k : ℕ} {t : PlainToken} → FixedToken k t
+      → ((x : WrittenToken) (xs : List WrittenToken) → OfKind k x → Prints R words₁ xs v → Prints S words₂ (x ∷ xs) w)
       → PrintedAs R words₁ ts v → PrintedAs S words₂ (t ∷ ts) w
   printed-led {k} {t} f law p = record { laid = go; formed = and-each (f .formed) (p .formed) }
     where
@@ -75,7 +76,8 @@ module _ {A B C D : Type 0} {R : Reading A} {S : Reading C} {words₁ : List ℕ
       go (and-laid {b = b} a (and-laid {b = c} {xs = xs} d h)) = law _ _ xs (kind-of b f) (kind-of c g) (p .laid h)
 
   -- one behind the other
-  pub printed-then : {us : List PlainToken} → PrintedAs R words₁ ts v → PrintedAs S words₂ us w → PrintedAs (Twice R S) (twiceWords words₁ words₂) (ts ++ us) (v, w)
+  pub printed-then : {us : List PlainToken} → PrintedAs R words₁ ts v → PrintedAs S words₂ us w
+      → PrintedAs (Twice R S) (twiceWords words₁ words₂) (ts ++ us) (v, w)
   printed-then {us} p q = record { laid = λ h. go (laid-parts ts h); formed = each-append ts us (p .formed) (q .formed) }
     where
       go : {xs : List WrittenToken} → Parts ts us xs → Prints (Twice R S) (twiceWords words₁ words₂) xs (v, w)
@@ -103,7 +105,15 @@ module _ {A B : Type 0} {R : Reading A} {words : List ℕ → A → B} {ts : Lis
   pub printed-after : PrintedAs (After k R) words (t ∷ ts) w
   printed-after = printed-led f (λ x xs e h. prints-after h e) p
 
--- One word for proofs that compute with printed policies.
+-- One word for proofs that compute with printed policies: their tokens, and the text of these.
+unfoldable words-opened : Unit {0}
+unfolding written-opened signOf markKind rootKind truthKind callKind effectWord rootToken whichToken effectToken truthToken intoFirst pathTokens literalToken
+words-opened = tt
+
+unfoldable trees-opened : Unit {0}
+unfolding words-opened commaTokens literalTokens operandTokens treeTokens partTokens actionTokens whenTokens restTokens policiesTokens
+trees-opened = tt
+
 unfoldable pub printed-opened : Unit {0}
-unfolding written-opened printedBy laidBy laidBehind blankBetween closely policiesTokens restTokens whenTokens actionTokens partTokens treeTokens operandTokens literalTokens commaTokens literalToken pathTokens intoFirst rootToken whichToken effectToken truthToken signOf markKind rootKind truthKind callKind effectWord principalTypes resourceTypes
+unfolding trees-opened principalTypes resourceTypes blankBetween laidBehind laidBy printedBy closely
 printed-opened = tt

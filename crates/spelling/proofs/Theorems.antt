@@ -22,7 +22,8 @@ use Rattle.spelling.specs.Spelling.{apart, calm}
 use Rattle.spelling.specs.Layout.{WrittenToken, written, laidOut, standing, WellWritten, none, one}
 use Rattle.spelling.specs.Marks.{quoted}
 use Rattle.spelling.specs.Printing.{Prints}
-use Rattle.spelling.specs.Printed.{PlainToken, plainly, effectToken, typeName, partTokens, actionTokens, restTokens, policiesTokens, blankBetween, laidBehind, laidBy}
+use Rattle.spelling.specs.Printed.{PlainToken, plainly, effectToken, typeName, partTokens}
+use Rattle.spelling.specs.Printed.{actionTokens, restTokens, policiesTokens, blankBetween, laidBehind, laidBy}
 use Rattle.spelling.specs.Printed.{printedBy}
 use Rattle.spelling.specs.Printable.{PrintableTyped, of-any, of-type, PrintableResource, of-sort, of-pin, PrintableActions, of-every, of-some}
 use Rattle.spelling.specs.Printable.{PrintablePolicy}

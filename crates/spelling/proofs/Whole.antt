@@ -37,7 +37,8 @@ use Rattle.spelling.specs.Printed.{PlainToken, truthToken, effectToken, 
 use Rattle.spelling.specs.Printed.{literalToken, commaTokens, literalTokens, listTokens, operandTokens, treeTokens, whenTokens}
 use Rattle.spelling.specs.Printable.{PrintableString, PrintablePath, PrintableLiteral, of-string, of-number, of-truth, PrintableAction, of-action}
 use Rattle.spelling.specs.Printable.{PrintableOperand, of-attribute, of-literal, PrintableList, PrintableSimple, of-constant, of-comparison, of-likeness}
-use Rattle.spelling.specs.Printable.{of-list, of-member, of-call, of-presence, PrintableJoined, PrintableDisjunction, PrintableOver, of-simple, of-negation}
+use Rattle.spelling.specs.Printable.{of-list, of-member, of-call, of-presence}
+use Rattle.spelling.specs.Printable.{PrintableJoined, PrintableDisjunction, PrintableOver, of-simple, of-negation}
 use Rattle.spelling.specs.Printable.{of-brackets, of-choice, NoneDeeper, PrintableCondition, PrintableWhen, without, of-when}
 use Rattle.spelling.specs.Printable as printable
 use Rattle.spelling.proofs.Fixed.{written-opened, FormedToken, FixedToken, fixed}
