@@ -8,7 +8,7 @@ use borrow.Author.Tests.{eq-eqb, ne-eqb}
 use lib.ListN.{length, take, drop, length-drop}
 use Rattle.folder.specs.Added.{Added}
 use Rattle.folder.specs.Decimals.{numbersLine, refusedLine}
-use Rattle.folder.specs.declared.cases.Part.{Part}
+use Rattle.folder.specs.declared.cases.CasePart.{CasePart}
 use Rattle.folder.specs.Cases.{Case, caseOf, pastCase, casesOf, PartAt}
 use Rattle.folder.proofs.CaseLaws.{first-case, no-case, cutOut, case-cut, case-past}
 use Rattle.targets.specs.Matching.{request}
@@ -18,7 +18,7 @@ use Rattle.desk.specs.declared.DeskCompiled.{DeskCompiled}
 use Rattle.desk.specs.declared.DeskDecision.{DeskDecision}
 use Rattle.desk.proofs.Promised.{demand-two}
 use Rattle.ask.specs.Lines.{compiledWord, decidedWord, compiledLine, decidedLine, caseLine, caseLines, caseLinesFrom, casesFrom, CaseAnswered, CasesAnswered, answeredFor}
-use Rattle.ask.specs.declared.Step.{Step}
+use Rattle.ask.specs.declared.CaseStep.{CaseStep}
 
 -- ---- a line
 
@@ -41,7 +41,7 @@ module _ {a b : List ℕ} {at next : ℕ} where
 
 -- ---- a case
 
-module _ (text table : List ℕ) {s : List ℕ} {at : ℕ} {p q r t : Part} (subject : PartAt s at p) (action : PartAt s (p .end) q) (resource : PartAt s (q .end) r) (bag : PartAt s (r .end) t) where
+module _ (text table : List ℕ) {s : List ℕ} {at : ℕ} {p q r t : CasePart} (subject : PartAt s at p) (action : PartAt s (p .end) q) (resource : PartAt s (q .end) r) (bag : PartAt s (r .end) t) where
   pub case-answered : {old new : List ℕ} {filled line : ℕ} {answer : DeskDecision} → at < length s
       → answer ≡ decideSays text table (cutOut s t) (request (cutOut s p) (cutOut s q) (cutOut s r))
       → Added old filled (decidedLine answer) new line → line ≤ filled + 92
@@ -70,7 +70,7 @@ from-here text table s at next h e =
 count-here : (s : List ℕ) (at next : ℕ) → at < length s → drop next s ≡ pastCase (drop at s) → casesFrom s at ≡ suc (casesFrom s next)
 count-here s at next h e = ap length (first-case (drop at s) (omega (arith, length-drop at s))) ∙ ap (λ (l : List ℕ). suc (length (casesOf l))) (sym e)
 
-pub one-more : {text table s : List ℕ} {at : ℕ} {old new : List ℕ} {answered next filled : ℕ} {step : Step}
+pub one-more : {text table s : List ℕ} {at : ℕ} {old new : List ℕ} {answered next filled : ℕ} {step : CaseStep}
     → CasesAnswered text table s at old answered (record { next = next; filled = filled }) → next < length s → CaseAnswered text table s next old filled new step
     → filled + 92 ≤ length old → CasesAnswered text table s at new (answered + 1) step
 one-more {text} {table} {s} {at} {old} {new} {answered} {next} {filled} {step} p h c room = record {

@@ -13,7 +13,7 @@ use Rattle.folder.specs.Decimals.{numbersLine, refusedLine}
 use Rattle.desk.specs.Answers.{compileSays, compileLeaves, decideSays, tallySays}
 use Rattle.desk.specs.declared.DeskCompiled.{DeskCompiled}
 use Rattle.desk.specs.declared.DeskDecision.{DeskDecision}
-use Rattle.ask.specs.declared.Step.{Step}
+use Rattle.ask.specs.declared.CaseStep.{CaseStep}
 
 -- the word `compiled` and a blank
 abbrev pub compiledWord : List ℕ
@@ -50,7 +50,7 @@ abbrev pub casesFrom : List ℕ → ℕ → ℕ
 casesFrom s at = length (casesOf (drop at s))
 
 -- one case more is answered: its line stands behind those before it, and the next case begins where it ends
-pub record CaseAnswered (text table s : List ℕ) (at : ℕ) (old : List ℕ) (filled : ℕ) (new : List ℕ) (step : Step) : Type 0 where
+pub record CaseAnswered (text table s : List ℕ) (at : ℕ) (old : List ℕ) (filled : ℕ) (new : List ℕ) (step : CaseStep) : Type 0 where
   pub line : Added old filled (caseLine text table (caseOf (drop at s))) new (step .filled)
   pub rest : drop (step .next) s ≡ pastCase (drop at s)
   pub low : at < step .next
@@ -58,7 +58,7 @@ pub record CaseAnswered (text table s : List ℕ) (at : ℕ) (old : List ℕ) (f
   pub short : step .filled ≤ filled + 92
 
 -- so many cases are answered: their lines, and those of the cases from the next on, are the lines of all from `at` on
-pub record CasesAnswered (text table s : List ℕ) (at : ℕ) (new : List ℕ) (answered : ℕ) (step : Step) : Type 0 where
+pub record CasesAnswered (text table s : List ℕ) (at : ℕ) (new : List ℕ) (answered : ℕ) (step : CaseStep) : Type 0 where
   pub lines : caseLinesFrom text table s at ≡ take (step .filled) new ++ caseLinesFrom text table s (step .next)
   pub counted : casesFrom s at ≡ answered + casesFrom s (step .next)
   pub high : step .next ≤ length s

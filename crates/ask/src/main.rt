@@ -18,7 +18,7 @@ use folder::read_file;
 use libc::STDOUT_FILENO;
 
 // Where the next case begins, and how many bytes of the buffer are filled.
-pub struct Step {
+pub struct CaseStep {
     pub next: usize,
     pub filled: usize,
 }
@@ -53,7 +53,7 @@ fn answer_case<'a>(
     at: usize,
     out: &mut [u8],
     filled: usize,
-) -> Step
+) -> CaseStep
     requires { ⌜ (at < length (now cases)) × (filled + 92 ≤ length (now out)) ⌝ }
     ensures { λ r. ⌜ CaseAnswered (now (text .entry)) (now (table .entry)) (now (cases .entry)) at (now (out .entry)) filled (now (out .exit)) r ⌝ }
 {
@@ -78,7 +78,7 @@ fn answer_case<'a>(
         &cases[e..f],
     );
     let line = put_decided(out, filled, answer);
-    Step {
+    CaseStep {
         next: h,
         filled: line,
     }
@@ -87,7 +87,7 @@ fn answer_case<'a>(
 // How many cases are answered, and how far.
 pub struct Answered {
     pub cases: usize,
-    pub step: Step,
+    pub step: CaseStep,
 }
 
 // Answers cases from a place on, as many as the buffer has room for.
@@ -109,7 +109,7 @@ fn answer_cases<'a>(
         if out.len() - filled < 92 {
             return Answered {
                 cases: answered,
-                step: Step { next, filled },
+                step: CaseStep { next, filled },
             };
         }
         let step = answer_case(text, table, cases, next, out, filled);
@@ -119,7 +119,7 @@ fn answer_cases<'a>(
     }
     Answered {
         cases: answered,
-        step: Step { next, filled },
+        step: CaseStep { next, filled },
     }
 }
 

@@ -22,7 +22,7 @@ use Rattle.permits.specs.Promise.{AllFit, PermitSays, PermitMeans}
 use Rattle.permits.proofs.Says.{permit-says}
 use Rattle.permits.proofs.Means.{permit-means}
 use Rattle.locks.specs.Forms.{Lockable}
-use Rattle.locks.specs.Promise.{LockCall, Answers, no-lock, no-room, permit, answerTo, roomLeft, permitFor, AnsweredExactly, NothingChanged, PermitStands, OneLock}
+use Rattle.locks.specs.Promise.{LockCall, Answers, no-lock, no-room, permit, answerTo, roomLeft, permitFor, AnsweredExactly, RoomUnchanged, PermitStands, OneLock}
 use Rattle.locks.specs.declared.Answer.{Answer}
 use Rattle.locks.specs.declared.Answer.the-variants.{Written, Refused}
 use Rattle.locks.proofs.Exactly.{made, all-fit}
@@ -71,7 +71,7 @@ refused (Written n) h = absurd (h refl)
 refused (Refused n) h = (n, refl)
 
 pub lock-stays : (c : LockCall) → (lockFor c .refusal ≡ 0 → ⊥) → lockRoom c ≡ c .room
-unfolding lockSays NothingChanged
+unfolding lockSays RoomUnchanged
 lock-stays c h = let r = refused (answerTo c) h in locks.nothing-changed c (r .0) (r .1)
 
 pub lock-zeros : (c : LockCall) → (lockFor c .refusal ≡ 0 → ⊥) → lockFor c .length ≡ 0

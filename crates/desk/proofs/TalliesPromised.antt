@@ -34,7 +34,7 @@ use Rattle.sheets.proofs.Promised.{rows-asked}
 use Rattle.tallies.specs.Lent.{requestsOf}
 use Rattle.tallies.specs.Tallies.{groupCount, groupsOf, sumFrom, sumsOf, withSums, groupFor}
 use Rattle.tallies.specs.Promise as tallies
-use Rattle.tallies.specs.Promise.{TallyCall, Lent, Accepted, the-system, none-wrong, FirstRefused, TallyRefused, no-request, too-many, no-question, by-request}
+use Rattle.tallies.specs.Promise.{TallyCall, Lent, Passes, the-system, none-wrong, FirstRefused, TallyRefused, no-request, too-many, no-question, by-request}
 use Rattle.tallies.specs.Promise.{TallyRefusedExactly, OneLent}
 use Rattle.tallies.proofs.Groups.{groups-long, group-there, group-behind, sums-there}
 use Rattle.tallies.proofs.Deciders.{decided-some, counts-outcome, counts-policy, yes-counted}
@@ -118,7 +118,7 @@ one-tally text base columns q group group′ a b k h = elim (decLt k 4) [
 
 -- ---- what a request's group says
 
-module _ (text table question : List ℕ) (q : Request) (a : Accepted text table q) {base : Contents} {columns : List Column} (w : QuestionBytes question base columns) where
+module _ (text table question : List ℕ) (q : Request) (a : Passes text table q) {base : Contents} {columns : List Column} (w : QuestionBytes question base columns) where
   -- the first page of its sheet, which has the same rows
   abbrev call : SheetCall
   call = record { text = text; table = table; question = question; request = q; start = 0; sheet = replicate 6 0; at = 0 }
@@ -126,7 +126,7 @@ module _ (text table question : List ℕ) (q : Request) (a : Accepted text table
   asked : Wellasked call
   asked = record { room = omega (arith, length-replicate {A = ℕ} 6 0); base = base; columns = columns; question-says = w; within = zero-le }
 
-  heard-as : Accepted text table q → Heard call
+  heard-as : Passes text table q → Heard call
   heard-as (the-system s) = of-the-system asked s
   heard-as (none-wrong f b) = of-another asked f b
 

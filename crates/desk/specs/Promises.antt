@@ -408,7 +408,7 @@ pub record Refusals : Type 0 where
 
 -- a lock says these actions and these tests, in a permit that would compile
 abbrev pub SaysLock : LockCall → List Word → List Test → Type 0
-SaysLock c actions tests = locks.Says c actions tests
+SaysLock c actions tests = locks.CallSays c actions tests
 
 -- what is written for a lock: the permit for its actions, its resource and its tests
 pub record TheLock (c : LockCall) (actions : List Word) (tests : List Test) : Type 0 where

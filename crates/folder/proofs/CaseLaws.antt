@@ -5,7 +5,7 @@ use Prim.Native.Nat.{ℕ, zero, suc, _+_, _-_, _*_, _≤_, _<_}
 use native.Mathlib.Omega.{arith}
 use lib.ListN.{length, getD, take, drop, length-drop, drop-of-length-le, List·getD-eq-default}
 use lib.Seq.{drop-drop, drop-nil, take-nil, take-all, getD-drop}
-use Rattle.folder.specs.declared.cases.Part.{Part}
+use Rattle.folder.specs.declared.cases.CasePart.{CasePart}
 use Rattle.folder.specs.Cases.{partSize, partOf, behindPart, Case, caseOf, pastCase, casesIn, casesOf, PartAt}
 
 -- ---- a part
@@ -113,11 +113,11 @@ no-case [] h = refl
 no-case (b ∷ s) h = absurd (omega arith)
 
 -- the bytes of a part
-abbrev pub cutOut : List ℕ → Part → List ℕ
+abbrev pub cutOut : List ℕ → CasePart → List ℕ
 cutOut s p = take (p .end - p .start) (drop (p .start) s)
 
 -- the four parts that are cut, one behind the other, are the case at a place
-module _ {s : List ℕ} {at : ℕ} {p q r t : Part} (subject : PartAt s at p) (action : PartAt s (p .end) q) (resource : PartAt s (q .end) r) (bag : PartAt s (r .end) t) where
+module _ {s : List ℕ} {at : ℕ} {p q r t : CasePart} (subject : PartAt s at p) (action : PartAt s (p .end) q) (resource : PartAt s (q .end) r) (bag : PartAt s (r .end) t) where
   pub case-cut : _≡_ {A = Case} (record { subject = cutOut s p; action = cutOut s q; resource = cutOut s r; bag = cutOut s t }) (caseOf (drop at s))
   unfolding caseOf
   case-cut = rw (subject .bytes, action .bytes, resource .bytes, bag .bytes, resource .rest, action .rest, subject .rest) refl

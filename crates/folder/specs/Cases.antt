@@ -1,9 +1,10 @@
--- The cases that the bytes of cases.bin have: one after the other, each of four parts, each part behind its length in two bytes; what is missing at the end is empty. Definitions only.
+-- The cases that the bytes of cases.bin have: one after the other, each of four parts, each part behind its length in two bytes;
+-- what is missing at the end is empty. Definitions only.
 use mathlib.Core.Path.{_≡_}
 use mathlib.Core.List.{List, [], _∷_}
 use Prim.Native.Nat.{ℕ, zero, suc, _+_, _-_, _*_, _≤_, _<_}
 use lib.ListN.{length, getD, take, drop}
-use Rattle.folder.specs.declared.cases.Part.{Part}
+use Rattle.folder.specs.declared.cases.CasePart.{CasePart}
 
 -- the length of the first part, the low byte first; a byte that is missing counts as 0
 abbrev pub partSize : List ℕ → ℕ
@@ -48,7 +49,7 @@ unfoldable pub casesOf : List ℕ → List Case
 casesOf s = casesIn (length s) s
 
 -- the part that starts at a place lies inside the bytes, and the bytes behind it are those from its end on
-pub record PartAt (s : List ℕ) (at : ℕ) (p : Part) : Type 0 where
+pub record PartAt (s : List ℕ) (at : ℕ) (p : CasePart) : Type 0 where
   pub bytes : take (p .end - p .start) (drop (p .start) s) ≡ partOf (drop at s)
   pub rest : drop (p .end) s ≡ behindPart (drop at s)
   pub low : at ≤ p .start

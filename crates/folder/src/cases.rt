@@ -5,7 +5,7 @@ ghost use lib.ListN.{length};
 ghost use Rattle.folder.specs.Cases.{PartAt};
 
 // Where a part's bytes start and end.
-pub struct Part {
+pub struct CasePart {
     pub start: usize,
     pub end: usize,
 }
@@ -18,22 +18,22 @@ pub fn wide(b: u8) -> usize
 }
 
 // The part whose length stands at a place.
-pub fn part_at(s: &[u8], at: usize) -> Part
+pub fn part_at(s: &[u8], at: usize) -> CasePart
     requires { ⌜ at ≤ length (now s) ⌝ }
     ensures { λ r. ⌜ PartAt (now (s .entry)) at r ⌝ }
 {
     let left = s.len() - at;
     if left < 2 {
         let end = s.len();
-        return Part { start: end, end };
+        return CasePart { start: end, end };
     }
     let size = wide(s[at]) + 256 * wide(s[at + 1]);
     let start = at + 2;
     if left - 2 < size {
         let end = s.len();
-        return Part { start, end };
+        return CasePart { start, end };
     }
-    Part {
+    CasePart {
         start,
         end: start + size,
     }

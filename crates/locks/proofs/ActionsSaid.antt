@@ -1,46 +1,45 @@
 -- The reader of action lists takes the bytes of some strings and no others. Assumes nothing.
 use mathlib.Core.Path.{_≡_, refl, sym, ap, _∙_}
-use mathlib.Core.Bool.{Bool, true, false, cond, not, _&&_, and-eq-true-iff}
-use mathlib.Core.List.{List, [], _∷_, _++_, append-nil}
+use mathlib.Core.Bool.{Bool, true, false, _&&_, and-eq-true-iff}
+use mathlib.Core.List.{List, [], _∷_, _++_}
 use mathlib.Core.Option.{Option, none, some}
 use Prim.Native.Nat.{ℕ, zero, suc, _+_, _-_, _≤_, _<_}
 use native.Mathlib.Omega.{arith}
 use lib.Dec.{eqb, leb, ltb}
-use lib.ListN.{length, getD, take, drop}
-use borrow.Author.Tests.{lt-ltb, le-leb, eq-eqb, ne-eqb, ltb-true, leb-true, eqb-true, eqb-false}
+use lib.ListN.{length}
+use borrow.Author.Tests.{lt-ltb, le-leb, eq-eqb, ne-eqb, ltb-true, leb-true, eqb-true}
 use Rattle.slices.specs.Parts.{part}
 use Rattle.bags.specs.Forms.{InTurn, none as no-more, more}
 use Rattle.bags.specs.Reading.{byte}
 use Rattle.bags.proofs.Laid.{Laid, laid-none, laid-cons, laid-part, laid-join, laid-split, laid-head, laid-is}
 use Rattle.placing.specs.Said.{Word}
 use Rattle.permits.specs.Meaning.{AString}
-use Rattle.locks.specs.Reading.{Step, wrong, last, on, before, stepped, listed, stepBy, noPiece, isString, actionAt, actionStep, actionStepOf}
+use Rattle.locks.specs.Reading.{ThingStep, wrong, last, on, inFront, stepped, thingsFrom, stepBy, noPiece, isRuleString, actionAt, actionStep}
 use Rattle.locks.specs.Forms.{ActionBytes, action}
-use Rattle.locks.specs.declared.Piece.{Piece}
 use Rattle.locks.proofs.Strings.{string-test, test-string}
 use Rattle.locks.proofs.ListedLaws.{at-last, at-on}
 
 -- ---- what is listed, by its first step
 
-pub data Steps {A : Type 0} (next : ℕ → Step A) (n at : ℕ) : List A → Type 0 where
+pub data Steps {A : Type 0} (next : ℕ → ThingStep A) (n at : ℕ) : List A → Type 0 where
   ends : {x : A} → next at ≡ last x → Steps next n at (x ∷ [])
-  goes : {x : A} {m : ℕ} {xs : List A} → next at ≡ on x m → listed n next m ≡ some xs → Steps next n at (x ∷ xs)
+  goes : {x : A} {m : ℕ} {xs : List A} → next at ≡ on x m → thingsFrom n next m ≡ some xs → Steps next n at (x ∷ xs)
 
-pub steps : {A : Type 0} (next : ℕ → Step A) (n at : ℕ) (xs : List A) → listed (suc n) next at ≡ some xs → Steps next n at xs
-unfolding listed
+pub steps : {A : Type 0} (next : ℕ → ThingStep A) (n at : ℕ) (xs : List A) → thingsFrom (suc n) next at ≡ some xs → Steps next n at xs
+unfolding thingsFrom
 steps {A} next n at xs h = go (next at) refl h
   where
     to : {x : List A} {y : List A} → x ≡ y → Steps next n at x → Steps next n at y
     to q s = rw (← q) s
 
-    before-some : (x : A) (m : ℕ) → next at ≡ on x m → (o : Option (List A)) → listed n next m ≡ o → before x o ≡ some xs → Steps next n at xs
+    before-some : (x : A) (m : ℕ) → next at ≡ on x m → (o : Option (List A)) → thingsFrom n next m ≡ o → inFront x o ≡ some xs → Steps next n at xs
     before-some x m q none e h = absurd (let z : _≡_ {A = ℕ} 0 1 = cc in omega arith)
     before-some x m q (some ys) e h = let r : x ∷ ys ≡ xs = cc in to r (goes q e)
 
-    go : (s : Step A) → next at ≡ s → stepped s (listed n next) ≡ some xs → Steps next n at xs
+    go : (s : ThingStep A) → next at ≡ s → stepped s (thingsFrom n next) ≡ some xs → Steps next n at xs
     go wrong q h = absurd (let z : _≡_ {A = ℕ} 0 1 = cc in omega arith)
     go (last x) q h = let r : x ∷ [] ≡ xs = cc in to r (ends q)
-    go (on x m) q h = before-some x m q (listed n next m) refl h
+    go (on x m) q h = before-some x m q (thingsFrom n next m) refl h
 
 -- ---- a string behind its length byte
 
@@ -53,7 +52,7 @@ module _ (a : List ℕ) (at : ℕ) where
     pub string : AString x
     pub laid : Laid a at (length x ∷ x) e
 
-  acts : at < length a → at + 1 + byte a at ≤ length a → isString here ≡ true → Acts here (at + 1 + byte a at)
+  acts : at < length a → at + 1 + byte a at ≤ length a → isRuleString here ≡ true → Acts here (at + 1 + byte a at)
   acts h k s =
       let p = laid-part a (at + 1) (byte a at) k in
       record { string = test-string here s; laid = laid-cons a at (length here) here _ h (sym (p .1)) (p .0) }
@@ -65,12 +64,12 @@ module _ (a : List ℕ) (at : ℕ) where
 
   found : Found
   unfolding actionAt
-  found = go (ltb at (length a) && leb (at + 1 + byte a at) (length a) && isString here) refl
+  found = go (ltb at (length a) && leb (at + 1 + byte a at) (length a) && isRuleString here) refl
     where
-      go : (t : Bool) → (ltb at (length a) && leb (at + 1 + byte a at) (length a) && isString here) ≡ t → Found
+      go : (t : Bool) → (ltb at (length a) && leb (at + 1 + byte a at) (length a) && isRuleString here) ≡ t → Found
       go false e = bad (rw e)
       go true e =
-          let x = and-eq-true-iff _ (isString here) .0 e in
+          let x = and-eq-true-iff _ (isRuleString here) .0 e in
           let y = and-eq-true-iff (ltb at (length a)) _ .0 (x .0) in
           good (acts (ltb-true _ _ (y .0)) (leb-true _ _ (y .1)) (x .1)) (rw e)
 
@@ -124,7 +123,7 @@ module _ (a : List ℕ) (at : ℕ) where
         let h = laid-head l in
         let i = is-here in
         let k : at + 1 + byte a at ≤ length a = omega (arith, l .inside, i .1) in
-        let g : isString here ≡ true = rw (i .0) (string-test s) in
+        let g : isRuleString here ≡ true = rw (i .0) (string-test s) in
         step-good (rw (lt-ltb _ _ (h .within), le-leb _ _ k, g)) ∙ rw (i .0, ← i .1)
 
 -- ---- the list
@@ -136,15 +135,15 @@ pub record ActionsSaid (a : List ℕ) (at n : ℕ) (xs : List Word) : Type 0 whe
   pub few : length xs ≤ n
   pub some-one : 1 ≤ length xs
 
-pub actions-sound : (a : List ℕ) (n at : ℕ) (xs : List Word) → listed n (actionStep a) at ≡ some xs → ActionsSaid a at n xs
-unfolding listed
+pub actions-sound : (a : List ℕ) (n at : ℕ) (xs : List Word) → thingsFrom n (actionStep a) at ≡ some xs → ActionsSaid a at n xs
+unfolding thingsFrom
 actions-sound a zero at xs h = absurd (let z : _≡_ {A = ℕ} 0 1 = none-listed in omega arith)
   where
     none-listed : _≡_ {A = ℕ} 0 1
     none-listed = cc
 actions-sound a (suc n) at xs h = go (steps (actionStep a) n at xs h) (actions-sound a n)
   where
-    go : {xs : List Word} → Steps (actionStep a) n at xs → ((m : ℕ) (ys : List Word) → listed n (actionStep a) m ≡ some ys → ActionsSaid a m n ys)
+    go : {xs : List Word} → Steps (actionStep a) n at xs → ((m : ℕ) (ys : List Word) → thingsFrom n (actionStep a) m ≡ some ys → ActionsSaid a m n ys)
         → ActionsSaid a at (suc n) xs
     go (ends {x} q) ih =
         let w = last-acts a at x q in
@@ -167,7 +166,7 @@ actions-sound a (suc n) at xs h = go (steps (actionStep a) n at xs h) (actions-s
         }
 
 pub actions-complete : (a : List ℕ) {b : List ℕ} {xs : List Word} → InTurn ActionBytes b xs → (at n : ℕ) → Laid a at b (length a) → 1 ≤ length xs → length xs ≤ n
-    → listed n (actionStep a) at ≡ some xs
+    → thingsFrom n (actionStep a) at ≡ some xs
 unfolding stepBy
 actions-complete a no-more at n l h k = absurd (omega arith)
 actions-complete a (more (action {s} w) no-more) at n l h k =
@@ -182,7 +181,7 @@ actions-complete a (more {b = b} (action {s} w) (more {a = a'} {b = b'} {x} {xs}
     let q = laid-split a' b' (p .1) in
     let f : at + length (length s ∷ s) ≡ length a → ⊥ = λ e. omega (arith, q .0 .stop, q .0 .inside, some-byte u) in
     at-on (actionStep a) n at s (at + length (length s ∷ s)) (omega arith) (acts-step a at s _ w (p .0) ∙ on-is f)
-    ∙ ap (before s) (actions-complete a (more u r) (at + length (length s ∷ s)) (n - 1) (p .1) (omega arith) (omega arith))
+    ∙ ap (inFront s) (actions-complete a (more u r) (at + length (length s ∷ s)) (n - 1) (p .1) (omega arith) (omega arith))
   where
     some-byte : {b : List ℕ} {x : Word} → ActionBytes b x → 1 ≤ length b
     some-byte (action w) = omega arith

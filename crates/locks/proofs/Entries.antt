@@ -1,14 +1,14 @@
 -- The reader of vocabularies takes the bytes of entries and no others, and finds each word's entry. Assumes nothing.
 use mathlib.Core.Path.{_≡_, refl, sym, ap, _∙_}
 use mathlib.Core.Bool.{Bool, true, false, cond, _&&_, _||_, and-eq-true-iff, false≢true}
-use mathlib.Core.List.{List, [], _∷_, _++_, map, List·Memᴰ, List·Memᴰ·head, List·Memᴰ·tail, List·Memᴰ·not-nil, List·Memᴰ·cases-cons}
-use mathlib.Core.Logic.{_⊎_, inl, inr, ⊎-elim}
+use mathlib.Core.List.{List, [], _∷_, _++_, List·Memᴰ, List·Memᴰ·head, List·Memᴰ·tail, List·Memᴰ·not-nil, List·Memᴰ·cases-cons}
+use mathlib.Core.Logic.{⊎-elim}
 use mathlib.Core.Option.{Option, none, some}
 use Prim.Native.Nat.{ℕ, zero, suc, _+_, _-_, _≤_, _<_}
 use native.Mathlib.Omega.{arith}
 use lib.Dec.{eqb, leb, ltb}
-use lib.ListN.{length, getD, take, drop}
-use borrow.Author.Tests.{lt-ltb, le-ltb, le-leb, lt-leb, eq-eqb, ne-eqb, ltb-true, ltb-false, leb-true, leb-false, eqb-true, eqb-false}
+use lib.ListN.{length}
+use borrow.Author.Tests.{lt-ltb, le-leb, lt-leb, eq-eqb, ltb-true, ltb-false, leb-true, eqb-true, eqb-false}
 use Rattle.slices.specs.Parts.{part}
 use Rattle.slices.specs.Same.{same}
 use Rattle.slices.proofs.Equal.{same-decides, same-itself}
@@ -19,8 +19,8 @@ use Rattle.bags.specs.Reading.{byte}
 use Rattle.bags.proofs.Laid.{Laid, laid-none, laid-cons, laid-part, laid-join, laid-split, laid-head, laid-is}
 use Rattle.questions.specs.Forms.{NoneOf, none as no-other, other, Distinct, empty, new}
 use Rattle.placing.specs.Said.{Word}
-use Rattle.locks.specs.Reading.{noEntry, wordEnd, pathEnd, entryAt, wordOf, pathOf, foundIn, findFrom, isShortWord, isEntry, entriesFrom, most}
-use Rattle.locks.specs.Forms.{WordSort, equality, membership, numbers, sortByte, Entry, AWord, EntryBytes, entry, wordsIn}
+use Rattle.locks.specs.Reading.{noEntry, wordEnd, pathEnd, entryPlacesAt, wordOf, pathOf, foundIn, findFrom, isShortWord, isEntry, entriesFrom, most}
+use Rattle.locks.specs.Forms.{WordSort, equality, membership, numbers, sortByte, VocabularyEntry, AWord, VocabularyEntryBytes, entry, vocabularyWords}
 use Rattle.locks.specs.declared.vocabulary.EntryPlaces.{EntryPlaces}
 use Rattle.locks.proofs.EntryLaws.{cut, entryHere, whole}
 use Rattle.locks.proofs.Strings.{word-short, short-word}
@@ -65,30 +65,30 @@ sort-some numbers = refl
 -- ---- a word among entries
 
 -- the first entry that has the word
-unfoldable pub lookupIn : Word → List Entry → Option Entry
+unfoldable pub lookupIn : Word → List VocabularyEntry → Option VocabularyEntry
 lookupIn w [] = none
 lookupIn w (x ∷ xs) = cond (same (x .word) w) (some x) (lookupIn w xs)
 
-pub lookup-some : (w : Word) (es : List Entry) (x : Entry) → lookupIn w es ≡ some x → List·Memᴰ x es × (x .word ≡ w)
+pub lookup-some : (w : Word) (es : List VocabularyEntry) (x : VocabularyEntry) → lookupIn w es ≡ some x → List·Memᴰ x es × (x .word ≡ w)
 unfolding lookupIn
 lookup-some w [] x h = absurd (let z : _≡_ {A = ℕ} 0 1 = cc in omega arith)
 lookup-some w (y ∷ ys) x h = go (same (y .word) w) refl h (lookup-some w ys x)
   where
     go : (t : Bool) → same (y .word) w ≡ t → cond t (some y) (lookupIn w ys) ≡ some x → (lookupIn w ys ≡ some x → List·Memᴰ x ys × (x .word ≡ w))
         → List·Memᴰ x (y ∷ ys) × (x .word ≡ w)
-    go true e q ih = let r : x ≡ y = cc in (List·Memᴰ·head r, ap (λ (z : Entry). z .word) r ∙ same-decides (y .word) w .sound e)
+    go true e q ih = let r : x ≡ y = cc in (List·Memᴰ·head r, ap (λ (z : VocabularyEntry). z .word) r ∙ same-decides (y .word) w .sound e)
     go false e q ih = let r = ih q in (List·Memᴰ·tail (r .0), r .1)
 
-pub lookup-none : (w : Word) (es : List Entry) → lookupIn w es ≡ none → NoneOf w (wordsIn es)
+pub lookup-none : (w : Word) (es : List VocabularyEntry) → lookupIn w es ≡ none → NoneOf w (vocabularyWords es)
 unfolding lookupIn
 lookup-none w [] h = no-other
 lookup-none w (y ∷ ys) h = go (same (y .word) w) refl h (lookup-none w ys)
   where
-    go : (t : Bool) → same (y .word) w ≡ t → cond t (some y) (lookupIn w ys) ≡ none → (lookupIn w ys ≡ none → NoneOf w (wordsIn ys)) → NoneOf w (wordsIn (y ∷ ys))
+    go : (t : Bool) → same (y .word) w ≡ t → cond t (some y) (lookupIn w ys) ≡ none → (lookupIn w ys ≡ none → NoneOf w (vocabularyWords ys)) → NoneOf w (vocabularyWords (y ∷ ys))
     go true e q ih = absurd (let z : _≡_ {A = ℕ} 0 1 = cc in omega arith)
     go false e q ih = other (λ r. refuted (same-decides (y .word) w) e (sym r)) (ih q)
 
-pub none-lookup : (w : Word) (es : List Entry) → NoneOf w (wordsIn es) → lookupIn w es ≡ none
+pub none-lookup : (w : Word) (es : List VocabularyEntry) → NoneOf w (vocabularyWords es) → lookupIn w es ≡ none
 unfolding lookupIn
 none-lookup w [] h = refl
 none-lookup w (y ∷ ys) (other n r) = rw (differ, none-lookup w ys r)
@@ -100,12 +100,12 @@ none-lookup w (y ∷ ys) (other n r) = rw (differ, none-lookup w ys r)
     differ : same (y .word) w ≡ false
     differ = go (same (y .word) w) refl
 
-none-mem : (w : Word) (es : List Entry) (x : Entry) → NoneOf w (wordsIn es) → List·Memᴰ x es → x .word ≡ w → ⊥
+none-mem : (w : Word) (es : List VocabularyEntry) (x : VocabularyEntry) → NoneOf w (vocabularyWords es) → List·Memᴰ x es → x .word ≡ w → ⊥
 none-mem w [] x n m e = List·Memᴰ·not-nil m
 none-mem w (y ∷ ys) x (other n r) m e =
-    ⊎-elim (λ (q : x ≡ y). n (sym (ap (λ (z : Entry). z .word) (sym q) ∙ e))) (λ (k : List·Memᴰ x ys). none-mem w ys x r k e) (List·Memᴰ·cases-cons m)
+    ⊎-elim (λ (q : x ≡ y). n (sym (ap (λ (z : VocabularyEntry). z .word) (sym q) ∙ e))) (λ (k : List·Memᴰ x ys). none-mem w ys x r k e) (List·Memᴰ·cases-cons m)
 
-pub lookup-mem : (es : List Entry) (x : Entry) → Distinct (wordsIn es) → List·Memᴰ x es → lookupIn (x .word) es ≡ some x
+pub lookup-mem : (es : List VocabularyEntry) (x : VocabularyEntry) → Distinct (vocabularyWords es) → List·Memᴰ x es → lookupIn (x .word) es ≡ some x
 unfolding lookupIn
 lookup-mem [] x d m = absurd (List·Memᴰ·not-nil m)
 lookup-mem (y ∷ ys) x (new n d) m = ⊎-elim first (λ (k : List·Memᴰ x ys). later k (lookup-mem ys x d k)) (List·Memᴰ·cases-cons m)
@@ -122,49 +122,49 @@ lookup-mem (y ∷ ys) x (new n d) m = ⊎-elim first (λ (k : List·Memᴰ x ys)
 
 -- ---- the entries of a vocabulary
 
-find-on : (v : List ℕ) (w : Word) (at j : ℕ) → findFrom (suc j) v at w ≡ foundIn v w (entryAt v at) (findFrom j v (entryAt v at .next) w)
+find-on : (v : List ℕ) (w : Word) (at j : ℕ) → findFrom (suc j) v at w ≡ foundIn v w (entryPlacesAt v at) (findFrom j v (entryPlacesAt v at .next) w)
 unfolding findFrom
 find-on v w at j = refl
 
 -- each entry has a word and a path
-pub entry-forms : {b : List ℕ} {es : List Entry} → InTurn EntryBytes b es → (x : Entry) → List·Memᴰ x es → AWord (x .word) × (isPath (x .path) ≡ true)
+pub entry-forms : {b : List ℕ} {es : List VocabularyEntry} → InTurn VocabularyEntryBytes b es → (x : VocabularyEntry) → List·Memᴰ x es → AWord (x .word) × (isPath (x .path) ≡ true)
 entry-forms no-more x m = absurd (List·Memᴰ·not-nil m)
 entry-forms (more {x = y} (entry aw ip) r) x m =
     ⊎-elim (λ (q : x ≡ y). rw q (aw, ip)) (λ (k : List·Memᴰ x _). entry-forms r x k) (List·Memᴰ·cases-cons m)
 
 module _ (v : List ℕ) where
   -- the entry at its places
-  abbrev pub entryThere : EntryPlaces → Entry
+  abbrev pub entryThere : EntryPlaces → VocabularyEntry
   entryThere e = record { word = wordOf v e; path = pathOf v e; sort = sortOf (e .sort) }
 
   -- as many as n, from a place on
-  unfoldable pub entriesIn : ℕ → ℕ → List Entry
+  unfoldable pub entriesIn : ℕ → ℕ → List VocabularyEntry
   entriesIn zero at = []
-  entriesIn (suc n) at = cond (leb (length v) at) [] (entryThere (entryAt v at) ∷ entriesIn n (entryAt v at .next))
+  entriesIn (suc n) at = cond (leb (length v) at) [] (entryThere (entryPlacesAt v at) ∷ entriesIn n (entryPlacesAt v at .next))
 
   -- what is found of an entry
-  abbrev pub foundAs : EntryPlaces → Option Entry
+  abbrev pub foundAs : EntryPlaces → Option VocabularyEntry
   foundAs e = cond (eqb (e .sort) 0) none (some (entryThere e))
 
   -- what an entry of a vocabulary is
   record Good (at : ℕ) : Type 0 where
     inside : pathEnd v at < length v
-    here : entryAt v at ≡ entryHere v at
-    sort : (eqb (entryAt v at .sort) 0 || ltb 3 (entryAt v at .sort)) ≡ false
-    word : isShortWord (wordOf v (entryAt v at)) ≡ true
-    path : isPath (pathOf v (entryAt v at)) ≡ true
-    later : findFrom most v (entryAt v at .next) (wordOf v (entryAt v at)) .sort ≡ 0
+    here : entryPlacesAt v at ≡ entryHere v at
+    sort : (eqb (entryPlacesAt v at .sort) 0 || ltb 3 (entryPlacesAt v at .sort)) ≡ false
+    word : isShortWord (wordOf v (entryPlacesAt v at)) ≡ true
+    path : isPath (pathOf v (entryPlacesAt v at)) ≡ true
+    later : findFrom most v (entryPlacesAt v at .next) (wordOf v (entryPlacesAt v at)) .sort ≡ 0
 
   or-left : (a b : Bool) → (a || b) ≡ false → a ≡ false
   or-left false b h = refl
   or-left true b h = h
 
-  good : (at : ℕ) → isEntry v (entryAt v at) ≡ true → Good at
+  good : (at : ℕ) → isEntry v (entryPlacesAt v at) ≡ true → Good at
   unfolding isEntry
-  good at h = go (eqb (entryAt v at .sort) 0 || ltb 3 (entryAt v at .sort)) refl h
+  good at h = go (eqb (entryPlacesAt v at .sort) 0 || ltb 3 (entryPlacesAt v at .sort)) refl h
     where
       e : EntryPlaces
-      e = entryAt v at
+      e = entryPlacesAt v at
 
       there : (t : Bool) → ltb (pathEnd v at) (length v) ≡ t → eqb (e .sort) 0 ≡ false → pathEnd v at < length v
       there true q n = ltb-true _ _ q
@@ -182,8 +182,8 @@ module _ (v : List ℕ) where
 
   -- where its bytes lie
   entry-laid : (at : ℕ) → Good at
-      → Laid v at (length (wordOf v (entryAt v at)) ∷ (wordOf v (entryAt v at) ++ (length (pathOf v (entryAt v at)) ∷ (pathOf v (entryAt v at) ++ entryAt v at .sort ∷ []))))
-      (entryAt v at .next)
+      → Laid v at (length (wordOf v (entryPlacesAt v at)) ∷ (wordOf v (entryPlacesAt v at) ++ (length (pathOf v (entryPlacesAt v at)) ∷ (pathOf v (entryPlacesAt v at) ++ entryPlacesAt v at .sort ∷ []))))
+      (entryPlacesAt v at .next)
   unfolding wordOf pathOf
   entry-laid at g =
       let n : wordEnd v at - (at + 1) ≡ byte v at = omega arith in
@@ -210,7 +210,7 @@ module _ (v : List ℕ) where
   find-is (suc n) at m w h k = go (leb (length v) at) refl h (find-is n)
     where
       e : EntryPlaces
-      e = entryAt v at
+      e = entryPlacesAt v at
 
       step : (t : Bool) (j : ℕ) → same (wordOf v e) w ≡ t → eqb (e .sort) 0 ≡ false
           → foundAs (findFrom j v (e .next) w) ≡ lookupIn w (entriesIn n (e .next))
@@ -247,7 +247,7 @@ module _ (v : List ℕ) where
   find-sort (suc n) at m w h k s = go (leb (length v) at) refl h (find-sort n)
     where
       e : EntryPlaces
-      e = entryAt v at
+      e = entryPlacesAt v at
 
       step : (t : Bool) (x : EntryPlaces) → same (wordOf v e) w ≡ t → (eqb (e .sort) 0 || ltb 3 (e .sort)) ≡ false
           → (eqb (x .sort) 0 ≡ false → (eqb (x .sort) 0 || ltb 3 (x .sort)) ≡ false)
@@ -281,7 +281,7 @@ module _ (v : List ℕ) where
       go true q h = eqb-true _ _ q
       go false q h = absurd (let z : _≡_ {A = ℕ} 0 1 = cc in omega arith)
 
-  pub some-found : (e : EntryPlaces) (x : Entry) → foundAs e ≡ some x → (eqb (e .sort) 0 ≡ false) × (entryThere e ≡ x)
+  pub some-found : (e : EntryPlaces) (x : VocabularyEntry) → foundAs e ≡ some x → (eqb (e .sort) 0 ≡ false) × (entryThere e ≡ x)
   some-found e x h = go (eqb (e .sort) 0) refl h
     where
       go : (t : Bool) → eqb (e .sort) 0 ≡ t → cond t none (some (entryThere e)) ≡ some x → (eqb (e .sort) 0 ≡ false) × (entryThere e ≡ x)
@@ -292,10 +292,10 @@ module _ (v : List ℕ) where
 
   pub record EntriesSaid (at n : ℕ) : Type 0 where
     pub bytes : List ℕ
-    pub says : InTurn EntryBytes bytes (entriesIn n at)
+    pub says : InTurn VocabularyEntryBytes bytes (entriesIn n at)
     pub laid : Laid v at bytes (length v)
     pub few : length (entriesIn n at) ≤ n
-    pub distinct : Distinct (wordsIn (entriesIn n at))
+    pub distinct : Distinct (vocabularyWords (entriesIn n at))
 
   entries-over : (at n : ℕ) → at ≤ length v → length v ≤ at → entriesIn n at ≡ [] → EntriesSaid at n
   entries-over at n h k q =
@@ -314,7 +314,7 @@ module _ (v : List ℕ) where
   entries-sound (suc n) at c h e = go (leb (length v) at) refl e (entries-sound n)
     where
       x : EntryPlaces
-      x = entryAt v at
+      x = entryPlacesAt v at
 
       here : Good at → entriesFrom n v (x .next) ≡ true → EntriesSaid (x .next) n → leb (length v) at ≡ false → EntriesSaid at (suc n)
       here g r s q =
@@ -341,11 +341,11 @@ module _ (v : List ℕ) where
   -- ---- and what says entries is read
 
   record Stood (at : ℕ) (w p : Word) (s : WordSort) (e : ℕ) : Type 0 where
-    here : entryAt v at ≡ entryHere v at
-    word : wordOf v (entryAt v at) ≡ w
-    path : pathOf v (entryAt v at) ≡ p
-    sort : entryAt v at .sort ≡ sortByte s
-    next : entryAt v at .next ≡ e
+    here : entryPlacesAt v at ≡ entryHere v at
+    word : wordOf v (entryPlacesAt v at) ≡ w
+    path : pathOf v (entryPlacesAt v at) ≡ p
+    sort : entryPlacesAt v at .sort ≡ sortByte s
+    next : entryPlacesAt v at .next ≡ e
     within : at < length v
 
   stood : {at e : ℕ} {w p : Word} {s : WordSort} → Laid v at (length w ∷ (w ++ (length p ∷ (p ++ sortByte s ∷ [])))) e → Stood at w p s e
@@ -382,15 +382,15 @@ module _ (v : List ℕ) where
       ap (λ (t : Bool). cond t false (isShortWord (wordOf v e) && isPath (pathOf v e) && eqb (findFrom most v (e .next) (wordOf v e) .sort) 0)) c
       ∙ and-eq-true-iff (isShortWord (wordOf v e) && isPath (pathOf v e)) _ .1 (and-eq-true-iff (isShortWord (wordOf v e)) _ .1 (x, y), eq-eqb _ _ f)
 
-  from-on : (n at : ℕ) → at < length v → isEntry v (entryAt v at) ≡ true → entriesFrom n v (entryAt v at .next) ≡ true → entriesFrom (suc n) v at ≡ true
+  from-on : (n at : ℕ) → at < length v → isEntry v (entryPlacesAt v at) ≡ true → entriesFrom n v (entryPlacesAt v at .next) ≡ true → entriesFrom (suc n) v at ≡ true
   unfolding entriesFrom
   from-on n at h i r = rw (lt-leb _ _ h, i, r)
 
-  in-on : (n at : ℕ) {x : Entry} {xs : List Entry} → at < length v → entryThere (entryAt v at) ≡ x → entriesIn n (entryAt v at .next) ≡ xs → entriesIn (suc n) at ≡ x ∷ xs
+  in-on : (n at : ℕ) {x : VocabularyEntry} {xs : List VocabularyEntry} → at < length v → entryThere (entryPlacesAt v at) ≡ x → entriesIn n (entryPlacesAt v at .next) ≡ xs → entriesIn (suc n) at ≡ x ∷ xs
   unfolding entriesIn
-  in-on n at {x} {xs} h q r = ap (λ (t : Bool). cond t [] (entryThere (entryAt v at) ∷ entriesIn n (entryAt v at .next))) (lt-leb _ _ h) ∙ ap (λ (y : Entry). y ∷ entriesIn n (entryAt v at .next)) q ∙ ap (λ (ys : List Entry). x ∷ ys) r
+  in-on n at {x} {xs} h q r = ap (λ (t : Bool). cond t [] (entryThere (entryPlacesAt v at) ∷ entriesIn n (entryPlacesAt v at .next))) (lt-leb _ _ h) ∙ ap (λ (y : VocabularyEntry). y ∷ entriesIn n (entryPlacesAt v at .next)) q ∙ ap (λ (ys : List VocabularyEntry). x ∷ ys) r
 
-  pub entries-complete : {b : List ℕ} {es : List Entry} → InTurn EntryBytes b es → (at n : ℕ) → Laid v at b (length v) → length es ≤ n → n ≤ 16 → Distinct (wordsIn es)
+  pub entries-complete : {b : List ℕ} {es : List VocabularyEntry} → InTurn VocabularyEntryBytes b es → (at n : ℕ) → Laid v at b (length v) → length es ≤ n → n ≤ 16 → Distinct (vocabularyWords es)
       → (entriesFrom n v at ≡ true) × (entriesIn n at ≡ es)
   entries-complete no-more at n l h k d = at-end n (omega (arith, l .stop))
     where
@@ -404,11 +404,11 @@ module _ (v : List ℕ) where
       let ih = entries-complete r (at + length (length w ∷ (w ++ (length p ∷ (p ++ sortByte s ∷ []))))) n (y .1) (omega arith) (omega arith) d in
       step t (rw (← t .next) at (ih .0)) (rw (← t .next) at (ih .1))
     where
-      step : {e : ℕ} → Stood at w p s e → entriesFrom n v (entryAt v at .next) ≡ true → entriesIn n (entryAt v at .next) ≡ xs
+      step : {e : ℕ} → Stood at w p s e → entriesFrom n v (entryPlacesAt v at .next) ≡ true → entriesIn n (entryPlacesAt v at .next) ≡ xs
           → (entriesFrom (suc n) v at ≡ true) × (entriesIn (suc n) at ≡ record { word = w; path = p; sort = s } ∷ xs)
       step t i j =
-          let f : findFrom most v (entryAt v at .next) (wordOf v (entryAt v at)) .sort ≡ 0 =
-          none-found _ (find-is n (entryAt v at .next) most (wordOf v (entryAt v at)) i (omega arith) ∙ rw (t .word, j) (none-lookup w xs nw)) in (
-            from-on n at (t .within) (is-entry (entryAt v at) s aw ip (t .word) (t .path) (t .sort) f) i,
+          let f : findFrom most v (entryPlacesAt v at .next) (wordOf v (entryPlacesAt v at)) .sort ≡ 0 =
+          none-found _ (find-is n (entryPlacesAt v at .next) most (wordOf v (entryPlacesAt v at)) i (omega arith) ∙ rw (t .word, j) (none-lookup w xs nw)) in (
+            from-on n at (t .within) (is-entry (entryPlacesAt v at) s aw ip (t .word) (t .path) (t .sort) f) i,
             in-on n at (t .within) (rw (t .word, t .path, t .sort, sort-of s)) j,
           )

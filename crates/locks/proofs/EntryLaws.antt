@@ -4,7 +4,7 @@ use mathlib.Core.Bool.{Bool, true, false, cond, _&&_}
 use mathlib.Core.List.{List, [], _∷_}
 use Prim.Native.Nat.{ℕ, zero, suc, _+_, _-_, _≤_, _<_}
 use native.Mathlib.Omega.{arith}
-use lib.Dec.{eqb, leb, ltb}
+use lib.Dec.{eqb, leb}
 use lib.ListN.{length, getD, take, drop, length-drop}
 use lib.Seq.{length-take-le}
 use borrow.Author.Tests.{le-ltb, lt-ltb, le-leb, lt-leb, eq-eqb, ne-eqb, eqb-true, eqb-false, leb-true}
@@ -19,13 +19,13 @@ use Rattle.tokens.specs.declared.classes.Sort.the-variants.{Letters, WordBytes,
 use Rattle.bags.specs.Paths.{every}
 use Rattle.bags.specs.Reading.{byte}
 use Rattle.placing.specs.Said.{Word}
-use Rattle.locks.specs.Reading.{noEntry, wordEnd, pathEnd, entryAt, wordOf, foundIn, findFrom, isShortWord, isEntry, entriesFrom, isString, Lies, EntryIs, noPiece, actionAt, ActionIs}
+use Rattle.locks.specs.Reading.{noEntry, wordEnd, pathEnd, entryPlacesAt, wordOf, findFrom, isShortWord, isEntry, entriesFrom, isRuleString, EntryLies, EntryIs, noPiece, actionAt, ActionIs}
 use Rattle.locks.specs.declared.Piece.{Piece}
 use Rattle.locks.specs.declared.vocabulary.EntryPlaces.{EntryPlaces}
 
 -- ---- an entry
 
-pub lies-none : (v : List ℕ) → Lies v noEntry
+pub lies-none : (v : List ℕ) → EntryLies v noEntry
 lies-none v =
     record { word-low = omega arith; word-high = omega arith; path-low = omega arith; path-high = omega arith; path-few = omega arith; next-high = omega arith }
 
@@ -33,8 +33,8 @@ pub none-is : (v : List ℕ) (r e : EntryPlaces) → r ≡ noEntry → noEntry �
 none-is v r e p q = record { answer = p ∙ q; lies = rw p (lies-none v) }
 
 module _ (v : List ℕ) (at : ℕ) where
-  pub cut : length v ≤ pathEnd v at → noEntry ≡ entryAt v at
-  unfolding entryAt
+  pub cut : length v ≤ pathEnd v at → noEntry ≡ entryPlacesAt v at
+  unfolding entryPlacesAt
   cut h = simp (le-ltb _ _ h)
 
   -- the entry that is there
@@ -42,11 +42,11 @@ module _ (v : List ℕ) (at : ℕ) where
   entryHere =
       record { sort = byte v (pathEnd v at); word = at + 1; stop = wordEnd v at; path = wordEnd v at + 1; end = pathEnd v at; next = pathEnd v at + 1 }
 
-  pub whole : pathEnd v at < length v → entryHere ≡ entryAt v at
-  unfolding entryAt
+  pub whole : pathEnd v at < length v → entryHere ≡ entryPlacesAt v at
+  unfolding entryPlacesAt
   whole h = simp (lt-ltb _ _ h)
 
-  pub entry-whole : byte v (wordEnd v at) < 256 → pathEnd v at < length v → EntryIs v entryHere (entryAt v at)
+  pub entry-whole : byte v (wordEnd v at) < 256 → pathEnd v at < length v → EntryIs v entryHere (entryPlacesAt v at)
   entry-whole b h =
       record {
         answer = whole h;
@@ -63,7 +63,7 @@ module _ (v : List ℕ) (at : ℕ) where
 
 -- ---- the entry that has a word
 
-module _ (v : List ℕ) (w : Word) (at : ℕ) (e : EntryPlaces) (q : e ≡ entryAt v at) where
+module _ (v : List ℕ) (w : Word) (at : ℕ) (e : EntryPlaces) (q : e ≡ entryPlacesAt v at) where
   pub find-stop : (n : ℕ) → 0 < n → e .sort ≡ 0 → noEntry ≡ findFrom n v at w
   unfolding findFrom
   find-stop zero h z = absurd (omega arith)
@@ -126,8 +126,8 @@ pub short-is : (w : Word) (a : Bool) (end : ℕ) → length w ≤ 64 → a ≡ i
 unfolding isShortWord
 short-is w a end h p q = rw (p, run-all WordBytes w end q, le-leb _ _ h)
 
-pub string-is : (s : List ℕ) (end : ℕ) → end ≡ runEnd StringBytes s 0 → (leb (length s) 127 && eqb end (length s)) ≡ isString s
-unfolding isString
+pub string-is : (s : List ℕ) (end : ℕ) → end ≡ runEnd StringBytes s 0 → (leb (length s) 127 && eqb end (length s)) ≡ isRuleString s
+unfolding isRuleString
 string-is s end q = rw (run-all StringBytes s end q)
 
 -- ---- a vocabulary
@@ -143,7 +143,7 @@ module _ (v : List ℕ) where
   entries-full zero at z h = sym (lt-leb _ _ h)
   entries-full (suc n) at z h = absurd (omega arith)
 
-  module _ (at : ℕ) (e : EntryPlaces) (q : e ≡ entryAt v at) (h : at < length v) where
+  module _ (at : ℕ) (e : EntryPlaces) (q : e ≡ entryPlacesAt v at) (h : at < length v) where
     pub entries-bad : (n : ℕ) → (n ≡ 0 → ⊥) → isEntry v e ≡ false → false ≡ entriesFrom n v at
     unfolding entriesFrom
     entries-bad zero s b = absurd (s refl)
@@ -157,8 +157,8 @@ module _ (v : List ℕ) where
 -- ---- an action
 
 -- a string is short
-pub short-string : (s : List ℕ) → isString s ≡ true → length s ≤ 127
-unfolding isString
+pub short-string : (s : List ℕ) → isRuleString s ≡ true → length s ≤ 127
+unfolding isRuleString
 short-string s h = go (leb (length s) 127) refl h
   where
     go : (t : Bool) → leb (length s) 127 ≡ t → (t && every (isOf StringBytes) s) ≡ true → length s ≤ 127
@@ -179,14 +179,14 @@ module _ (a : List ℕ) (at : ℕ) where
     unfolding actionAt
     action-cut h k = action-none r p (simp (lt-ltb _ _ h, lt-leb _ _ k))
 
-    pub action-bad : at < length a → at + 1 + byte a at ≤ length a → isString (take (at + 1 + byte a at - (at + 1)) (drop (at + 1) a)) ≡ false
+    pub action-bad : at < length a → at + 1 + byte a at ≤ length a → isRuleString (take (at + 1 + byte a at - (at + 1)) (drop (at + 1) a)) ≡ false
         → ActionIs a r (actionAt a at)
     unfolding actionAt part
     action-bad h k b =
         let n : at + 1 + byte a at - (at + 1) ≡ byte a at = omega arith in
         action-none r p (simp (lt-ltb _ _ h, le-leb _ _ k, rw n at b))
 
-  pub action-good : at < length a → at + 1 + byte a at ≤ length a → isString (take (at + 1 + byte a at - (at + 1)) (drop (at + 1) a)) ≡ true
+  pub action-good : at < length a → at + 1 + byte a at ≤ length a → isRuleString (take (at + 1 + byte a at - (at + 1)) (drop (at + 1) a)) ≡ true
       → ActionIs a (record { good = true; start = at + 1; end = at + 1 + byte a at }) (actionAt a at)
   unfolding actionAt part
   action-good h k b =

@@ -1,41 +1,39 @@
 -- What vocabulary, lock, action list and resource are read as is what they say, both ways, and they say one lock only. Assumes nothing.
 use mathlib.Core.Path.{_≡_, refl, sym, ap, _∙_}
-use mathlib.Core.Bool.{Bool, true, false, cond, _&&_, and-eq-true-iff, false≢true}
+use mathlib.Core.Bool.{Bool, true, false, cond, _&&_, and-eq-true-iff}
 use mathlib.Core.List.{List, [], _∷_, _++_, append-assoc, List·Memᴰ, List·Memᴰ·head, List·Memᴰ·tail, List·Memᴰ·not-nil, List·Memᴰ·cases-cons}
-use mathlib.Core.Logic.{_⊎_, inl, inr, ⊎-elim, _↔_}
+use mathlib.Core.Logic.{⊎-elim, _↔_}
 use mathlib.Core.Option.{Option, none, some}
 use Prim.Native.Nat.{ℕ, zero, suc, _+_, _-_, _≤_, _<_}
 use native.Mathlib.Omega.{arith}
-use lib.Dec.{eqb, leb}
+use lib.Dec.{eqb}
 use lib.ListN.{length, getD, drop}
-use lib.Seq.{getD-drop}
-use borrow.Author.Tests.{le-leb, lt-leb, leb-true, leb-false, eq-eqb, ne-eqb, eqb-true, eqb-false}
+use borrow.Author.Tests.{lt-leb, eq-eqb, ne-eqb, eqb-true, eqb-false}
 use Rattle.slices.proofs.Rest.{rest-at}
-use Rattle.tokens.specs.Forms.{All}
 use Rattle.bags.specs.Forms.{InTurn, none as no-more, more as and-more}
 use Rattle.bags.specs.Paths.{isPath}
-use Rattle.bags.proofs.Laid.{Laid, laid-whole, whole-laid, laid-join, laid-split, laid-cons, laid-head}
+use Rattle.bags.proofs.Laid.{Laid, laid-whole, whole-laid, laid-join, laid-split, laid-head}
 use Rattle.questions.specs.Forms.{Distinct}
 use Rattle.placing.specs.Said.{Word}
 use Rattle.permits.specs.Permits.{Test, permitText}
-use Rattle.permits.specs.Meaning.{AString, Formed, equality, membership, comparison, Fits, Made}
-use Rattle.permits.specs.Promise.{AllFit, PermitSays, OnlySizes, SaysPermit}
+use Rattle.permits.specs.Meaning.{AString, Formed, equality, membership, comparison, Made}
+use Rattle.permits.specs.Promise.{AllFit, PermitSays, OnlySizes}
 use Rattle.permits.proofs.Says.{permit-says, only-sizes}
-use Rattle.locks.specs.Reading.{most, Step, wrong, last, on, before, listed, stepBy, goesOn, testAt, testIn, testStep, isVocabulary, isString, testsOf, actionsOf}
-use Rattle.locks.specs.Answers.{Read, together, readOf, answerFor, roomFor, noLock, noRoom}
-use Rattle.locks.specs.Forms.{Entry, AWord, EntryBytes, wordsIn, VocabularyBytes, Written, TestBytes, value-test, number-test, LockBytes, one, more, Meant, an-equality, a-membership, a-comparison, AllMeant, none as none-meant, next, ActionBytes, action, Compiles, LockSays, Lockable, NoLock}
+use Rattle.locks.specs.Reading.{most, last, on, inFront, thingsFrom, stepBy, endsTest, testAt, testIn, testStep, isVocabulary, isRuleString, testsRead, actionsRead}
+use Rattle.locks.specs.Answers.{Read, together, readOf}
+use Rattle.locks.specs.Forms.{VocabularyEntry, AWord, vocabularyWords, WrittenTest, TestBytes, value-test, number-test, LockBytes, one, more, Meant, an-equality, a-membership, a-comparison, AllMeant, none as none-meant, next, ActionBytes, action, Compiles, LockSays, Lockable}
 use Rattle.locks.proofs.ListedLaws.{at-last, at-on}
 use Rattle.locks.proofs.Strings.{string-test, test-string}
 use Rattle.locks.proofs.Entries.{entriesIn, entries-sound, entries-complete, entry-forms}
 use Rattle.locks.proofs.ActionsSaid.{Steps, ends, goes, steps, actions-sound, actions-complete}
 use Rattle.locks.proofs.TestsRead.{TestSaid, test-sound}
-use Rattle.locks.proofs.TestsMet.{Stop, at-end, at-and, Met, test-met}
+use Rattle.locks.proofs.TestsMet.{at-end, at-and, Met, test-met}
 
 -- ---- the lock that is read
 
-module _ (v l : List ℕ) (good : isVocabulary v ≡ true) (aw : (x : Entry) → List·Memᴰ x (entriesIn v most 0) → AWord (x .word)) where
+module _ (v l : List ℕ) (good : isVocabulary v ≡ true) (aw : (x : VocabularyEntry) → List·Memᴰ x (entriesIn v most 0) → AWord (x .word)) where
   record LockSaid (at n : ℕ) (ts : List Test) : Type 0 where
-    written : List Written
+    written : List WrittenTest
     bytes : List ℕ
     says : LockBytes bytes written
     laid : Laid l at bytes (length l)
@@ -69,8 +67,8 @@ module _ (v l : List ℕ) (good : isVocabulary v ≡ true) (aw : (x : Entry) →
           let r : testIn v l (testAt v l at) ≡ t = cc in
           record { test = rw (r, eqb-true (testAt v l at .next) (length l) y) at (s .0) }
 
-  and-at : (e : ℕ) → e ≤ length l → goesOn l e ≡ true → (e ≡ length l → ⊥) → Laid l e (38 ∷ []) (e + 1)
-  unfolding goesOn
+  and-at : (e : ℕ) → e ≤ length l → endsTest l e ≡ true → (e ≡ length l → ⊥) → Laid l e (38 ∷ []) (e + 1)
+  unfolding endsTest
   and-at e h g n =
       let i : e < length l = omega (arith, n) in
       let b : eqb (getD l e 0) 38 ≡ true = rw (lt-leb _ _ i) at g in
@@ -90,12 +88,12 @@ module _ (v l : List ℕ) (good : isVocabulary v ≡ true) (aw : (x : Entry) →
           let k : testAt v l at .next + 1 ≡ m = cc in
           record { stop = testAt v l at .next; test = rw r at (s .0); and-there = rw k at (and-at (testAt v l at .next) (s .2) (s .1) (eqb-false _ _ y)) }
 
-  lock-sound : (n at : ℕ) → at ≤ length l → (ts : List Test) → listed n (testStep v l) at ≡ some ts → LockSaid at n ts
-  unfolding listed
+  lock-sound : (n at : ℕ) → at ≤ length l → (ts : List Test) → thingsFrom n (testStep v l) at ≡ some ts → LockSaid at n ts
+  unfolding thingsFrom
   lock-sound zero at h ts q = absurd (let z : _≡_ {A = ℕ} 0 1 = cc in omega arith)
   lock-sound (suc n) at h ts q = go (steps (testStep v l) n at ts q) (lock-sound n)
     where
-      go : {ts : List Test} → Steps (testStep v l) n at ts → ((m : ℕ) → m ≤ length l → (us : List Test) → listed n (testStep v l) m ≡ some us → LockSaid m n us)
+      go : {ts : List Test} → Steps (testStep v l) n at ts → ((m : ℕ) → m ≤ length l → (us : List Test) → thingsFrom n (testStep v l) m ≡ some us → LockSaid m n us)
           → LockSaid at (suc n) ts
       go (ends {x} q) ih =
           let s = last-told at h x q .test in
@@ -136,8 +134,8 @@ module _ (v l : List ℕ) (good : isVocabulary v ≡ true) (aw : (x : Entry) →
   unfolding stepBy testIn
   met-on at {t} {e} m n = step-cases at ∙ rw (m .some-sort, m .behind, ne-eqb e (length l) n, m .is-it)
 
-  lock-complete : Distinct (wordsIn (entriesIn v most 0)) → {b : List ℕ} {ws : List Written} {ts : List Test} → LockBytes b ws → AllMeant (entriesIn v most 0) ws ts → AllFit ts
-      → (at n : ℕ) → Laid l at b (length l) → length ws ≤ n → listed n (testStep v l) at ≡ some ts
+  lock-complete : Distinct (vocabularyWords (entriesIn v most 0)) → {b : List ℕ} {ws : List WrittenTest} {ts : List Test} → LockBytes b ws → AllMeant (entriesIn v most 0) ws ts → AllFit ts
+      → (at n : ℕ) → Laid l at b (length l) → length ws ≤ n → thingsFrom n (testStep v l) at ≡ some ts
   lock-complete ds (one {a} {t} {b} ba tb bb) (next {t = u} m none-meant) f at n d k =
       at-last (testStep v l) n at u 0 (omega arith) (met-last at (test-met v l good ds at ba tb bb m (f u (List·Memᴰ·head refl)) d (at-end refl)))
   lock-complete ds (more {a} {t} {b} {l = r} {ws = ws} ba tb bb lr) (next {t = u} {ts = us} m ms) f at n d k =
@@ -146,19 +144,19 @@ module _ (v l : List ℕ) (good : isVocabulary v ≡ true) (aw : (x : Entry) →
       let e = at + length (a ++ (t ++ b)) in
       let x = test-met v l good ds at ba tb bb m (f u (List·Memᴰ·head refl)) (d₁ .0) (at-and (r ++ drop (length l) l) (h .within) (d₁ .1 .is)) in
       at-on (testStep v l) n at u (e + 1) (omega arith) (met-on at x (λ q. omega (arith, h .within)))
-      ∙ ap (before u) (lock-complete ds lr ms (λ t m. f t (List·Memᴰ·tail m)) (e + 1) (n - 1) (h .others) (omega arith))
+      ∙ ap (inFront u) (lock-complete ds lr ms (λ t m. f t (List·Memᴰ·tail m)) (e + 1) (n - 1) (h .others) (omega arith))
     where
       lay : (a t b r : List ℕ) → Laid l at (a ++ (t ++ (b ++ 38 ∷ r))) (length l) → Laid l at ((a ++ (t ++ b)) ++ 38 ∷ r) (length l)
       lay a t b r d = rw (← append-assoc t b (38 ∷ r), ← append-assoc a (t ++ b) (38 ∷ r)) at d
 
 -- ---- what a permit is made of
 
-formed : {es : List Entry} → ((x : Entry) → List·Memᴰ x es → AWord (x .word) × (isPath (x .path) ≡ true)) → {b : List ℕ} {w : Written} {t : Test} → TestBytes b w → Meant es w t → Formed t
+formed : {es : List VocabularyEntry} → ((x : VocabularyEntry) → List·Memᴰ x es → AWord (x .word) × (isPath (x .path) ≡ true)) → {b : List ℕ} {w : WrittenTest} {t : Test} → TestBytes b w → Meant es w t → Formed t
 formed ps (value-test aw a b x) (an-equality m) = equality (ps _ m .1) x
 formed ps (value-test aw a b x) (a-membership m) = membership (ps _ m .1) x
 formed ps (number-test aw a b o n) (a-comparison m) = comparison (ps _ m .1) o n
 
-all-formed : {es : List Entry} → ((x : Entry) → List·Memᴰ x es → AWord (x .word) × (isPath (x .path) ≡ true)) → {b : List ℕ} {ws : List Written} {ts : List Test}
+all-formed : {es : List VocabularyEntry} → ((x : VocabularyEntry) → List·Memᴰ x es → AWord (x .word) × (isPath (x .path) ≡ true)) → {b : List ℕ} {ws : List WrittenTest} {ts : List Test}
     → LockBytes b ws → AllMeant es ws ts → ((t : Test) → List·Memᴰ t ts → Formed t) × (length ws ≡ length ts) × (1 ≤ length ts)
 all-formed ps (one ba tb bb) (next {t = u} m none-meant) =
     ((λ t k. ⊎-elim (λ (q : t ≡ u). rw q (formed ps tb m)) (λ (x : List·Memᴰ t []). absurd (List·Memᴰ·not-nil x)) (List·Memᴰ·cases-cons k)), refl, omega arith)
@@ -205,24 +203,24 @@ all-fit {acts} {r} {ts} m c =
 module _ (v l a r : List ℕ) where
   record ReadParts (x : Read) : Type 0 where
     vocabulary : isVocabulary v ≡ true
-    resource : isString r ≡ true
-    actions : actionsOf a ≡ some (x .actions)
-    tests : testsOf v l ≡ some (x .tests)
+    resource : isRuleString r ≡ true
+    actions : actionsRead a ≡ some (x .actions)
+    tests : testsRead v l ≡ some (x .tests)
 
   read-parts : (x : Read) → readOf v l a r ≡ some x → ReadParts x
   unfolding readOf
-  read-parts x h = go (isVocabulary v && isString r) refl h
+  read-parts x h = go (isVocabulary v && isRuleString r) refl h
     where
-      both : (o : Option (List Word)) (p : Option (List Test)) → actionsOf a ≡ o → testsOf v l ≡ p → isVocabulary v ≡ true → isString r ≡ true → together o p ≡ some x → ReadParts x
+      both : (o : Option (List Word)) (p : Option (List Test)) → actionsRead a ≡ o → testsRead v l ≡ p → isVocabulary v ≡ true → isRuleString r ≡ true → together o p ≡ some x → ReadParts x
       both none p qo qp i j h = absurd (let z : _≡_ {A = ℕ} 0 1 = cc in omega arith)
       both (some acts) none qo qp i j h = absurd (let z : _≡_ {A = ℕ} 0 1 = cc in omega arith)
       both (some acts) (some ts) qo qp i j h =
           let q : record { actions = acts; tests = ts } ≡ x = cc in
           record { vocabulary = i; resource = j; actions = qo ∙ ap (λ (y : Read). some (y .actions)) q; tests = qp ∙ ap (λ (y : Read). some (y .tests)) q }
 
-      go : (t : Bool) → (isVocabulary v && isString r) ≡ t → cond t (together (actionsOf a) (testsOf v l)) none ≡ some x → ReadParts x
+      go : (t : Bool) → (isVocabulary v && isRuleString r) ≡ t → cond t (together (actionsRead a) (testsRead v l)) none ≡ some x → ReadParts x
       go false q h = absurd (let z : _≡_ {A = ℕ} 0 1 = cc in omega arith)
-      go true q h = let y = and-eq-true-iff (isVocabulary v) (isString r) .0 q in both (actionsOf a) (testsOf v l) refl refl (y .0) (y .1) h
+      go true q h = let y = and-eq-true-iff (isVocabulary v) (isRuleString r) .0 q in both (actionsRead a) (testsRead v l) refl refl (y .0) (y .1) h
 
   -- what is read is said, in a permit that would compile
   pub read-sound : (x : Read) → readOf v l a r ≡ some x → Lockable v l a r (x .actions) (x .tests)
@@ -257,10 +255,10 @@ module _ (v l a r : List ℕ) where
       let f = all-fit (made s) (k .compiles) in
       let e = entries-complete v (s .vocabulary-says .in-turn) 0 most (laid-whole v) (s .vocabulary-says .few) (omega arith) (s .vocabulary-says .no-word-twice) in
       let es : s .entries ≡ entriesIn v most 0 = sym (e .1) in
-      let t : testsOf v l ≡ some ts =
+      let t : testsRead v l ≡ some ts =
       lock-complete v l (e .0) (λ y m. entry-forms (s .vocabulary-says .in-turn) y (rw (e .1) at m) .0) (rw es at (s .vocabulary-says .no-word-twice)) (s .lock-says)
       (rw es at (s .meant)) f 0 most (laid-whole l) (s .few-tests) in
-      let u : actionsOf a ≡ some acts = actions-complete a (s .actions-say) 0 most (laid-whole a) (s .some-actions) (s .few-actions) in
+      let u : actionsRead a ≡ some acts = actions-complete a (s .actions-say) 0 most (laid-whole a) (s .some-actions) (s .few-actions) in
       rw (e .0, string-test (s .resource-is), u, t)
 
   -- they are read exactly as they say

@@ -3,16 +3,13 @@ use mathlib.Core.Path.{_≡_, refl, sym, ap, _∙_}
 use mathlib.Core.Bool.{Bool, true, false, cond}
 use mathlib.Core.List.{List, _++_}
 use mathlib.Core.Option.{Option, none, some}
-use Prim.Native.Nat.{ℕ, _≤_, _<_}
+use Prim.Native.Nat.{ℕ}
 use native.Mathlib.Omega.{arith}
 use lib.Dec.{leb}
 use lib.ListN.{length, drop}
 use borrow.Author.Tests.{le-leb, lt-leb, leb-true, leb-false}
-use Rattle.placing.specs.Said.{Word}
-use Rattle.permits.specs.Permits.{Test, permitText}
-use Rattle.locks.specs.Answers.{Read, readOf, answerFor, roomFor, noLock, noRoom, Locked}
-use Rattle.locks.specs.Forms.{Lockable, NoLock}
-use Rattle.locks.specs.Promise.{LockCall, Says, permitFor, Answers, no-lock, no-room, permit, answerTo, roomLeft, AnsweredExactly, NothingChanged, PermitStands, OneLock}
+use Rattle.locks.specs.Answers.{Read, readOf, answerFor, roomBy, noLock, noRoom, Locked}
+use Rattle.locks.specs.Promise.{LockCall, permitFor, Answers, no-lock, no-room, permit, answerTo, AnsweredExactly, RoomUnchanged, PermitStands, OneLock}
 use Rattle.locks.specs.declared.Answer.{Answer}
 use Rattle.locks.specs.declared.Answer.the-variants.{Written, Refused}
 use Rattle.locks.proofs.Exactly.{read-sound, read-complete}
@@ -53,8 +50,8 @@ pub answered-exactly : AnsweredExactly
 unfolding AnsweredExactly
 answered-exactly c answer = ((λ q. rw q at (answers c)), only-answer c)
 
-pub nothing-changed : NothingChanged
-unfolding NothingChanged answerFor roomFor
+pub nothing-changed : RoomUnchanged
+unfolding RoomUnchanged answerFor roomBy
 nothing-changed c number h = go (readBy c) refl h
   where
     written-refused : {n m : ℕ} → Written n ≡ Refused m → ⊥
@@ -66,12 +63,12 @@ nothing-changed c number h = go (readBy c) refl h
     fits x true e q = absurd (written-refused q)
     fits x false e q = refl
 
-    go : (o : Option Read) → readBy c ≡ o → answerFor (c .resource) (c .room) (readBy c) ≡ Refused number → roomFor (c .resource) (c .room) (readBy c) ≡ c .room
+    go : (o : Option Read) → readBy c ≡ o → answerFor (c .resource) (c .room) (readBy c) ≡ Refused number → roomBy (c .resource) (c .room) (readBy c) ≡ c .room
     go none q h = rw q
     go (some x) q h = rw q (fits x (leb (length (permitFor c (x .actions) (x .tests))) (length (c .room))) refl (rw q at h))
 
 pub permit-stands : PermitStands
-unfolding PermitStands roomFor
+unfolding PermitStands roomBy
 permit-stands c acts ts s h = rw (read-complete (c .vocabulary) (c .lock) (c .actions) (c .resource) acts ts s, le-leb _ _ h)
 
 pub one-lock : OneLock

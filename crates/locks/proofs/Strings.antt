@@ -1,11 +1,11 @@
 -- Words and strings by their forms, and the tests for them. Assumes nothing.
-use mathlib.Core.Path.{_≡_, refl, sym, _∙_}
-use mathlib.Core.Bool.{Bool, true, false, _&&_, and-eq-true-iff}
+use mathlib.Core.Path.{_≡_, refl}
+use mathlib.Core.Bool.{true, _&&_, and-eq-true-iff}
 use mathlib.Core.List.{List, [], _∷_}
-use Prim.Native.Nat.{ℕ, _+_, _≤_}
+use Prim.Native.Nat.{ℕ}
 use native.Mathlib.Omega.{arith}
 use lib.Dec.{leb}
-use lib.ListN.{length, getD}
+use lib.ListN.{length}
 use borrow.Author.Tests.{le-leb, leb-true}
 use Rattle.tokens.specs.Bytes.{classOf}
 use Rattle.tokens.specs.Forms.{All, empty, next}
@@ -15,7 +15,7 @@ use Rattle.tokens.specs.declared.classes.Sort.the-variants.{Letters, WordBytes,
 use Rattle.bags.specs.Paths.{every}
 use Rattle.placing.specs.Said.{Word}
 use Rattle.permits.specs.Meaning.{AString}
-use Rattle.locks.specs.Reading.{isShortWord, isString}
+use Rattle.locks.specs.Reading.{isShortWord, isRuleString}
 use Rattle.locks.specs.Forms.{AWord, a-word}
 
 -- ---- bytes of a sort
@@ -54,12 +54,12 @@ short-word (b ∷ rest) h =
 
 -- ---- a string
 
-pub string-test : {s : Word} → AString s → isString s ≡ true
-unfolding isString
+pub string-test : {s : Word} → AString s → isRuleString s ≡ true
+unfolding isRuleString
 string-test a = rw (le-leb _ _ (a .size), all-every (a .all))
 
-pub test-string : (s : Word) → isString s ≡ true → AString s
-unfolding isString
+pub test-string : (s : Word) → isRuleString s ≡ true → AString s
+unfolding isRuleString
 test-string s h =
     let t = and-eq-true-iff (leb (length s) 127) (every (isOf StringBytes) s) .0 h in
     record { all = every-all StringBytes s (t .1); size = leb-true _ _ (t .0) }

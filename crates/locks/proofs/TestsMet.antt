@@ -1,45 +1,43 @@
 -- One test of a lock: what says it is read as it is meant. Assumes nothing.
 use mathlib.Core.Path.{_≡_, refl, sym, ap, _∙_}
-use mathlib.Core.Bool.{Bool, true, false, cond, not, _&&_, _||_, and-eq-true-iff, false≢true}
+use mathlib.Core.Bool.{Bool, true, false, not, _&&_, and-eq-true-iff, false≢true}
 use mathlib.Core.List.{List, [], _∷_, _++_, append-assoc, List·Memᴰ}
-use mathlib.Core.Logic.{_⊎_, inl, inr, ⊎-elim}
-use mathlib.Core.Option.{Option, none, some}
+use mathlib.Core.Logic.{_⊎_, inl, inr}
+use mathlib.Core.Option.{some}
 use Prim.Native.Nat.{ℕ, _+_, _-_, _≤_, _<_}
 use native.Mathlib.Omega.{arith}
 use lib.Dec.{eqb, leb, ltb}
-use lib.ListN.{length, getD, take, drop, length-append, length-drop, drop-of-length-le}
+use lib.ListN.{length, getD, drop, drop-of-length-le}
 use lib.Seq.{getD-drop}
-use borrow.Author.Tests.{lt-ltb, le-leb, lt-leb, eq-eqb, ne-eqb, eqb-true, not-true}
-use Rattle.slices.specs.Ascii.{bytes}
+use borrow.Author.Tests.{lt-ltb, le-leb, lt-leb, ne-eqb, eqb-true, not-true}
 use Rattle.slices.specs.Parts.{part}
 use Rattle.slices.specs.Same.{same}
-use Rattle.tokens.specs.Bytes.{classOf, letter}
+use Rattle.tokens.specs.Bytes.{classOf}
 use Rattle.tokens.specs.Kinds as kinds
 use Rattle.tokens.specs.Runs.{isOf, runEnd}
 use Rattle.tokens.specs.Tokens.{token, tokenAt}
-use Rattle.tokens.specs.Forms.{All, empty, next, Form, a-number, a-mark, Number, signless, minus, whole, pointed, digits-from, Unsigned, marks, digits, sizeOf, mostOf}
-use Rattle.tokens.specs.declared.classes.Sort.the-variants.{Blanks, Digits, Letters, WordBytes}
+use Rattle.tokens.specs.Forms.{All, empty, next, a-number, a-mark, Number, signless, minus, whole, pointed, digits-from, marks, digits}
+use Rattle.tokens.specs.declared.classes.Sort.the-variants.{Blanks, Digits, WordBytes}
 use Rattle.tokens.specs.declared.reader.Token.{Token}
-use Rattle.tokens.proofs.FormLaws.{isAmong, is-among, mark-small}
+use Rattle.tokens.proofs.FormLaws.{isAmong, is-among}
 use Rattle.tokens.proofs.TokenLaws.{digit-byte}
 use Rattle.spelling.proofs.Apart.{calm-apart, blank-calm}
 use Rattle.spelling.specs.Spelling.{apart, calm}
 use Rattle.spelling.specs.Printing.{markKind}
 use Rattle.bags.proofs.Laid.{Laid, laid-split, laid-bytes}
-use Rattle.grammar.specs.Policies.{Comparator, Comparator.More, Comparator.AtLeast, Comparator.Less, Comparator.AtMost}
+use Rattle.grammar.specs.Policies.{Comparator}
 use Rattle.placing.specs.Said.{Word}
-use Rattle.permits.specs.Permits.{Test, equal, member, order, markOf}
+use Rattle.permits.specs.Permits.{Test, signOf}
 use Rattle.permits.specs.Meaning.{Orders, more, at-least, less, at-most, AValue, Fits, equal-fits, member-fits, order-fits}
 use Rattle.permits.proofs.Values.{number-long}
 use Rattle.questions.specs.Forms.{Distinct}
-use Rattle.locks.specs.Reading.{findFrom, most, goesWith, valueAt, numberAt, operandAt, goesOn, testOf, testAt, noTest, pathOf, comparatorOf, testBy, testIn, isVocabulary, wordFrom, wordTo, wordIn, markIn, operandIn}
-use Rattle.locks.specs.Forms.{WordSort, equality, membership, numbers, sortByte, Entry, AWord, a-word, Written, valued, compared, TestBytes, value-test, number-test, Meant, an-equality, a-membership, a-comparison, wordsIn}
+use Rattle.locks.specs.Reading.{findFrom, most, goesWith, valueBehind, numberBehind, operandAt, endsTest, testOf, testAt, pathOf, testBy, testIn, isVocabulary, wordFrom, wordUpTo, wordIn, markIn, operandIn}
+use Rattle.locks.specs.Forms.{WordSort, equality, membership, numbers, sortByte, VocabularyEntry, AWord, a-word, WrittenTest, TestBytes, value-test, number-test, Meant, an-equality, a-membership, a-comparison, vocabularyWords}
 use Rattle.locks.specs.declared.Piece.{Piece}
-use Rattle.locks.specs.declared.vocabulary.EntryPlaces.{EntryPlaces}
 use Rattle.locks.specs.declared.tests.TestPlaces.{TestPlaces}
-use Rattle.locks.proofs.Entries.{sortOf, sort-byte, entriesIn, entryThere, foundAs, find-is, find-sort, some-found, lookup-mem}
+use Rattle.locks.proofs.Entries.{sort-byte, entriesIn, find-is, find-sort, some-found, lookup-mem}
 use Rattle.locks.proofs.TestsSaid.{run-reads, token-reads, colon-reads}
-use Rattle.locks.proofs.TestsRead.{entries, comparator-of, order-goes}
+use Rattle.locks.proofs.TestsRead.{comparator-of, order-goes}
 use Rattle.locks.proofs.Strings.{word-bytes}
 
 -- ---- the byte behind a thing
@@ -54,8 +52,8 @@ stop-byte : {l : List ℕ} {e : ℕ} → Stop l e → (getD (drop e l) 0 0 ≡ 0
 stop-byte {l} {e} (at-end q) = let h : length l ≤ e = omega arith in inl (ap (λ (x : List ℕ). getD x 0 0) (drop-of-length-le l h))
 stop-byte {l} {e} (at-and r h q) = inr (ap (λ (x : List ℕ). getD x 0 0) q)
 
-pub stop-goes : {l : List ℕ} {e : ℕ} → Stop l e → goesOn l e ≡ true
-unfolding goesOn
+pub stop-goes : {l : List ℕ} {e : ℕ} → Stop l e → endsTest l e ≡ true
+unfolding endsTest
 stop-goes {l} {e} (at-end q) = let h : length l ≤ e = omega arith in rw (le-leb _ _ h)
 stop-goes {l} {e} (at-and r h q) =
     let z : e + 0 ≡ e = omega arith in
@@ -146,7 +144,7 @@ module _ (v l : List ℕ) where
     pub behind : testAt v l at .next ≡ e
     pub is-it : testIn v l (testAt v l at) ≡ t
 
-  module _ (good : isVocabulary v ≡ true) (distinct : Distinct (wordsIn (entriesIn v most 0))) where
+  module _ (good : isVocabulary v ≡ true) (distinct : Distinct (vocabularyWords (entriesIn v most 0))) where
     -- the entry of a word that is in the vocabulary
     record Entered (w p : Word) (s : WordSort) : Type 0 where
       some-sort : eqb (findFrom most v 0 w .sort) 0 ≡ false
@@ -156,22 +154,22 @@ module _ (v l : List ℕ) where
     entered : {w p : Word} {s : WordSort} → List·Memᴰ (record { word = w; path = p; sort = s }) (entriesIn v most 0) → Entered w p s
     entered {w} {p} {s} m =
         let e = findFrom most v 0 w in
-        let x : Entry = record { word = w; path = p; sort = s } in
+        let x : VocabularyEntry = record { word = w; path = p; sort = s } in
         let f = some-found v e x (find-is v most 0 most w good (omega arith) ∙ lookup-mem (entriesIn v most 0) x distinct m) in
         record {
           some-sort = f .0;
-          path = ap (λ (y : Entry). y .path) (f .1);
-          sort = sym (sort-byte (e .sort) (find-sort v most 0 most w good (omega arith) (f .0))) ∙ ap (λ (y : Entry). sortByte (y .sort)) (f .1);
+          path = ap (λ (y : VocabularyEntry). y .path) (f .1);
+          sort = sym (sort-byte (e .sort) (find-sort v most 0 most w good (omega arith) (f .0))) ∙ ap (λ (y : VocabularyEntry). sortByte (y .sort)) (f .1);
         }
 
     -- all that is asked of a test holds
     met : (at : ℕ) {w p x : Word} {s : WordSort} {m : Token} {o : Piece} {n : ℕ} → Entered w p s → wordIn l at ≡ w → markIn l at ≡ m → operandIn l at ≡ o
-        → runEnd Blanks l (operandIn l at .end) ≡ n → o .good ≡ true → o .end - o .start ≤ 127 → goesWith (sortByte s) (m .kind) ≡ true → goesOn l n ≡ true
+        → runEnd Blanks l (operandIn l at .end) ≡ n → o .good ≡ true → o .end - o .start ≤ 127 → goesWith (sortByte s) (m .kind) ≡ true → endsTest l n ≡ true
         → part l (o .start) (o .end - o .start) ≡ x → Met at (testBy (sortByte s) (m .kind) p x) n
     unfolding testOf testIn pathOf
     met at {w} {p} {x} {s} {m} {o} {n} e qw qm qo qn g k a b y =
         let f = findFrom most v 0 w in
-        let c : (o .good && leb (o .end - o .start) 127 && goesWith (f .sort) (m .kind) && goesOn l n) ≡ true = rw (g, le-leb _ _ k, e .sort, a, b) in
+        let c : (o .good && leb (o .end - o .start) 127 && goesWith (f .sort) (m .kind) && endsTest l n) ≡ true = rw (g, le-leb _ _ k, e .sort, a, b) in
         let t = test-at-is at qw qm qo qn in
         let r : testAt v l at ≡ record { sort = f .sort; path = f .path; stop = f .end; mark = m .kind; value = o .start; end = o .end; next = n } = t ∙ rw c in
         record {
@@ -183,14 +181,14 @@ module _ (v l : List ℕ) where
     -- where the parts of a test lie: its word, and behind it the place from which on the mark stands
     record WordThere (at : ℕ) (w : Word) (from : ℕ) : Type 0 where
       word : wordIn l at ≡ w
-      to : wordTo l at ≡ from
+      to : wordUpTo l at ≡ from
 
     word-there : {at s from : ℕ} {a w : List ℕ} → All Blanks a → AWord w → Laid l at a s → Laid l s w from → isOf WordBytes (getD (drop from l) 0 0) ≡ false → WordThere at w from
     word-there {at} {s} {from} {a} {w} ba aw la lw n =
         let wf : wordFrom l at ≡ s = run-reads ba la (letter-first aw lw) in
-        let wt : wordTo l at ≡ from = ap (runEnd WordBytes l) wf ∙ run-reads (word-bytes aw) lw n in
+        let wt : wordUpTo l at ≡ from = ap (runEnd WordBytes l) wf ∙ run-reads (word-bytes aw) lw n in
         record {
-          word = ap (λ (x : ℕ). part l x (wordTo l at - x)) wf ∙ ap (λ (y : ℕ). part l s (y - s)) wt ∙ laid-bytes lw;
+          word = ap (λ (x : ℕ). part l x (wordUpTo l at - x)) wf ∙ ap (λ (y : ℕ). part l s (y - s)) wt ∙ laid-bytes lw;
           to = wt;
         }
       where
@@ -209,7 +207,7 @@ module _ (v l : List ℕ) where
 
     value-op : {me xs xe : ℕ} {b x : List ℕ} → All Blanks b → All WordBytes x → 1 ≤ length x → Laid l me b xs → Laid l xs x xe → isOf WordBytes (getD (drop xe l) 0 0) ≡ false
         → operandAt l kinds.colonOutside me ≡ record { good = ltb xs xe; start = xs; end = xe }
-    unfolding operandAt valueAt
+    unfolding operandAt valueBehind
     value-op {me} {xs} {xe} {b} {x} ab ax one lb lx n =
         let r : runEnd Blanks l me ≡ xs = run-reads ab lb (first-word ax one lx) in
         let q : runEnd WordBytes l xs ≡ xe = run-reads ax lx n in
@@ -221,22 +219,22 @@ module _ (v l : List ℕ) where
 
     number-op : (mark : ℕ) {me xe : ℕ} {b n : List ℕ} → eqb mark kinds.colonOutside ≡ false → All Blanks b → Number n → digits n ≤ 15 → Laid l me (b ++ n) xe
         → calm (getD (drop xe l) 0 0) ≡ true → operandAt l mark me ≡ record { good = true; start = me + length b; end = xe }
-    unfolding operandAt numberAt
+    unfolding operandAt numberBehind
     number-op mark {me} {xe} {b} {n} k ab u d ln c =
         let t : tokenAt l me ≡ token kinds.number (me + length b) xe = token-reads ab (a-number u) d ln (calm-apart n _ c) in
         rw (k, t)
 
     -- a mark that stands there
-    mark-reads : {c : Comparator} → Orders c → {from me : ℕ} {a : List ℕ} → All Blanks a → Laid l from (a ++ markOf c) me → eqb (getD (drop me l) 0 0) 61 ≡ false
+    mark-reads : {c : Comparator} → Orders c → {from me : ℕ} {a : List ℕ} → All Blanks a → Laid l from (a ++ signOf c) me → eqb (getD (drop me l) 0 0) 61 ≡ false
         → tokenAt l from ≡ token (markKind c) (from + length a) me
-    unfolding markKind markOf apart marks isAmong classOf same
+    unfolding markKind signOf apart marks isAmong classOf same
     mark-reads more ab d n = token-reads ab (a-mark (is-among marks 62 (62 ∷ []) refl)) (omega arith) d (rw n)
     mark-reads at-least ab d n = token-reads ab (a-mark (is-among marks 190 (62 ∷ 61 ∷ []) refl)) (omega arith) d refl
     mark-reads less ab d n = token-reads ab (a-mark (is-among marks 60 (60 ∷ []) refl)) (omega arith) d (rw n)
     mark-reads at-most ab d n = token-reads ab (a-mark (is-among marks 188 (60 ∷ 61 ∷ []) refl)) (omega arith) d refl
 
-    mark-no-word : {c : Comparator} → Orders c → {a : List ℕ} → All Blanks a → (d e : List ℕ) → isOf WordBytes (getD ((a ++ (markOf c ++ d)) ++ e) 0 0) ≡ false
-    unfolding markOf classOf
+    mark-no-word : {c : Comparator} → Orders c → {a : List ℕ} → All Blanks a → (d e : List ℕ) → isOf WordBytes (getD ((a ++ (signOf c ++ d)) ++ e) 0 0) ≡ false
+    unfolding signOf classOf
     mark-no-word more ab d e = first-not-word ab 62 d e refl
     mark-no-word at-least ab d e = first-not-word ab 62 (61 ∷ d) e refl
     mark-no-word less ab d e = first-not-word ab 60 d e refl
@@ -270,13 +268,13 @@ module _ (v l : List ℕ) where
     -- a word with a number
     number-met : (at : ℕ) {e : ℕ} {a w a₂ b₂ n b p : List ℕ} {c : Comparator} → Orders c
         → List·Memᴰ (record { word = w; path = p; sort = numbers }) (entriesIn v most 0) → All Blanks a → AWord w → All Blanks a₂ → All Blanks b₂ → Number n → All Blanks b
-        → digits n ≤ 15 → Laid l at (a ++ ((w ++ (a₂ ++ (markOf c ++ (b₂ ++ n)))) ++ b)) e → Stop l e → Met at (testBy (sortByte numbers) (markKind c) p n) e
+        → digits n ≤ 15 → Laid l at (a ++ ((w ++ (a₂ ++ (signOf c ++ (b₂ ++ n)))) ++ b)) e → Stop l e → Met at (testBy (sortByte numbers) (markKind c) p n) e
     unfolding sortByte
     number-met at {e} {a} {w} {a₂} {b₂} {n} {b} {p} {c} o m ba aw ba₂ bb₂ u bb few d st =
-        let d₁ = laid-split a ((w ++ (a₂ ++ (markOf c ++ (b₂ ++ n)))) ++ b) d in
-        let d₂ = laid-split (w ++ (a₂ ++ (markOf c ++ (b₂ ++ n)))) b (d₁ .1) in
-        let d₃ = laid-split w (a₂ ++ (markOf c ++ (b₂ ++ n))) (d₂ .0) in
-        let d₄ = laid-split (a₂ ++ markOf c) (b₂ ++ n) (laid-as (sym (append-assoc a₂ (markOf c) (b₂ ++ n))) (d₃ .1)) in
+        let d₁ = laid-split a ((w ++ (a₂ ++ (signOf c ++ (b₂ ++ n)))) ++ b) d in
+        let d₂ = laid-split (w ++ (a₂ ++ (signOf c ++ (b₂ ++ n)))) b (d₁ .1) in
+        let d₃ = laid-split w (a₂ ++ (signOf c ++ (b₂ ++ n))) (d₂ .0) in
+        let d₄ = laid-split (a₂ ++ signOf c) (b₂ ++ n) (laid-as (sym (append-assoc a₂ (signOf c) (b₂ ++ n))) (d₃ .1)) in
         let d₅ = laid-split b₂ n (d₄ .1) in
         let k = after-calm bb (d₂ .1) st in
         let no-word = ap (λ (y : List ℕ). isOf WordBytes (getD y 0 0)) (d₃ .1 .is) ∙ mark-no-word o ba₂ (b₂ ++ n) _ in
@@ -289,7 +287,7 @@ module _ (v l : List ℕ) where
         met at (entered m) (t .word) qm qo (behind-value at qo refl bb (d₂ .1) st) refl (omega (arith, z, number-long u)) (g .0) (stop-goes st) (laid-bytes (d₅ .1))
 
     -- a test as it is meant
-    pub test-met : (at : ℕ) {e : ℕ} {a t b : List ℕ} {w : Written} {u : Test} → All Blanks a → TestBytes t w → All Blanks b → Meant (entriesIn v most 0) w u → Fits u
+    pub test-met : (at : ℕ) {e : ℕ} {a t b : List ℕ} {w : WrittenTest} {u : Test} → All Blanks a → TestBytes t w → All Blanks b → Meant (entriesIn v most 0) w u → Fits u
         → Laid l at (a ++ (t ++ b)) e → Stop l e → Met at u e
     unfolding testBy sortByte
     test-met at ba (value-test aw ba₂ bb₂ ax) bb (an-equality m) (equal-fits f) d st = value-met at (inl refl) m ba aw ba₂ bb₂ ax bb f d st

@@ -1,46 +1,36 @@
 -- One test of a lock: what is read at a place says it, and what says it is read. Assumes nothing.
 use mathlib.Core.Path.{_≡_, refl, sym, ap, _∙_}
-use mathlib.Core.Bool.{Bool, true, false, cond, not, _&&_, _||_, and-eq-true-iff, false≢true}
-use mathlib.Core.List.{List, [], _∷_, _++_, append-assoc, append-nil, List·Memᴰ, Memᴰ·cast}
+use mathlib.Core.Bool.{Bool, true, false, cond, _&&_, _||_, and-eq-true-iff, false≢true}
+use mathlib.Core.List.{List, [], _∷_, _++_, append-assoc, List·Memᴰ, Memᴰ·cast}
 use mathlib.Core.Logic.{_⊎_, inl, inr, ⊎-elim}
-use mathlib.Core.Option.{Option, none, some}
-use Prim.Native.Nat.{ℕ, zero, suc, _+_, _-_, _≤_, _<_}
+use mathlib.Core.Option.{some}
+use Prim.Native.Nat.{ℕ, _-_, _≤_, _<_}
 use native.Mathlib.Omega.{arith}
 use native.Mathlib.Nat.{min-le-left, le-trans}
 use lib.Dec.{eqb, leb, ltb}
-use lib.ListN.{length, getD, take, drop, length-append, length-take, drop-of-length-le}
-use lib.Seq.{getD-drop}
-use borrow.Author.Tests.{lt-ltb, le-leb, lt-leb, eq-eqb, ne-eqb, ltb-true, leb-true, leb-false, eqb-true, eqb-false, not-true}
+use lib.ListN.{length, take, length-take}
+use borrow.Author.Tests.{eq-eqb, ltb-true, leb-true, eqb-true}
 use Rattle.slices.specs.Ascii.{bytes}
 use Rattle.slices.specs.Parts.{part}
-use Rattle.tokens.specs.Bytes.{classOf}
 use Rattle.tokens.specs.Kinds as kinds
-use Rattle.tokens.specs.Runs.{isOf, run, runEnd}
-use Rattle.tokens.specs.Tokens.{token, tokenAt}
-use Rattle.tokens.specs.Forms.{All, empty, next, Form, a-number, a-mark, Number, signless, minus, whole, pointed, digits-from, marks, digits}
-use Rattle.tokens.specs.declared.classes.Sort.the-variants.{Blanks, Digits, Letters, WordBytes}
-use Rattle.tokens.specs.declared.reader.Token.{Token}
-use Rattle.tokens.proofs.FormLaws.{isAmong, is-among}
+use Rattle.tokens.specs.Runs.{runEnd}
+use Rattle.tokens.specs.Forms.{All, next, Number, digits}
+use Rattle.tokens.specs.declared.classes.Sort.the-variants.{Blanks, WordBytes}
 use Rattle.tokens.proofs.ReadLaws.{reads}
 use Rattle.tokens.proofs.RunLaws.{high}
-use Rattle.tokens.proofs.TokenLaws.{digit-byte}
-use Rattle.spelling.proofs.Apart.{calm-apart, blank-calm}
-use Rattle.spelling.specs.Spelling.{apart, calm}
 use Rattle.spelling.specs.Printing.{markKind}
-use Rattle.bags.proofs.Laid.{Laid, laid-none, laid-join, laid-split, laid-is, laid-bytes}
-use Rattle.grammar.specs.Policies.{Comparator, Comparator.More, Comparator.AtLeast, Comparator.Less, Comparator.AtMost}
+use Rattle.bags.proofs.Laid.{Laid, laid-join, laid-bytes}
+use Rattle.grammar.specs.Policies.{Comparator}
 use Rattle.placing.specs.Said.{Word}
-use Rattle.permits.specs.Permits.{Test, equal, member, order, markOf}
+use Rattle.permits.specs.Permits.{Test, signOf}
 use Rattle.permits.specs.Meaning.{Orders, more, at-least, less, at-most, AValue, Fits, equal-fits, member-fits, order-fits}
-use Rattle.permits.proofs.Values.{number-long}
-use Rattle.locks.specs.Reading.{findFrom, most, goesWith, valueAt, numberAt, operandAt, goesOn, testOf, testAt, noTest, wordOf, pathOf, comparatorOf, testBy, testIn, isVocabulary, wordFrom, wordTo, wordIn, markIn, operandIn}
-use Rattle.locks.specs.Forms.{WordSort, equality, membership, numbers, sortByte, Entry, AWord, a-word, Written, valued, compared, TestBytes, value-test, number-test, Meant, an-equality, a-membership, a-comparison, wordsIn}
+use Rattle.locks.specs.Reading.{findFrom, most, goesWith, valueBehind, numberBehind, operandAt, endsTest, testOf, testAt, noTest, pathOf, comparatorFor, testBy, testIn, isVocabulary, wordFrom, wordUpTo, wordIn, markIn, operandIn}
+use Rattle.locks.specs.Forms.{WordSort, VocabularyEntry, AWord, WrittenTest, valued, compared, TestBytes, value-test, number-test, Meant, an-equality, a-membership, a-comparison}
 use Rattle.locks.specs.declared.Piece.{Piece}
 use Rattle.locks.specs.declared.vocabulary.EntryPlaces.{EntryPlaces}
 use Rattle.locks.specs.declared.tests.TestPlaces.{TestPlaces}
-use Rattle.locks.proofs.Entries.{sortOf, sort-byte, entriesIn, entryThere, foundAs, find-is, find-sort, some-found, lookupIn, lookup-some, lookup-mem}
-use Rattle.locks.proofs.TestsSaid.{RunLaid, run-laid, run-reads, token-laid, TokenLaid, colon-laid, ColonLaid, token-reads, colon-reads, order-form, number-form}
-use Rattle.locks.proofs.Strings.{word-bytes}
+use Rattle.locks.proofs.Entries.{sortOf, entriesIn, entryThere, foundAs, find-is, find-sort, lookup-some}
+use Rattle.locks.proofs.TestsSaid.{RunLaid, run-laid, token-laid, colon-laid, order-form, number-form}
 
 -- ---- marks
 
@@ -64,8 +54,8 @@ order-kind k h =
     (λ (z : eqb k 60 ≡ true). rw (eqb-true k 60 z) (of less)) (or-cases (eqb k 62 || eqb k 190) (eqb k 60) x))
     (λ (z : eqb k 188 ≡ true). rw (eqb-true k 188 z) (of at-most)) (or-cases (eqb k 62 || eqb k 190 || eqb k 60) (eqb k 188) h)
 
-pub comparator-of : {c : Comparator} → Orders c → comparatorOf (markKind c) ≡ c
-unfolding comparatorOf markKind
+pub comparator-of : {c : Comparator} → Orders c → comparatorFor (markKind c) ≡ c
+unfolding comparatorFor markKind
 comparator-of more = refl
 comparator-of at-least = refl
 comparator-of less = refl
@@ -107,8 +97,8 @@ record OperandLaid (l : List ℕ) (from : ℕ) (o : Piece) (P : Word → Type 0)
   laid : Laid l from (blanks ++ value) (o .end)
   there : part l (o .start) (o .end - o .start) ≡ value
 
-value-laid : (l : List ℕ) (from : ℕ) (o : Piece) → from ≤ length l → o ≡ valueAt l from → o .good ≡ true → OperandLaid l from o AValue
-unfolding valueAt
+value-laid : (l : List ℕ) (from : ℕ) (o : Piece) → from ≤ length l → o ≡ valueBehind l from → o .good ≡ true → OperandLaid l from o AValue
+unfolding valueBehind
 value-laid l from o h q g =
     let b = run-laid Blanks l from h in
     let x = run-laid WordBytes l (runEnd Blanks l from) (b .laid .inside) in
@@ -128,8 +118,8 @@ record ANumber (n : Word) : Type 0 where
   form : Number n
   few : digits n ≤ 15
 
-number-laid : (l : List ℕ) (from : ℕ) (o : Piece) → from ≤ length l → o ≡ numberAt l from → o .good ≡ true → OperandLaid l from o ANumber
-unfolding numberAt
+number-laid : (l : List ℕ) (from : ℕ) (o : Piece) → from ≤ length l → o ≡ numberBehind l from → o .good ≡ true → OperandLaid l from o ANumber
+unfolding numberBehind
 number-laid l from o h q g =
     let t = token-laid l from kinds.number h (eqb-true _ _ (rw q at g)) (omega arith) in
     rw q
@@ -142,19 +132,19 @@ number-laid l from o h q g =
       there = laid-bytes (t .laid);
     })
 
-entry-same : {w u p : Word} {s t : WordSort} → w ≡ u → s ≡ t → _≡_ {A = Entry} (record { word = w; path = p; sort = s }) (record { word = u; path = p; sort = t })
+entry-same : {w u p : Word} {s t : WordSort} → w ≡ u → s ≡ t → _≡_ {A = VocabularyEntry} (record { word = w; path = p; sort = s }) (record { word = u; path = p; sort = t })
 entry-same {w} {u} {p} {s} {t} q r =
-    ap {B = Entry} (λ (x : Word). record { word = x; path = p; sort = s }) q ∙ ap {B = Entry} (λ (x : WordSort). record { word = u; path = p; sort = x }) r
+    ap {B = VocabularyEntry} (λ (x : Word). record { word = x; path = p; sort = s }) q ∙ ap {B = VocabularyEntry} (λ (x : WordSort). record { word = u; path = p; sort = x }) r
 
 -- ---- what is read says a test
 
 module _ (v l : List ℕ) (good : isVocabulary v ≡ true) where
   -- the entries of the vocabulary
-  abbrev pub entries : List Entry
+  abbrev pub entries : List VocabularyEntry
   entries = entriesIn v most 0
 
   pub record TestSaid (at : ℕ) (t : Test) (e : ℕ) : Type 0 where
-    pub written : Written
+    pub written : WrittenTest
     pub front : List ℕ
     pub test : List ℕ
     pub back : List ℕ
@@ -182,18 +172,18 @@ module _ (v l : List ℕ) (good : isVocabulary v ≡ true) where
     operand : o .good ≡ true
     small : o .end - o .start ≤ 127
     goes-with : Goes (e .sort) mark
-    goes-on : goesOn l n ≡ true
+    goes-on : endsTest l n ≡ true
 
-  asked-is : (e : EntryPlaces) (mark : ℕ) (o : Piece) (n : ℕ) → (o .good && leb (o .end - o .start) 127 && goesWith (e .sort) mark && goesOn l n) ≡ true → Asked e mark o n
+  asked-is : (e : EntryPlaces) (mark : ℕ) (o : Piece) (n : ℕ) → (o .good && leb (o .end - o .start) 127 && goesWith (e .sort) mark && endsTest l n) ≡ true → Asked e mark o n
   asked-is e mark o n h =
-      let x = and-eq-true-iff _ (goesOn l n) .0 h in
+      let x = and-eq-true-iff _ (endsTest l n) .0 h in
       let y = and-eq-true-iff _ (goesWith (e .sort) mark) .0 (x .0) in
       let z = and-eq-true-iff (o .good) _ .0 (y .0) in
       record { operand = z .0; small = leb-true _ _ (z .1); goes-with = goes (e .sort) mark (y .1); goes-on = x .1 }
 
   -- ---- the test at a place
 
-  module _ (at : ℕ) (h : at ≤ length l) (aw : (x : Entry) → List·Memᴰ x entries → AWord (x .word)) where
+  module _ (at : ℕ) (h : at ≤ length l) (aw : (x : VocabularyEntry) → List·Memᴰ x entries → AWord (x .word)) where
     abbrev found : EntryPlaces
     found = findFrom most v 0 (wordIn l at)
 
@@ -211,7 +201,7 @@ module _ (v l : List ℕ) (good : isVocabulary v ≡ true) where
     the-word = laid-bytes (word .laid)
 
     mark-high : markIn l at .end ≤ length l
-    mark-high = reads l (wordTo l at) (word .laid .inside) .high
+    mark-high = reads l (wordUpTo l at) (word .laid .inside) .high
 
     -- what is read
     abbrev read : TestPlaces
@@ -265,17 +255,17 @@ module _ (v l : List ℕ) (good : isVocabulary v ≡ true) where
     unfolding operandAt
     operand-high a = go (eqb (markIn l at .kind) kinds.colonOutside) refl (a .operand)
       where
-        go : (t : Bool) → eqb (markIn l at .kind) kinds.colonOutside ≡ t → cond t (valueAt l (markIn l at .end)) (numberAt l (markIn l at .end)) .good ≡ true
-            → cond t (valueAt l (markIn l at .end)) (numberAt l (markIn l at .end)) .end ≤ length l
-        go true q g = value-laid l (markIn l at .end) (valueAt l (markIn l at .end)) mark-high refl g .laid .inside
-        go false q g = number-laid l (markIn l at .end) (numberAt l (markIn l at .end)) mark-high refl g .laid .inside
+        go : (t : Bool) → eqb (markIn l at .kind) kinds.colonOutside ≡ t → cond t (valueBehind l (markIn l at .end)) (numberBehind l (markIn l at .end)) .good ≡ true
+            → cond t (valueBehind l (markIn l at .end)) (numberBehind l (markIn l at .end)) .end ≤ length l
+        go true q g = value-laid l (markIn l at .end) (valueBehind l (markIn l at .end)) mark-high refl g .laid .inside
+        go false q g = number-laid l (markIn l at .end) (numberBehind l (markIn l at .end)) mark-high refl g .laid .inside
 
     value-said : WordFound (wordIn l at) found → (found .sort ≡ 1) ⊎ (found .sort ≡ 2) → markIn l at .kind ≡ kinds.colonOutside
         → Asked found (markIn l at .kind) (operandIn l at) behind → TestSaid at (testIn v l read) behind
     unfolding operandAt
     value-said w s k a =
-        let q : operandIn l at ≡ valueAt l (markIn l at .end) = rw (eq-eqb _ _ k) in
-        let c = colon-laid l (wordTo l at) (word .laid .inside) k in
+        let q : operandIn l at ≡ valueBehind l (markIn l at .end) = rw (eq-eqb _ _ k) in
+        let c = colon-laid l (wordUpTo l at) (word .laid .inside) k in
         let x = value-laid l (markIn l at .end) (operandIn l at) mark-high q (a .operand) in
         let r = back (x .laid .inside) in
         let t : word .bytes ++ ((c .blanks ++ 58 ∷ []) ++ (x .blanks ++ x .value)) ≡ word .bytes ++ (c .blanks ++ 58 ∷ (x .blanks ++ x .value)) =
@@ -298,18 +288,18 @@ module _ (v l : List ℕ) (good : isVocabulary v ≡ true) where
     unfolding operandAt
     number-said w s {c} o k a =
         let g = order-goes o in
-        let q : operandIn l at ≡ numberAt l (markIn l at .end) = rw (k, g .1) in
-        let m = token-laid l (wordTo l at) (markKind c) (word .laid .inside) k (g .2) in
-        let f : m .bytes ≡ markOf c = order-form o (m .form) refl in
+        let q : operandIn l at ≡ numberBehind l (markIn l at .end) = rw (k, g .1) in
+        let m = token-laid l (wordUpTo l at) (markKind c) (word .laid .inside) k (g .2) in
+        let f : m .bytes ≡ signOf c = order-form o (m .form) refl in
         let x = number-laid l (markIn l at .end) (operandIn l at) mark-high q (a .operand) in
         let r = back (x .laid .inside) in
-        let t : word .bytes ++ ((m .blanks ++ m .bytes) ++ (x .blanks ++ x .value)) ≡ word .bytes ++ (m .blanks ++ (markOf c ++ (x .blanks ++ x .value))) =
+        let t : word .bytes ++ ((m .blanks ++ m .bytes) ++ (x .blanks ++ x .value)) ≡ word .bytes ++ (m .blanks ++ (signOf c ++ (x .blanks ++ x .value))) =
         ap (λ (y : List ℕ). word .bytes ++ y)
         (append-assoc (m .blanks) (m .bytes) (x .blanks ++ x .value) ∙ ap (λ (y : List ℕ). m .blanks ++ (y ++ (x .blanks ++ x .value))) f) in
         record {
           written = compared (word .bytes) c (x .value);
           front = front .bytes;
-          test = word .bytes ++ (m .blanks ++ (markOf c ++ (x .blanks ++ x .value)));
+          test = word .bytes ++ (m .blanks ++ (signOf c ++ (x .blanks ++ x .value)));
           back = r .bytes;
           front-blank = front .all;
           says = number-test (is-word w) (m .passed) (x .passed) o (x .is-one .form);
@@ -321,9 +311,9 @@ module _ (v l : List ℕ) (good : isVocabulary v ≡ true) where
 
     -- what the test is read as says a test
     pub test-sound : eqb (testAt v l at .sort) 0 ≡ false
-        → TestSaid at (testIn v l (testAt v l at)) (testAt v l at .next) × (goesOn l (testAt v l at .next) ≡ true) × (testAt v l at .next ≤ length l)
+        → TestSaid at (testIn v l (testAt v l at)) (testAt v l at .next) × (endsTest l (testAt v l at .next) ≡ true) × (testAt v l at .next ≤ length l)
     unfolding testAt testOf
-    test-sound z = go (operandIn l at .good && leb (operandIn l at .end - operandIn l at .start) 127 && goesWith (found .sort) (markIn l at .kind) && goesOn l behind) refl z
+    test-sound z = go (operandIn l at .good && leb (operandIn l at .end - operandIn l at .start) 127 && goesWith (found .sort) (markIn l at .kind) && endsTest l behind) refl z
       where
         one : (x : WordFound (wordIn l at) found) (a : Asked found (markIn l at .kind) (operandIn l at) behind) → Goes (found .sort) (markIn l at .kind) → TestSaid at (testIn v l read) behind
         one x a (with-value s k) = value-said x s k a
@@ -338,9 +328,9 @@ module _ (v l : List ℕ) (good : isVocabulary v ≡ true) where
         some-sort (with-value (inr s) k) = rw s
         some-sort (with-number s k) = rw s
 
-        go : (t : Bool) → (operandIn l at .good && leb (operandIn l at .end - operandIn l at .start) 127 && goesWith (found .sort) (markIn l at .kind) && goesOn l behind) ≡ t
+        go : (t : Bool) → (operandIn l at .good && leb (operandIn l at .end - operandIn l at .start) 127 && goesWith (found .sort) (markIn l at .kind) && endsTest l behind) ≡ t
             → eqb (cond t read noTest .sort) 0 ≡ false
-            → TestSaid at (testIn v l (cond t read noTest)) (cond t read noTest .next) × (goesOn l (cond t read noTest .next) ≡ true) × (cond t read noTest .next ≤ length l)
+            → TestSaid at (testIn v l (cond t read noTest)) (cond t read noTest .next) × (endsTest l (cond t read noTest .next) ≡ true) × (cond t read noTest .next ≤ length l)
         go false q z = absurd (false≢true (sym z))
         go true q z =
             let a = asked-is found (markIn l at .kind) (operandIn l at) behind q in

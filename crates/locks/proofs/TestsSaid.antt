@@ -1,14 +1,14 @@
 -- The reader of locks takes the bytes of tests joined by `&` and no others, and reads each test as it is meant. Assumes nothing.
 use mathlib.Core.Path.{_≡_, refl, sym, ap, _∙_}
-use mathlib.Core.Bool.{Bool, true, false, cond, not, _&&_, _||_, and-eq-true-iff, false≢true}
-use mathlib.Core.List.{List, [], _∷_, _++_, append-assoc, append-nil, List·Memᴰ}
-use mathlib.Core.Logic.{_⊎_, inl, inr, ⊎-elim}
-use Prim.Native.Nat.{ℕ, zero, suc, _+_, _-_, _≤_, _<_}
+use mathlib.Core.Bool.{true, false, not, _||_}
+use mathlib.Core.List.{List, [], _∷_, _++_, append-assoc}
+use mathlib.Core.Logic.{⊎-elim}
+use Prim.Native.Nat.{ℕ, _+_, _-_, _≤_, _<_}
 use native.Mathlib.Omega.{arith}
-use lib.Dec.{eqb, leb, ltb}
+use lib.Dec.{eqb}
 use lib.ListN.{length, getD, take, drop, length-append}
-use lib.Seq.{getD-drop, drop-drop, drop-append-seam, take-append-seam, drop-length}
-use borrow.Author.Tests.{lt-ltb, le-ltb, le-leb, lt-leb, eq-eqb, ne-eqb, ltb-true, leb-true, leb-false, eqb-true, eqb-false, not-true}
+use lib.Seq.{drop-drop, drop-append-seam}
+use borrow.Author.Tests.{eq-eqb, eqb-false, not-true}
 use Rattle.slices.specs.Ascii.{bytes}
 use Rattle.slices.specs.Parts.{part}
 use Rattle.slices.specs.Same.{same}
@@ -16,27 +16,26 @@ use Rattle.slices.proofs.Equal.{same-decides}
 use Rattle.tokens.specs.Bytes.{classOf}
 use Rattle.tokens.specs.Kinds as kinds
 use Rattle.tokens.specs.Runs.{isOf, run, runEnd}
-use Rattle.tokens.specs.Tokens.{token, tokenAt, Reads}
+use Rattle.tokens.specs.Tokens.{token, tokenAt}
 use Rattle.tokens.specs.Words.{wordKind}
-use Rattle.tokens.specs.Forms.{All, empty, next, Form, a-word, a-string, a-number, a-mark, Number, signless, minus, whole, pointed, digits-from, Among, first, later, marks, digits, sizeOf, mostOf, Longest, Stands, end-of-text, a-token, too-long, a-colon, bad-byte, unended, bad-inside, StandsAt}
+use Rattle.tokens.specs.Forms.{All, Form, a-word, a-string, a-number, a-mark, Number, Among, marks, sizeOf, mostOf, Stands, end-of-text, a-token, too-long, a-colon, bad-byte, unended, bad-inside}
 use Rattle.tokens.specs.declared.classes.Sort.{Sort}
-use Rattle.tokens.specs.declared.classes.Sort.the-variants.{Blanks, Digits, Letters, WordBytes}
+use Rattle.tokens.specs.declared.classes.Sort.the-variants.{Blanks}
 use Rattle.tokens.specs.declared.reader.Token.{Token}
-use Rattle.tokens.proofs.FormLaws.{run-is, Split, split, split-run, reach, markReach, no-form, mark-passes, is-among, isAmong}
+use Rattle.tokens.proofs.FormLaws.{run-is, Split, split, split-run, reach, no-form, mark-passes}
 use Rattle.tokens.proofs.KindLaws.{kind-among, word-high}
 use Rattle.tokens.proofs.Longest.{longest-token, one-token}
 use Rattle.tokens.proofs.ReadLaws.{reads}
 use Rattle.tokens.proofs.RunLaws.{high}
 use Rattle.tokens.proofs.Told.{token-told}
-use Rattle.tokens.proofs.TokenLaws.{every, digit-byte}
-use Rattle.spelling.proofs.Apart.{form-longest, form-first, form-kind, calm-apart, blank-calm}
-use Rattle.spelling.specs.Spelling.{apart, calm}
+use Rattle.tokens.proofs.TokenLaws.{every}
+use Rattle.spelling.proofs.Apart.{form-longest, form-first, form-kind}
+use Rattle.spelling.specs.Spelling.{apart}
 use Rattle.spelling.specs.Printing.{markKind}
-use Rattle.bags.proofs.Laid.{Laid, laid-none, laid-cons, laid-part, laid-join, laid-split, laid-head, laid-is, laid-bytes}
-use Rattle.grammar.specs.Policies.{Comparator, Comparator.More, Comparator.AtLeast, Comparator.Less, Comparator.AtMost}
-use Rattle.placing.specs.Said.{Word}
-use Rattle.permits.specs.Permits.{Test, equal, member, order, markOf}
-use Rattle.permits.specs.Meaning.{Orders, more, at-least, less, at-most, AValue}
+use Rattle.bags.proofs.Laid.{Laid, laid-part}
+use Rattle.grammar.specs.Policies.{Comparator}
+use Rattle.permits.specs.Permits.{order, signOf}
+use Rattle.permits.specs.Meaning.{Orders, more, at-least, less, at-most}
 
 -- ---- runs, where they lie
 
@@ -150,11 +149,11 @@ word-kind-not : (w : List ℕ) (k : ℕ) → k < 201 → (k ≡ 110 → ⊥) →
 word-kind-not w k h n e = ⊎-elim (λ (q : wordKind w ≡ 110). n (sym e ∙ q)) (λ (q : 201 ≤ wordKind w). omega arith) (kind-among _ 201 w)
 
 -- a form of a comparator's kind is its mark
-pub order-form : {c : Comparator} → Orders c → {kind : ℕ} {p : List ℕ} → Form kind p → kind ≡ markKind c → p ≡ markOf c
-unfolding markKind markOf marks every same
+pub order-form : {c : Comparator} → Orders c → {kind : ℕ} {p : List ℕ} → Form kind p → kind ≡ markKind c → p ≡ signOf c
+unfolding markKind signOf marks every same
 order-form o {kind} {p} f q = go o f q
   where
-    among : {c : Comparator} {k : ℕ} {p : List ℕ} → Orders c → Among marks k p → k ≡ markKind c → p ≡ markOf c
+    among : {c : Comparator} {k : ℕ} {p : List ℕ} → Orders c → Among marks k p → k ≡ markKind c → p ≡ signOf c
     among more m q = pass (mark-passes (λ k p. not (eqb k 62) || same p (bytes ">")) m refl) q
       where
         pass : {k : ℕ} {p : List ℕ} → (not (eqb k 62) || same p (62 ∷ [])) ≡ true → k ≡ 62 → p ≡ 62 ∷ []
@@ -178,7 +177,7 @@ order-form o {kind} {p} f q = go o f q
     small less = (omega arith, (λ z. omega arith), (λ z. omega arith), (λ z. omega arith))
     small at-most = (omega arith, (λ z. omega arith), (λ z. omega arith), (λ z. omega arith))
 
-    go : {c : Comparator} {k : ℕ} {p : List ℕ} → Orders c → Form k p → k ≡ markKind c → p ≡ markOf c
+    go : {c : Comparator} {k : ℕ} {p : List ℕ} → Orders c → Form k p → k ≡ markKind c → p ≡ signOf c
     go o (a-word {b} {rest} e a) q = let s = small o in absurd (word-kind-not (b ∷ rest) _ (s .0) (s .1) q)
     go o (a-string a) q = let s = small o in absurd (s .2 (sym q))
     go o (a-number n) q = let s = small o in absurd (s .3 (sym q))

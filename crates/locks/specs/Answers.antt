@@ -9,7 +9,7 @@ use lib.ListN.{length, take, drop}
 use Rattle.slices.specs.Ascii.{bytes}
 use Rattle.placing.specs.Said.{Word}
 use Rattle.permits.specs.Permits.{Test, quoted, permitText}
-use Rattle.locks.specs.Reading.{isVocabulary, isString, testsOf, actionsOf, areSome, testsText, actionsText}
+use Rattle.locks.specs.Reading.{isVocabulary, isRuleString, testsRead, actionsRead, areSome, testsText, actionsText}
 use Rattle.locks.specs.declared.Size.{Size}
 use Rattle.locks.specs.declared.Size.the-variants.{Of, Bad}
 use Rattle.locks.specs.declared.Answer.{Answer}
@@ -18,12 +18,12 @@ use Rattle.locks.specs.declared.Answer.the-variants.{Written, Refused}
 -- ---- bytes put over others
 
 -- bytes over those from a place on
-unfoldable pub putAt : List ℕ → ℕ → List ℕ → List ℕ
-putAt room at b = take at room ++ (b ++ drop (at + length b) room)
+unfoldable pub putOver : List ℕ → ℕ → List ℕ → List ℕ
+putOver room at b = take at room ++ (b ++ drop (at + length b) room)
 
 -- they are put there, and the place behind them is answered
-pub record Put (old : List ℕ) (at : ℕ) (b new : List ℕ) (next : ℕ) : Type 0 where
-  pub is : new ≡ putAt old at b
+pub record PutOver (old : List ℕ) (at : ℕ) (b new : List ℕ) (next : ℕ) : Type 0 where
+  pub is : new ≡ putOver old at b
   pub end : next ≡ at + length b
 
 -- ---- the call
@@ -33,18 +33,19 @@ pub record Read : Type 0 where
   pub actions : List Word
   pub tests : List Test
 
+-- both, where both are there
 abbrev pub together : Option (List Word) → Option (List Test) → Option Read
 together none ts = none
 together (some acts) none = none
 together (some acts) (some ts) = some (record { actions = acts; tests = ts })
 
 -- nothing where the vocabulary or the resource is not of its form
-abbrev pub only : {A : Type 0} → Bool → Option A → Option A
-only b o = cond b o none
+abbrev pub onlyIf : {A : Type 0} → Bool → Option A → Option A
+onlyIf b o = cond b o none
 
 -- what vocabulary, lock, action list and resource are read as
 unfoldable pub readOf : List ℕ → List ℕ → List ℕ → List ℕ → Option Read
-readOf v l a r = only (isVocabulary v && isString r) (together (actionsOf a) (testsOf v l))
+readOf v l a r = onlyIf (isVocabulary v && isRuleString r) (together (actionsRead a) (testsRead v l))
 
 -- the permit's bytes, by those of its actions, its resource and its tests
 unfoldable pub framed : List ℕ → List ℕ → List ℕ → List ℕ
@@ -77,9 +78,9 @@ answerFor r room none = Refused noLock
 answerFor r room (some x) = lengthIn (permitText (x .actions) r (x .tests)) room
 
 -- the room afterwards, by what is read
-unfoldable pub roomFor : List ℕ → List ℕ → Option Read → List ℕ
-roomFor r room none = room
-roomFor r room (some x) = overStart (permitText (x .actions) r (x .tests)) room
+unfoldable pub roomBy : List ℕ → List ℕ → Option Read → List ℕ
+roomBy r room none = room
+roomBy r room (some x) = overStart (permitText (x .actions) r (x .tests)) room
 
 -- what is answered
 abbrev pub answerOf : List ℕ → List ℕ → List ℕ → List ℕ → List ℕ → Answer
@@ -87,7 +88,7 @@ answerOf v l a r room = answerFor r room (readOf v l a r)
 
 -- the room afterwards
 abbrev pub roomAfter : List ℕ → List ℕ → List ℕ → List ℕ → List ℕ → List ℕ
-roomAfter v l a r room = roomFor r room (readOf v l a r)
+roomAfter v l a r room = roomBy r room (readOf v l a r)
 
 -- all that the contract says: one answer, one content of the room
 pub record Locked (v l a r before : List ℕ) (answer : Answer) (after : List ℕ) : Type 0 where
@@ -95,7 +96,7 @@ pub record Locked (v l a r before : List ℕ) (answer : Answer) (after : List �
   pub bytes : after ≡ roomAfter v l a r before
 
 -- a permit can be written: there are actions and tests, and room for it
-pub record Ready (v l a r room : List ℕ) : Type 0 where
-  pub actions : areSome (actionsOf a) ≡ true
-  pub tests : areSome (testsOf v l) ≡ true
+pub record Writable (v l a r room : List ℕ) : Type 0 where
+  pub actions : areSome (actionsRead a) ≡ true
+  pub tests : areSome (testsRead v l) ≡ true
   pub fits : length (framed (actionsText a) r (testsText v l)) ≤ length room

@@ -1,5 +1,5 @@
--- Locks as document 02 words them, request 2: which bytes say which vocabulary, lock and action list, and what they say together. That the readers take these bytes and no others,
--- and that bytes say one lock only, is proved in proofs/Exactly.antt. Definitions only.
+-- Locks as document 02 words them, request 2: which bytes say which vocabulary, lock and action list, and what they say together.
+-- That the readers take these bytes and no others, and that bytes say one lock only, is proved in proofs/Exactly.antt. Definitions only.
 use mathlib.Core.Path.{_≡_}
 use mathlib.Core.Bool.{true}
 use mathlib.Core.List.{List, [], _∷_, _++_, map, List·Memᴰ}
@@ -15,7 +15,7 @@ use Rattle.questions.specs.Forms.{Distinct}
 use Rattle.grammar.specs.Grammar.{SaysPolicies}
 use Rattle.grammar.specs.Policies.{Policy, Comparator}
 use Rattle.placing.specs.Said.{Word}
-use Rattle.permits.specs.Permits.{Test, equal, member, order, markOf, permitText}
+use Rattle.permits.specs.Permits.{Test, equal, member, order, signOf, permitText}
 use Rattle.permits.specs.Meaning.{Orders, AValue, AString}
 
 -- ---- the vocabulary
@@ -33,7 +33,7 @@ sortByte membership = 2
 sortByte numbers = 3
 
 -- a word with its path and its sort
-pub record Entry : Type 0 where
+pub record VocabularyEntry : Type 0 where
   pub word : Word
   pub path : Word
   pub sort : WordSort
@@ -43,50 +43,50 @@ pub data AWord : Word → Type 0 where
   a-word : {b : ℕ} {rest : Word} → isOf Letters b ≡ true → All WordBytes rest → length (b ∷ rest) ≤ 64 → AWord (b ∷ rest)
 
 -- an entry: a length byte and the word, a length byte and the path, a byte for the sort
-pub data EntryBytes : List ℕ → Entry → Type 0 where
+pub data VocabularyEntryBytes : List ℕ → VocabularyEntry → Type 0 where
   entry : {w p : Word} {s : WordSort} → AWord w → isPath p ≡ true
-      → EntryBytes (length w ∷ (w ++ (length p ∷ (p ++ sortByte s ∷ [])))) (record { word = w; path = p; sort = s })
+      → VocabularyEntryBytes (length w ∷ (w ++ (length p ∷ (p ++ sortByte s ∷ [])))) (record { word = w; path = p; sort = s })
 
 -- the words of a vocabulary
-abbrev pub wordsIn : List Entry → List Word
-wordsIn = map (λ e. e .word)
+abbrev pub vocabularyWords : List VocabularyEntry → List Word
+vocabularyWords = map (λ e. e .word)
 
 -- a vocabulary: entries one after the other, 16 at most, no word twice
-pub record VocabularyBytes (v : List ℕ) (entries : List Entry) : Type 0 where
-  pub in-turn : InTurn EntryBytes v entries
+pub record VocabularyBytes (v : List ℕ) (entries : List VocabularyEntry) : Type 0 where
+  pub in-turn : InTurn VocabularyEntryBytes v entries
   pub few : length entries ≤ 16
-  pub no-word-twice : Distinct (wordsIn entries)
+  pub no-word-twice : Distinct (vocabularyWords entries)
 
 -- ---- the lock
 
 -- a test as it is written: a word and a value, or a word, a comparator and a number
-pub data Written : Type 0 where
-  valued : Word → Word → Written
-  compared : Word → Comparator → Word → Written
+pub data WrittenTest : Type 0 where
+  valued : Word → Word → WrittenTest
+  compared : Word → Comparator → Word → WrittenTest
 
 -- its bytes: the word, `:` and the value; or the word, one of `>`, `>=`, `<`, `<=`, and the number; with any blanks between them
-pub data TestBytes : List ℕ → Written → Type 0 where
+pub data TestBytes : List ℕ → WrittenTest → Type 0 where
   value-test : {w a b x : List ℕ} → AWord w → All Blanks a → All Blanks b → AValue x → TestBytes (w ++ (a ++ code ":" ∷ (b ++ x))) (valued w x)
   number-test : {w a b n : List ℕ} {c : Comparator} → AWord w → All Blanks a → All Blanks b → Orders c → Number n
-      → TestBytes (w ++ (a ++ (markOf c ++ (b ++ n)))) (compared w c n)
+      → TestBytes (w ++ (a ++ (signOf c ++ (b ++ n)))) (compared w c n)
 
 -- a lock's bytes: tests joined by `&`, at least one, with any blanks before and behind each
-pub data LockBytes : List ℕ → List Written → Type 0 where
-  one : {a t b : List ℕ} {w : Written} → All Blanks a → TestBytes t w → All Blanks b → LockBytes (a ++ (t ++ b)) (w ∷ [])
-  more : {a t b l : List ℕ} {w : Written} {ws : List Written} → All Blanks a → TestBytes t w → All Blanks b → LockBytes l ws
+pub data LockBytes : List ℕ → List WrittenTest → Type 0 where
+  one : {a t b : List ℕ} {w : WrittenTest} → All Blanks a → TestBytes t w → All Blanks b → LockBytes (a ++ (t ++ b)) (w ∷ [])
+  more : {a t b l : List ℕ} {w : WrittenTest} {ws : List WrittenTest} → All Blanks a → TestBytes t w → All Blanks b → LockBytes l ws
       → LockBytes (a ++ (t ++ (b ++ code "&" ∷ l))) (w ∷ ws)
 
 -- what a written test means: its word's entry gives the path, and is of the sort that it is used as
-pub data Meant (entries : List Entry) : Written → Test → Type 0 where
+pub data Meant (entries : List VocabularyEntry) : WrittenTest → Test → Type 0 where
   an-equality : {w p x : Word} → List·Memᴰ (record { word = w; path = p; sort = equality }) entries → Meant entries (valued w x) (equal p x)
   a-membership : {w p x : Word} → List·Memᴰ (record { word = w; path = p; sort = membership }) entries → Meant entries (valued w x) (member p x)
   a-comparison : {w p n : Word} {c : Comparator} → List·Memᴰ (record { word = w; path = p; sort = numbers }) entries
       → Meant entries (compared w c n) (order p c n)
 
 -- the same of each
-pub data AllMeant (entries : List Entry) : List Written → List Test → Type 0 where
+pub data AllMeant (entries : List VocabularyEntry) : List WrittenTest → List Test → Type 0 where
   none : AllMeant entries [] []
-  next : {w : Written} {t : Test} {ws : List Written} {ts : List Test} → Meant entries w t → AllMeant entries ws ts → AllMeant entries (w ∷ ws) (t ∷ ts)
+  next : {w : WrittenTest} {t : Test} {ws : List WrittenTest} {ts : List Test} → Meant entries w t → AllMeant entries ws ts → AllMeant entries (w ∷ ws) (t ∷ ts)
 
 -- ---- the action list
 
@@ -102,13 +102,13 @@ pub record Compiles (text : List ℕ) : Type 0 where
   pub says : SaysPolicies text policies
   pub short : length text ≤ 8192
 
--- What vocabulary v, lock l, action list a and resource r say: these actions and these tests. Each field is a thing that document 02 names; without any of them it is 28.
+-- What vocabulary v, lock l, action list a and resource r say: these actions and tests. Each field is a thing that document 02 names; without one it is 28.
 pub record LockSays (v l a r : List ℕ) (actions : List Word) (tests : List Test) : Type 0 where
   -- the vocabulary's words, each with a path and a sort: not over 16, none repeated, words and paths as in 01
-  pub entries : List Entry
+  pub entries : List VocabularyEntry
   pub vocabulary-says : VocabularyBytes v entries
   -- the lock's form: 1 to 16 tests joined by `&`
-  pub written : List Written
+  pub written : List WrittenTest
   pub lock-says : LockBytes l written
   pub few-tests : length written ≤ 16
   -- each of its words is in the vocabulary and is used by its sort

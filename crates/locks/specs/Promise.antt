@@ -20,8 +20,8 @@ pub record LockCall : Type 0 where
   pub room : List ℕ
 
 -- they say these actions and these tests, in a permit that would compile
-abbrev pub Says : LockCall → List Word → List Test → Type 0
-Says c = Lockable (c .vocabulary) (c .lock) (c .actions) (c .resource)
+abbrev pub CallSays : LockCall → List Word → List Test → Type 0
+CallSays c = Lockable (c .vocabulary) (c .lock) (c .actions) (c .resource)
 
 -- the permit for these actions and tests
 abbrev pub permitFor : LockCall → List Word → List Test → List ℕ
@@ -30,9 +30,9 @@ permitFor c actions tests = permitText actions (c .resource) tests
 -- When a call gets which answer: 28 where it says no lock; 29 where it says one whose permit is longer than its room; else the permit's length.
 pub data Answers (c : LockCall) : Answer → Type 0 where
   no-lock : NoLock (c .vocabulary) (c .lock) (c .actions) (c .resource) → Answers c (Refused noLock)
-  no-room : {actions : List Word} {tests : List Test} → Says c actions tests → length (c .room) < length (permitFor c actions tests)
+  no-room : {actions : List Word} {tests : List Test} → CallSays c actions tests → length (c .room) < length (permitFor c actions tests)
       → Answers c (Refused noRoom)
-  permit : {actions : List Word} {tests : List Test} → Says c actions tests → length (permitFor c actions tests) ≤ length (c .room)
+  permit : {actions : List Word} {tests : List Test} → CallSays c actions tests → length (permitFor c actions tests) ≤ length (c .room)
       → Answers c (Written (length (permitFor c actions tests)))
 
 -- what is answered, and the room afterwards
@@ -47,12 +47,12 @@ unfoldable pub AnsweredExactly : Type 0
 AnsweredExactly = (c : LockCall) (answer : Answer) → (answerTo c ≡ answer) ↔ Answers c answer
 
 -- A refusal changes nothing.
-unfoldable pub NothingChanged : Type 0
-NothingChanged = (c : LockCall) (number : ℕ) → answerTo c ≡ Refused number → roomLeft c ≡ c .room
+unfoldable pub RoomUnchanged : Type 0
+RoomUnchanged = (c : LockCall) (number : ℕ) → answerTo c ≡ Refused number → roomLeft c ≡ c .room
 
 -- Where the permit has room it stands over the room's start, and all other bytes stay.
 unfoldable pub PermitStands : Type 0
-PermitStands = (c : LockCall) (actions : List Word) (tests : List Test) → Says c actions tests → length (permitFor c actions tests) ≤ length (c .room)
+PermitStands = (c : LockCall) (actions : List Word) (tests : List Test) → CallSays c actions tests → length (permitFor c actions tests) ≤ length (c .room)
     → roomLeft c ≡ permitFor c actions tests ++ drop (length (permitFor c actions tests)) (c .room)
 
 -- Bytes say one lock: the actions and the tests are determined.

@@ -1,4 +1,5 @@
--- The readers of a lock, its vocabulary and its action list: what stands at a place, and what all of it says. Definitions only; specs/Forms.antt has the same as document 02 words it.
+-- The readers of a lock, its vocabulary and its action list: what stands at a place, and what all of it says. Definitions only;
+-- specs/Forms.antt has the same as document 02 words it.
 use mathlib.Core.Path.{_≡_}
 use mathlib.Core.Bool.{Bool, true, false, cond, not, _&&_, _||_}
 use mathlib.Core.List.{List, [], _∷_, _++_, map}
@@ -19,7 +20,7 @@ use Rattle.bags.specs.Paths.{every, isWordBytes, isPath}
 use Rattle.bags.specs.Reading.{byte}
 use Rattle.grammar.specs.Policies.{Comparator, Comparator.More, Comparator.AtLeast, Comparator.Less, Comparator.AtMost}
 use Rattle.placing.specs.Said.{Word}
-use Rattle.permits.specs.Permits.{Test, equal, member, order, between, quoted, markOf, testText}
+use Rattle.permits.specs.Permits.{Test, equal, member, order, between, quoted, signOf, testText}
 use Rattle.locks.specs.declared.Piece.{Piece}
 use Rattle.locks.specs.declared.Size.{Size}
 use Rattle.locks.specs.declared.Size.the-variants.{Of, Bad}
@@ -29,14 +30,14 @@ use Rattle.locks.specs.declared.tests.TestPlaces.{TestPlaces}
 -- ---- the vocabulary
 
 -- the sort bytes: equality, membership in a list, number
-abbrev pub equality : ℕ
-equality = 1
+abbrev pub equalityByte : ℕ
+equalityByte = 1
 
-abbrev pub membership : ℕ
-membership = 2
+abbrev pub membershipByte : ℕ
+membershipByte = 2
 
-abbrev pub numbers : ℕ
-numbers = 3
+abbrev pub numberByte : ℕ
+numberByte = 3
 
 -- no entry
 abbrev pub noEntry : EntryPlaces
@@ -50,8 +51,8 @@ abbrev pub pathEnd : List ℕ → ℕ → ℕ
 pathEnd v at = wordEnd v at + 1 + byte v (wordEnd v at)
 
 -- the entry at a place: a length byte, the word, a length byte, the path, a byte for the sort
-unfoldable pub entryAt : List ℕ → ℕ → EntryPlaces
-entryAt v at =
+unfoldable pub entryPlacesAt : List ℕ → ℕ → EntryPlaces
+entryPlacesAt v at =
     cond (ltb (pathEnd v at) (length v))
     (record { sort = byte v (pathEnd v at); word = at + 1; stop = wordEnd v at; path = wordEnd v at + 1; end = pathEnd v at; next = pathEnd v at + 1 })
     noEntry
@@ -70,7 +71,7 @@ foundIn v w e later = cond (eqb (e .sort) 0) noEntry (cond (same (wordOf v e) w)
 -- the first of n entries from a place on that has the word
 unfoldable pub findFrom : ℕ → List ℕ → ℕ → Word → EntryPlaces
 findFrom zero v at w = noEntry
-findFrom (suc n) v at w = foundIn v w (entryAt v at) (findFrom n v (entryAt v at .next) w)
+findFrom (suc n) v at w = foundIn v w (entryPlacesAt v at) (findFrom n v (entryPlacesAt v at .next) w)
 
 -- how many words a vocabulary has at most, how many actions a list, how many tests a lock
 abbrev pub most : ℕ
@@ -83,20 +84,20 @@ isShortWord w = leb (length w) 64 && isWordBytes w
 -- an entry of a vocabulary, whose word no later one has
 unfoldable pub isEntry : List ℕ → EntryPlaces → Bool
 isEntry v e =
-    cond (eqb (e .sort) 0 || ltb numbers (e .sort)) false
+    cond (eqb (e .sort) 0 || ltb numberByte (e .sort)) false
     (isShortWord (wordOf v e) && isPath (pathOf v e) && eqb (findFrom most v (e .next) (wordOf v e) .sort) 0)
 
 -- at most n entries from a place on, up to the end
 unfoldable pub entriesFrom : ℕ → List ℕ → ℕ → Bool
 entriesFrom zero v at = leb (length v) at
-entriesFrom (suc n) v at = leb (length v) at || isEntry v (entryAt v at) && entriesFrom n v (entryAt v at .next)
+entriesFrom (suc n) v at = leb (length v) at || isEntry v (entryPlacesAt v at) && entriesFrom n v (entryPlacesAt v at .next)
 
 -- a vocabulary
 abbrev pub isVocabulary : List ℕ → Bool
 isVocabulary v = entriesFrom most v 0
 
 -- what a caller may know of an entry's places: they lie in the vocabulary
-pub record Lies (v : List ℕ) (e : EntryPlaces) : Type 0 where
+pub record EntryLies (v : List ℕ) (e : EntryPlaces) : Type 0 where
   pub word-low : e .word ≤ e .stop
   pub word-high : e .stop ≤ length v
   pub path-low : e .path ≤ e .end
@@ -107,7 +108,7 @@ pub record Lies (v : List ℕ) (e : EntryPlaces) : Type 0 where
 -- which entry is answered, and that it lies in the vocabulary
 pub record EntryIs (v : List ℕ) (e isOf : EntryPlaces) : Type 0 where
   pub answer : e ≡ isOf
-  pub lies : Lies v e
+  pub lies : EntryLies v e
 
 -- ---- a test
 
@@ -122,8 +123,8 @@ noPiece = record { good = false; start = 0; end = 0 }
 -- a mark goes with a word's sort: `:` with equality and membership, `>`, `>=`, `<` and `<=` with numbers
 unfoldable pub goesWith : ℕ → ℕ → Bool
 goesWith sort mark =
-    (eqb sort equality || eqb sort membership) && eqb mark kinds.colonOutside
-    || eqb sort numbers && (eqb mark kinds.more || eqb mark kinds.atLeast || eqb mark kinds.less || eqb mark kinds.atMost)
+    (eqb sort equalityByte || eqb sort membershipByte) && eqb mark kinds.colonOutside
+    || eqb sort numberByte && (eqb mark kinds.more || eqb mark kinds.atLeast || eqb mark kinds.less || eqb mark kinds.atMost)
 
 -- a value from `start` up to `end`
 abbrev pub valueTo : List ℕ → ℕ → ℕ → Piece
@@ -134,24 +135,24 @@ abbrev pub valueFrom : List ℕ → ℕ → Piece
 valueFrom l start = valueTo l start (runEnd WordBytes l start)
 
 -- the value behind the blanks at a place
-unfoldable pub valueAt : List ℕ → ℕ → Piece
-valueAt l at = valueFrom l (runEnd Blanks l at)
+unfoldable pub valueBehind : List ℕ → ℕ → Piece
+valueBehind l at = valueFrom l (runEnd Blanks l at)
 
 -- a token as a number
 abbrev pub numberFrom : Token → Piece
 numberFrom t = record { good = eqb (t .kind) kinds.number; start = t .start; end = t .end }
 
 -- the number behind the blanks at a place
-unfoldable pub numberAt : List ℕ → ℕ → Piece
-numberAt l at = numberFrom (tokenAt l at)
+unfoldable pub numberBehind : List ℕ → ℕ → Piece
+numberBehind l at = numberFrom (tokenAt l at)
 
 -- what stands behind a mark: a value behind `:`, a number behind the others
 unfoldable pub operandAt : List ℕ → ℕ → ℕ → Piece
-operandAt l mark at = cond (eqb mark kinds.colonOutside) (valueAt l at) (numberAt l at)
+operandAt l mark at = cond (eqb mark kinds.colonOutside) (valueBehind l at) (numberBehind l at)
 
 -- a lock ends at a place, or a `&` stands there
-unfoldable pub goesOn : List ℕ → ℕ → Bool
-goesOn l at = leb (length l) at || eqb (getD l at 0) (code "&")
+unfoldable pub endsTest : List ℕ → ℕ → Bool
+endsTest l at = leb (length l) at || eqb (getD l at 0) (code "&")
 
 -- what a part that is found in some bytes lies between
 pub record LiesFrom (l : List ℕ) (at : ℕ) (p : Piece) : Type 0 where
@@ -167,7 +168,7 @@ pub record PieceIs (l : List ℕ) (at : ℕ) (p isOf : Piece) : Type 0 where
 -- a test of a word's entry, the mark behind the word, the operand, and the place behind the blanks behind that
 unfoldable pub testOf : List ℕ → EntryPlaces → ℕ → Piece → ℕ → TestPlaces
 testOf l e mark o next =
-    cond (o .good && leb (o .end - o .start) 127 && goesWith (e .sort) mark && goesOn l next)
+    cond (o .good && leb (o .end - o .start) 127 && goesWith (e .sort) mark && endsTest l next)
     (record { sort = e .sort; path = e .path; stop = e .end; mark = mark; value = o .start; end = o .end; next = next })
     noTest
 
@@ -175,14 +176,14 @@ testOf l e mark o next =
 abbrev pub wordFrom : List ℕ → ℕ → ℕ
 wordFrom l at = runEnd Blanks l at
 
-abbrev pub wordTo : List ℕ → ℕ → ℕ
-wordTo l at = runEnd WordBytes l (wordFrom l at)
+abbrev pub wordUpTo : List ℕ → ℕ → ℕ
+wordUpTo l at = runEnd WordBytes l (wordFrom l at)
 
 abbrev pub wordIn : List ℕ → ℕ → Word
-wordIn l at = part l (wordFrom l at) (wordTo l at - wordFrom l at)
+wordIn l at = part l (wordFrom l at) (wordUpTo l at - wordFrom l at)
 
 abbrev pub markIn : List ℕ → ℕ → Token
-markIn l at = tokenAt l (wordTo l at)
+markIn l at = tokenAt l (wordUpTo l at)
 
 abbrev pub operandIn : List ℕ → ℕ → Piece
 operandIn l at = operandAt l (markIn l at .kind) (markIn l at .end)
@@ -208,23 +209,23 @@ pub record TestIs (v l : List ℕ) (t isOf : TestPlaces) : Type 0 where
   pub lies : TestLies v l t
 
 -- the comparator of a mark
-unfoldable pub comparatorOf : ℕ → Comparator
-comparatorOf mark = cond (eqb mark kinds.more) More (cond (eqb mark kinds.less) Less (cond (eqb mark kinds.atLeast) AtLeast AtMost))
+unfoldable pub comparatorFor : ℕ → Comparator
+comparatorFor mark = cond (eqb mark kinds.more) More (cond (eqb mark kinds.less) Less (cond (eqb mark kinds.atLeast) AtLeast AtMost))
 
 -- its mark, with a blank on either side
 abbrev pub markText : ℕ → List ℕ
-markText mark = bytes " " ++ (markOf (comparatorOf mark) ++ bytes " ")
+markText mark = bytes " " ++ (signOf (comparatorFor mark) ++ bytes " ")
 
 -- a test by its sort and its mark, of a path and a value
 unfoldable pub testBy : ℕ → ℕ → Word → Word → Test
 testBy sort mark path value =
-    cond (eqb sort equality) (equal path value) (cond (eqb sort membership) (member path value) (order path (comparatorOf mark) value))
+    cond (eqb sort equalityByte) (equal path value) (cond (eqb sort membershipByte) (member path value) (order path (comparatorFor mark) value))
 
 -- how many bytes a test has in a permit
 unfoldable pub testSize : TestPlaces → ℕ
 testSize t =
     (t .stop - t .path) + (t .end - t .value)
-    + cond (eqb (t .sort) equality || eqb (t .sort) membership) 16 (cond (eqb (t .mark) kinds.more || eqb (t .mark) kinds.less) 13 14)
+    + cond (eqb (t .sort) equalityByte || eqb (t .sort) membershipByte) 16 (cond (eqb (t .mark) kinds.more || eqb (t .mark) kinds.less) 13 14)
 
 -- the test that stands at its places
 unfoldable pub testIn : List ℕ → List ℕ → TestPlaces → Test
@@ -233,13 +234,13 @@ testIn v l t = testBy (t .sort) (t .mark) (part v (t .path) (t .stop - t .path))
 -- ---- an action
 
 -- a string of document 01
-unfoldable pub isString : List ℕ → Bool
-isString s = leb (length s) 127 && every (isOf StringBytes) s
+unfoldable pub isRuleString : List ℕ → Bool
+isRuleString s = leb (length s) 127 && every (isOf StringBytes) s
 
 -- the string behind the length byte at a place
 unfoldable pub actionAt : List ℕ → ℕ → Piece
 actionAt a at =
-    cond (ltb at (length a) && leb (at + 1 + byte a at) (length a) && isString (part a (at + 1) (byte a at)))
+    cond (ltb at (length a) && leb (at + 1 + byte a at) (length a) && isRuleString (part a (at + 1) (byte a at)))
     (record { good = true; start = at + 1; end = at + 1 + byte a at })
     noPiece
 
@@ -253,52 +254,52 @@ pub record ActionIs (a : List ℕ) (p isOf : Piece) : Type 0 where
 -- ---- one thing after the other
 
 -- what stands at a place: nothing of the form; the last thing; a thing, and the place where the next one stands
-pub data Step (A : Type 0) : Type 0 where
-  wrong : Step A
-  last : A → Step A
-  on : A → ℕ → Step A
+pub data ThingStep (A : Type 0) : Type 0 where
+  wrong : ThingStep A
+  last : A → ThingStep A
+  on : A → ℕ → ThingStep A
 
 -- a thing before others
-abbrev pub before : {A : Type 0} → A → Option (List A) → Option (List A)
-before x none = none
-before x (some xs) = some (x ∷ xs)
+abbrev pub inFront : {A : Type 0} → A → Option (List A) → Option (List A)
+inFront x none = none
+inFront x (some xs) = some (x ∷ xs)
 
 -- what stands at a place, and the rest from the place where the next thing stands
-abbrev pub stepped : {A : Type 0} → Step A → (ℕ → Option (List A)) → Option (List A)
+abbrev pub stepped : {A : Type 0} → ThingStep A → (ℕ → Option (List A)) → Option (List A)
 stepped wrong rest = none
 stepped (last x) rest = some (x ∷ [])
-stepped (on x at) rest = before x (rest at)
+stepped (on x at) rest = inFront x (rest at)
 
 -- at most n things from a place on, up to the last
-unfoldable pub listed : {A : Type 0} → ℕ → (ℕ → Step A) → ℕ → Option (List A)
-listed zero next at = none
-listed (suc n) next at = stepped (next at) (listed n next)
+unfoldable pub thingsFrom : {A : Type 0} → ℕ → (ℕ → ThingStep A) → ℕ → Option (List A)
+thingsFrom zero next at = none
+thingsFrom (suc n) next at = stepped (next at) (thingsFrom n next)
 
 -- a step by what is wrong with it, and whether it is the last
-unfoldable pub stepBy : {A : Type 0} → Bool → Bool → A → ℕ → Step A
+unfoldable pub stepBy : {A : Type 0} → Bool → Bool → A → ℕ → ThingStep A
 stepBy bad end x at = cond bad wrong (cond end (last x) (on x at))
 
 -- a test and what follows it: the next one stands behind the `&`
-abbrev pub testStepOf : List ℕ → List ℕ → TestPlaces → Step Test
+abbrev pub testStepOf : List ℕ → List ℕ → TestPlaces → ThingStep Test
 testStepOf v l t = stepBy (eqb (t .sort) 0) (eqb (t .next) (length l)) (testIn v l t) (t .next + 1)
 
-unfoldable pub testStep : List ℕ → List ℕ → ℕ → Step Test
+unfoldable pub testStep : List ℕ → List ℕ → ℕ → ThingStep Test
 testStep v l at = testStepOf v l (testAt v l at)
 
 -- an action and what follows it
-abbrev pub actionStepOf : List ℕ → Piece → Step Word
+abbrev pub actionStepOf : List ℕ → Piece → ThingStep Word
 actionStepOf a p = stepBy (not (p .good)) (eqb (p .end) (length a)) (part a (p .start) (p .end - p .start)) (p .end)
 
-unfoldable pub actionStep : List ℕ → ℕ → Step Word
+unfoldable pub actionStep : List ℕ → ℕ → ThingStep Word
 actionStep a at = actionStepOf a (actionAt a at)
 
 -- the tests of a lock
-abbrev pub testsOf : List ℕ → List ℕ → Option (List Test)
-testsOf v l = listed most (testStep v l) 0
+abbrev pub testsRead : List ℕ → List ℕ → Option (List Test)
+testsRead v l = thingsFrom most (testStep v l) 0
 
 -- the strings of an action list
-abbrev pub actionsOf : List ℕ → Option (List Word)
-actionsOf a = listed most (actionStep a) 0
+abbrev pub actionsRead : List ℕ → Option (List Word)
+actionsRead a = thingsFrom most (actionStep a) 0
 
 -- ---- what they are in a permit
 
@@ -308,9 +309,9 @@ textOf sep text none = []
 textOf sep text (some xs) = between sep (map text xs)
 
 -- so many bytes and how many these are
-unfoldable pub sizeOf : {A : Type 0} → ℕ → List ℕ → (A → List ℕ) → Option (List A) → Size
-sizeOf k sep text none = Bad
-sizeOf k sep text (some xs) = Of (k + length (between sep (map text xs)))
+unfoldable pub sizeWith : {A : Type 0} → ℕ → List ℕ → (A → List ℕ) → Option (List A) → Size
+sizeWith k sep text none = Bad
+sizeWith k sep text (some xs) = Of (k + length (between sep (map text xs)))
 
 -- which size is answered, and that it is no more than this
 pub record SizeIs (r isOf : Size) (few : ℕ) : Type 0 where
@@ -323,15 +324,15 @@ areSome none = false
 areSome (some x) = true
 
 -- what stands between two actions, and between two tests
-abbrev pub comma : List ℕ
-comma = bytes ", "
+abbrev pub betweenActions : List ℕ
+betweenActions = bytes ", "
 
-abbrev pub and : List ℕ
-and = bytes " && "
+abbrev pub betweenTests : List ℕ
+betweenTests = bytes " && "
 
 -- the text of the tests, and of the actions
 abbrev pub testsText : List ℕ → List ℕ → List ℕ
-testsText v l = textOf and testText (testsOf v l)
+testsText v l = textOf betweenTests testText (testsRead v l)
 
 abbrev pub actionsText : List ℕ → List ℕ
-actionsText a = textOf comma quoted (actionsOf a)
+actionsText a = textOf betweenActions quoted (actionsRead a)

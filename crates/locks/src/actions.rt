@@ -2,7 +2,7 @@
 ghost use mathlib.Core.Path.{_≡_};
 ghost use Rattle.tokens.specs.Table.{classTable};
 ghost use Rattle.permits.specs.Permits.{quoted};
-ghost use Rattle.locks.specs.Reading.{noPiece, isString, actionAt, ActionIs, actionsOf, comma, sizeOf, SizeIs};
+ghost use Rattle.locks.specs.Reading.{noPiece, isRuleString, actionAt, ActionIs, actionsRead, betweenActions, sizeWith, SizeIs};
 use crate::Piece;
 use crate::Size;
 use tokens::classes::Sort;
@@ -14,7 +14,7 @@ pub const ACTIONS: usize = 16;
 // Whether bytes are a string of document 01.
 pub fn is_string(classes: &[u8; 256], s: &[u8]) -> bool
     requires { ⌜ now classes ≡ classTable ⌝ }
-    ensures { λ r. ⌜ r ≡ isString (now (s .entry)) ⌝ }
+    ensures { λ r. ⌜ r ≡ isRuleString (now (s .entry)) ⌝ }
 {
     (s.len() <= 127) & (run_end(classes, s, 0, Sort::StringBytes) == s.len())
 }
@@ -57,7 +57,7 @@ pub fn action_at(classes: &[u8; 256], actions: &[u8], at: usize) -> Piece
 // How many bytes the list has in a permit: each string with its quotes, and two bytes between two.
 pub fn actions_size(classes: &[u8; 256], actions: &[u8]) -> Size
     requires { ⌜ now classes ≡ classTable ⌝ }
-    ensures { λ r. ⌜ SizeIs r (sizeOf 0 comma quoted (actionsOf (now (actions .entry)))) 2096 ⌝ }
+    ensures { λ r. ⌜ SizeIs r (sizeWith 0 betweenActions quoted (actionsRead (now (actions .entry)))) 2096 ⌝ }
 {
     let mut left = ACTIONS;
     let mut at = 0;

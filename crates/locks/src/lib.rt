@@ -50,7 +50,8 @@ fn permit_size(
     resource: &[u8],
 ) -> Size
     requires { ⌜ now classes ≡ classTable ⌝ }
-    ensures { λ r. ⌜ r ≡ sizeFor (now (resource .entry)) (readOf (now (vocabulary .entry)) (now (lock .entry)) (now (actions .entry)) (now (resource .entry))) ⌝ }
+    ensures { λ r. ⌜ r ≡ sizeFor (now (resource .entry))
+        (readOf (now (vocabulary .entry)) (now (lock .entry)) (now (actions .entry)) (now (resource .entry))) ⌝ }
 {
     if !is_vocabulary(classes, vocabulary) {
         return Size::Bad;
@@ -75,7 +76,8 @@ pub fn lock(
     resource: &[u8],
     room: &mut [u8],
 ) -> Answer
-    ensures { λ r. ⌜ Locked (now (vocabulary .entry)) (now (lock .entry)) (now (actions .entry)) (now (resource .entry)) (now (room .entry)) r (now (room .exit)) ⌝ }
+    ensures { λ r. ⌜ Locked (now (vocabulary .entry)) (now (lock .entry)) (now (actions .entry)) (now (resource .entry))
+        (now (room .entry)) r (now (room .exit)) ⌝ }
 {
     let classes = class_table();
     match permit_size(&classes, vocabulary, lock, actions, resource) {

@@ -4,7 +4,7 @@ ghost use Prim.Native.Nat.{_≤_, _+_};
 ghost use lib.ListN.{length};
 ghost use Rattle.tokens.specs.Table.{classTable};
 ghost use Rattle.permits.specs.Permits.{testText};
-ghost use Rattle.locks.specs.Reading.{noTest, goesWith, valueAt, numberAt, operandAt, goesOn, PieceIs, testAt, TestIs, testSize, testsOf, and, sizeOf, SizeIs};
+ghost use Rattle.locks.specs.Reading.{noTest, goesWith, valueBehind, numberBehind, operandAt, endsTest, PieceIs, testAt, TestIs, testSize, testsRead, betweenTests, sizeWith, SizeIs};
 use crate::Piece;
 use crate::Size;
 use crate::vocabulary::EQUALITY;
@@ -60,7 +60,7 @@ fn goes_with(sort: u8, mark: u8) -> bool
 // The value at a place, behind blanks: letters, digits, `_` and `-`.
 fn value_at(classes: &[u8; 256], lock: &[u8], at: usize) -> Piece
     requires { ⌜ (now classes ≡ classTable) × (at ≤ length (now lock)) ⌝ }
-    ensures { λ r. ⌜ PieceIs (now (lock .entry)) at r (valueAt (now (lock .entry)) at) ⌝ }
+    ensures { λ r. ⌜ PieceIs (now (lock .entry)) at r (valueBehind (now (lock .entry)) at) ⌝ }
 {
     let start = run_end(classes, lock, at, Sort::Blanks);
     let end = run_end(classes, lock, start, Sort::WordBytes);
@@ -74,7 +74,7 @@ fn value_at(classes: &[u8; 256], lock: &[u8], at: usize) -> Piece
 // The number at a place, behind blanks.
 fn number_at(classes: &[u8; 256], lock: &[u8], at: usize) -> Piece
     requires { ⌜ (now classes ≡ classTable) × (at ≤ length (now lock)) ⌝ }
-    ensures { λ r. ⌜ PieceIs (now (lock .entry)) at r (numberAt (now (lock .entry)) at) ⌝ }
+    ensures { λ r. ⌜ PieceIs (now (lock .entry)) at r (numberBehind (now (lock .entry)) at) ⌝ }
 {
     let t = next_token(classes, lock, at);
     Piece {
@@ -98,7 +98,7 @@ fn operand_at(classes: &[u8; 256], lock: &[u8], mark: u8, at: usize) -> Piece
 
 // Whether a lock ends at a place, or a `&` stands there.
 fn goes_on(lock: &[u8], at: usize) -> bool
-    ensures { λ r. ⌜ r ≡ goesOn (now (lock .entry)) at ⌝ }
+    ensures { λ r. ⌜ r ≡ endsTest (now (lock .entry)) at ⌝ }
 {
     if lock.len() <= at {
         true
@@ -152,7 +152,7 @@ fn test_size(t: TestPlaces) -> usize
 // How many bytes all tests have in a permit, with four between two.
 pub fn tests_size(classes: &[u8; 256], vocabulary: &[u8], lock: &[u8]) -> Size
     requires { ⌜ now classes ≡ classTable ⌝ }
-    ensures { λ r. ⌜ SizeIs r (sizeOf 0 and testText (testsOf (now (vocabulary .entry)) (now (lock .entry)))) 6432 ⌝ }
+    ensures { λ r. ⌜ SizeIs r (sizeWith 0 betweenTests testText (testsRead (now (vocabulary .entry)) (now (lock .entry)))) 6432 ⌝ }
 {
     let mut left = TESTS;
     let mut at = 0;

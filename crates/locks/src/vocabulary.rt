@@ -1,7 +1,7 @@
 // The vocabulary: entries one after the other, each a word, a path and a sort. The table of the classes is made once and lent to every call.
 ghost use mathlib.Core.Path.{_≡_};
 ghost use Rattle.tokens.specs.Table.{classTable};
-ghost use Rattle.locks.specs.Reading.{noEntry, entryAt, findFrom, most, isShortWord, isEntry, isVocabulary, Lies, EntryIs};
+ghost use Rattle.locks.specs.Reading.{noEntry, entryPlacesAt, findFrom, most, isShortWord, isEntry, isVocabulary, EntryLies, EntryIs};
 use bags::paths::is_path;
 use slices::same;
 use tokens::classes::Sort;
@@ -43,7 +43,7 @@ fn no_entry() -> EntryPlaces
 
 // The entry at a place: a length byte, the word, a length byte, the path, a byte for the sort.
 fn entry_at(vocabulary: &[u8], at: usize) -> EntryPlaces
-    ensures { λ r. ⌜ EntryIs (now (vocabulary .entry)) r (entryAt (now (vocabulary .entry)) at) ⌝ }
+    ensures { λ r. ⌜ EntryIs (now (vocabulary .entry)) r (entryPlacesAt (now (vocabulary .entry)) at) ⌝ }
 {
     if vocabulary.len() <= at {
         return no_entry();
@@ -110,7 +110,7 @@ fn is_word(classes: &[u8; 256], word: &[u8]) -> bool
 // Whether an entry is one of a vocabulary, and no later one has its word.
 fn is_entry(classes: &[u8; 256], vocabulary: &[u8], e: EntryPlaces) -> bool
     requires { ⌜ now classes ≡ classTable ⌝ }
-    requires { ⌜ Lies (now vocabulary) e ⌝ }
+    requires { ⌜ EntryLies (now vocabulary) e ⌝ }
     ensures { λ r. ⌜ r ≡ isEntry (now (vocabulary .entry)) e ⌝ }
 {
     let word = e.word;

@@ -5,8 +5,8 @@ ghost use Prim.Native.Nat.{_≤_, _+_};
 ghost use lib.ListN.{length};
 ghost use Rattle.tokens.specs.Table.{classTable};
 ghost use Rattle.permits.specs.Permits.{quoted, ofPrincipal, testText};
-ghost use Rattle.locks.specs.Reading.{areSome, markText, testBy, testsOf, actionsOf, testsText, actionsText};
-ghost use Rattle.locks.specs.Answers.{Put, framed, Ready};
+ghost use Rattle.locks.specs.Reading.{areSome, markText, testBy, testsRead, actionsRead, testsText, actionsText};
+ghost use Rattle.locks.specs.Answers.{PutOver, framed, Writable};
 use crate::actions::ACTIONS;
 use crate::actions::action_at;
 use crate::tests::TESTS;
@@ -18,7 +18,7 @@ use tokens::kinds;
 // Some bytes.
 fn put(room: &mut [u8], at: usize, bytes: &[u8]) -> usize
     requires { ⌜ at + length (now bytes) ≤ length (now room) ⌝ }
-    ensures { λ r. ⌜ Put (now (room .entry)) at (now (bytes .entry)) (now (room .exit)) r ⌝ }
+    ensures { λ r. ⌜ PutOver (now (room .entry)) at (now (bytes .entry)) (now (room .exit)) r ⌝ }
 {
     let mut i = 0;
     while i < bytes.len() {
@@ -31,7 +31,7 @@ fn put(room: &mut [u8], at: usize, bytes: &[u8]) -> usize
 // A string with its quotes.
 fn put_quoted(room: &mut [u8], at: usize, bytes: &[u8]) -> usize
     requires { ⌜ at + length (quoted (now bytes)) ≤ length (now room) ⌝ }
-    ensures { λ r. ⌜ Put (now (room .entry)) at (quoted (now (bytes .entry))) (now (room .exit)) r ⌝ }
+    ensures { λ r. ⌜ PutOver (now (room .entry)) at (quoted (now (bytes .entry))) (now (room .exit)) r ⌝ }
 {
     let start = put(room, at, b"\"");
     let end = put(room, start, bytes);
@@ -41,7 +41,7 @@ fn put_quoted(room: &mut [u8], at: usize, bytes: &[u8]) -> usize
 // The attribute of the principal with a path.
 fn put_attribute(room: &mut [u8], at: usize, path: &[u8]) -> usize
     requires { ⌜ at + length (ofPrincipal (now path)) ≤ length (now room) ⌝ }
-    ensures { λ r. ⌜ Put (now (room .entry)) at (ofPrincipal (now (path .entry))) (now (room .exit)) r ⌝ }
+    ensures { λ r. ⌜ PutOver (now (room .entry)) at (ofPrincipal (now (path .entry))) (now (room .exit)) r ⌝ }
 {
     let start = put(room, at, b"principal.");
     put(room, start, path)
@@ -50,7 +50,7 @@ fn put_attribute(room: &mut [u8], at: usize, path: &[u8]) -> usize
 // A comparator's mark, with a blank on either side.
 fn put_mark(room: &mut [u8], at: usize, mark: u8) -> usize
     requires { ⌜ at + length (markText mark) ≤ length (now room) ⌝ }
-    ensures { λ r. ⌜ Put (now (room .entry)) at (markText mark) (now (room .exit)) r ⌝ }
+    ensures { λ r. ⌜ PutOver (now (room .entry)) at (markText mark) (now (room .exit)) r ⌝ }
 {
     if mark == b'>' {
         return put(room, at, b" > ");
@@ -67,7 +67,7 @@ fn put_mark(room: &mut [u8], at: usize, mark: u8) -> usize
 // A test as a condition.
 fn put_test(room: &mut [u8], at: usize, sort: u8, mark: u8, path: &[u8], value: &[u8]) -> usize
     requires { ⌜ at + length (testText (testBy sort mark (now path) (now value))) ≤ length (now room) ⌝ }
-    ensures { λ r. ⌜ Put (now (room .entry)) at (testText (testBy sort mark (now (path .entry)) (now (value .entry)))) (now (room .exit)) r ⌝ }
+    ensures { λ r. ⌜ PutOver (now (room .entry)) at (testText (testBy sort mark (now (path .entry)) (now (value .entry)))) (now (room .exit)) r ⌝ }
 {
     if sort == EQUALITY {
         let left = put_attribute(room, at, path);
@@ -92,9 +92,9 @@ fn put_tests(
     room: &mut [u8],
     at: usize,
 ) -> usize
-    requires { ⌜ (now classes ≡ classTable) × (areSome (testsOf (now vocabulary) (now lock)) ≡ true) ⌝ }
+    requires { ⌜ (now classes ≡ classTable) × (areSome (testsRead (now vocabulary) (now lock)) ≡ true) ⌝ }
     requires { ⌜ at + length (testsText (now vocabulary) (now lock)) ≤ length (now room) ⌝ }
-    ensures { λ r. ⌜ Put (now (room .entry)) at (testsText (now (vocabulary .entry)) (now (lock .entry))) (now (room .exit)) r ⌝ }
+    ensures { λ r. ⌜ PutOver (now (room .entry)) at (testsText (now (vocabulary .entry)) (now (lock .entry))) (now (room .exit)) r ⌝ }
 {
     let mut left = TESTS;
     let mut next = 0;
@@ -124,9 +124,9 @@ fn put_tests(
 
 // The strings of an action list, with commas.
 fn put_actions(classes: &[u8; 256], actions: &[u8], room: &mut [u8], at: usize) -> usize
-    requires { ⌜ (now classes ≡ classTable) × (areSome (actionsOf (now actions)) ≡ true) ⌝ }
+    requires { ⌜ (now classes ≡ classTable) × (areSome (actionsRead (now actions)) ≡ true) ⌝ }
     requires { ⌜ at + length (actionsText (now actions)) ≤ length (now room) ⌝ }
-    ensures { λ r. ⌜ Put (now (room .entry)) at (actionsText (now (actions .entry))) (now (room .exit)) r ⌝ }
+    ensures { λ r. ⌜ PutOver (now (room .entry)) at (actionsText (now (actions .entry))) (now (room .exit)) r ⌝ }
 {
     let mut left = ACTIONS;
     let mut next = 0;
@@ -154,8 +154,8 @@ pub fn put_permit(
     room: &mut [u8],
 ) -> usize
     requires { ⌜ now classes ≡ classTable ⌝ }
-    requires { ⌜ Ready (now vocabulary) (now lock) (now actions) (now resource) (now room) ⌝ }
-    ensures { λ r. ⌜ Put (now (room .entry)) 0 (framed (actionsText (now (actions .entry))) (now (resource .entry))
+    requires { ⌜ Writable (now vocabulary) (now lock) (now actions) (now resource) (now room) ⌝ }
+    ensures { λ r. ⌜ PutOver (now (room .entry)) 0 (framed (actionsText (now (actions .entry))) (now (resource .entry))
         (testsText (now (vocabulary .entry)) (now (lock .entry)))) (now (room .exit)) r ⌝ }
 {
     let a = put(room, 0, b"permit(principal, action in [");

@@ -9,7 +9,9 @@ use Rattle.grammar.specs.Policies.{Comparator.More, Comparator.AtLeast, Compara
 use Rattle.grammar.specs.Parser.{read-text}
 use Rattle.placing.specs.Said.{Word, wordsOf}
 use Rattle.meaning.proofs.Opened.{meaning-opened}
-use Rattle.permits.specs.Permits.{Test, equal, member, order, markOf, between, testText, permitText, testTree, joinedTo, permitPolicy}
+use Rattle.spelling.specs.Printed.{closely, printedBy}
+use Rattle.spelling.proofs.Plain.{printed-opened}
+use Rattle.permits.specs.Permits.{Test, equal, member, order, signOf, between, testText, permitText, testTree, joinedTo, permitPolicy}
 
 -- two actions on a shaft, for the own firm's people who are taught and of grade 3 at least
 abbrev pub actions : List Word
@@ -31,18 +33,23 @@ wordsIn t (took ps r) = wordsOf t ps
 wordsIn t (refuse n r) = []
 
 pub worked-text : permitText actions (bytes "shaft:A") (own ∷ others) ≡ permit
-unfolding permitText between testText markOf
+unfolding permitText between testText signOf
 worked-text = refl
 
 pub worked-words : wordsIn permit (read-text (tokensOf permit)) ≡ permitPolicy actions (bytes "shaft:A") own others ∷ []
 unfolding meaning-opened permitPolicy joinedTo testTree
 worked-words = refl
 
+-- it is what is printed of its policy
+pub worked-printed : printedBy closely (permitPolicy actions (bytes "shaft:A") own others ∷ []) ≡ permit
+unfolding printed-opened permitPolicy joinedTo testTree
+worked-printed = refl
+
 -- one action, one test; an empty resource, a name with dots, every order
 pub small-text :
     permitText (bytes "" ∷ []) (bytes "") (order (bytes "lift.load") Less (bytes "-2.50") ∷ [])
     ≡ bytes "permit(principal, action in [\"\"], resource == \"\") when { principal.lift.load < -2.50 };"
-unfolding permitText between testText markOf
+unfolding permitText between testText signOf
 small-text = refl
 
 pub orders :
@@ -50,5 +57,5 @@ pub orders :
     × (testText (order (bytes "n") AtLeast (bytes "1")) ≡ bytes "principal.n >= 1")
     × (testText (order (bytes "n") Less (bytes "1")) ≡ bytes "principal.n < 1")
     × (testText (order (bytes "n") AtMost (bytes "1")) ≡ bytes "principal.n <= 1")
-unfolding testText markOf
+unfolding testText signOf
 orders = (refl, refl, refl, refl)

@@ -22,15 +22,15 @@ use Rattle.bags.specs.Paths.{isPath}
 use Rattle.meaning.specs.Paths.{PathsAlike}
 use Rattle.meaning.proofs.Paths.{paths-alike}
 use Rattle.spelling.specs.Spelling.{calm}
-use Rattle.spelling.specs.Layout.{Written, written, laidOut, standing, WellWritten, none, one, Sized}
-use Rattle.spelling.specs.Printing.{Prints, PrintsList, PrintsText, effectKind}
+use Rattle.spelling.specs.Layout.{WrittenToken, written, laidOut, standing, WellWritten, none, one, Sized}
+use Rattle.spelling.specs.Printing.{Prints, PrintsList, PrintsText, effectWord}
 use Rattle.spelling.specs.Printing as printing
 use Rattle.spelling.proofs.Spelled.{laid-out-stand, text-sized}
 use Rattle.spelling.proofs.Fixed.{well-fixed, well-calm, written-opened}
 use Rattle.spelling.proofs.Printing.{laid-append, well-append, prints-before, prints-after}
 use Rattle.spelling.proofs.Productions.{prints-string, prints-list, prints-alone, prints-bare, prints-pinned, prints-actions, prints-when, prints-policy}
 use Rattle.spelling.proofs.Productions.{prints-text}
-use Rattle.permits.specs.Permits.{Test, quoted, markOf, between, testText, permitText, permitPolicy}
+use Rattle.permits.specs.Permits.{Test, quoted, signOf, between, testText, permitText, permitPolicy}
 use Rattle.permits.specs.Meaning.{AString, Formed, equality, membership, comparison, Fits, equal-fits, member-fits, order-fits, Made}
 use Rattle.permits.specs.Promise.{PermitSays, OnlySizes}
 use Rattle.permits.proofs.Values.{number-long}
@@ -40,7 +40,7 @@ use Rattle.permits.proofs.Tests.{space, afterEach, between-is, JoinedLa
 
 -- strings with commas between them: their tokens, before a byte that makes none longer
 record ListLaid (l : List ℕ) (ls : List (LiteralOf Word)) : Type 0 where
-  tokens : List Written
+  tokens : List WrittenToken
   laid : laidOut tokens ≡ l
   well : (q : List ℕ) → calm (getD q 0 0) ≡ true → WellWritten tokens q
   prints : PrintsList (is kinds.string) tokens ls
@@ -89,7 +89,7 @@ actions-laid h (and-each {a = a} {l = os} s k) = list-as (sym (between-is (bytes
 
 -- ` action in [..],`
 module _ {l : List ℕ} {ls : List (LiteralOf Word)} (list : ListLaid l ls) where
-  actionTokens : List Written
+  actionTokens : List WrittenToken
   actionTokens =
       written space kinds.actionWord (bytes "action")
       ∷ ((written space kinds.inWord (bytes "in") ∷ written space kinds.leftSquare (bytes "[") ∷ (list .tokens ++ written [] kinds.rightSquare (bytes "]") ∷ []))
@@ -119,7 +119,7 @@ module _ {l : List ℕ} {ls : List (LiteralOf Word)} (list : ListLaid l ls) wher
 
 -- ` resource == "..")`
 module _ (resource : Word) (s : AString resource) where
-  resourceTokens : List Written
+  resourceTokens : List WrittenToken
   resourceTokens =
       written space kinds.resourceWord (bytes "resource")
       ∷ ((written space kinds.equal (bytes "==") ∷ written space kinds.string (quoted resource) ∷ []) ++ written [] kinds.rightRound (bytes ")") ∷ [])
@@ -139,7 +139,7 @@ module _ (resource : Word) (s : AString resource) where
 
 -- ` when {.. };`
 module _ {l : List ℕ} {c : TreeOf Word} {F : Type 0} (j : JoinedLaid l c F) where
-  whenTokens : List Written
+  whenTokens : List WrittenToken
   whenTokens =
       (written space kinds.whenWord (bytes "when") ∷ written space kinds.leftBrace (bytes "{") ∷ (j .tokens ++ written space kinds.rightBrace (bytes "}") ∷ []))
       ++ written [] kinds.semicolon (bytes ";") ∷ []
@@ -173,21 +173,21 @@ module _ {l : List ℕ} {c : TreeOf Word} {F : Type 0} (j : JoinedLaid l c F) wh
 
 -- its tokens are its text, and say it unless one is beyond its size
 record PermitLaid (actions : List Word) (resource : Word) (t : Test) (ts : List Test) : Type 0 where
-  tokens : List Written
+  tokens : List WrittenToken
   laid : laidOut tokens ≡ permitText actions resource (t ∷ ts)
   well : WellWritten tokens []
   prints : Each Fits (t ∷ ts) → PrintsText tokens (permitPolicy actions resource t ts ∷ [])
   fits : Each Sized tokens → Each Fits (t ∷ ts)
 
 -- `permit(principal,`
-abbrev headTokens : List Written
+abbrev headTokens : List WrittenToken
 headTokens = (written [] kinds.leftRound (bytes "(") ∷ written [] kinds.principalWord (bytes "principal") ∷ []) ++ written [] kinds.comma (bytes ",") ∷ []
 
-abbrev permitToken : Written
+abbrev permitToken : WrittenToken
 permitToken = written [] kinds.permitWord (bytes "permit")
 
 -- the text of all parts
-parts-text : (os rs cs : List Written) (l r k : List ℕ) → laidOut os ≡ bytes " action in [" ++ (l ++ bytes "],")
+parts-text : (os rs cs : List WrittenToken) (l r k : List ℕ) → laidOut os ≡ bytes " action in [" ++ (l ++ bytes "],")
     → laidOut rs ≡ bytes " resource == " ++ (r ++ bytes ")") → laidOut cs ≡ bytes " when {" ++ ((space ++ k) ++ bytes " };")
     → laidOut (permitToken ∷ (headTokens ++ (os ++ (rs ++ cs))))
     ≡ bytes "permit(principal, action in [" ++ (l ++ (bytes "], resource == " ++ (r ++ (bytes ") when { " ++ (k ++ bytes " };")))))
@@ -199,7 +199,7 @@ parts-text os rs cs l r k e f g =
 
 -- a lock's permit
 permit-laid : {actions : List Word} {resource : Word} {t : Test} {ts : List Test} → Made actions resource (t ∷ ts) → PermitLaid actions resource t ts
-unfolding written-opened permitText permitPolicy effectKind actionTokens resourceTokens whenTokens
+unfolding written-opened permitText permitPolicy effectWord actionTokens resourceTokens whenTokens
 permit-laid {actions} {resource} {t} {ts} m =
     let strings = actions-laid (m .some-actions) (each-in actions (m .actions-are)) in
     let tests = condition-laid (each-in (t ∷ ts) (m .tests-are)) in
@@ -231,8 +231,8 @@ path-few : (p : Word) → isPath p ≡ true → length p ≤ 64
 unfolding PathsAlike
 path-few p i = paths-alike p .0 i .1
 
-mark-few : (c : Comparator) → length (markOf c) ≤ 2
-unfolding markOf
+mark-few : (c : Comparator) → length (signOf c) ≤ 2
+unfolding signOf
 mark-few Equal = omega arith
 mark-few NotEqual = omega arith
 mark-few More = omega arith
@@ -255,7 +255,7 @@ test-few (equality {path} {value} i v) (equal-fits h) =
 test-few (membership {path} {value} i v) (member-fits h) =
     omega (arith, path-few path i, quoted-few value h, length-append (quoted value) (bytes " in " ++ (bytes "principal." ++ path)))
 test-few (comparison {path} {n} {c} i o m) (order-fits h) =
-    omega (arith, path-few path i, mark-few c, number-long m, length-append path (space ++ (markOf c ++ (space ++ n))), length-append (markOf c) (space ++ n))
+    omega (arith, path-few path i, mark-few c, number-long m, length-append path (space ++ (signOf c ++ (space ++ n))), length-append (signOf c) (space ++ n))
 
 -- things of at most m bytes with others between them
 module _ {A : Type 0} (sep : List ℕ) (f : A → List ℕ) (m n : ℕ) (fits : m + length sep ≤ n) where

@@ -23,14 +23,14 @@ use Rattle.bags.specs.Paths.{isPath}
 use Rattle.meaning.specs.Paths.{PathsAlike}
 use Rattle.meaning.proofs.Paths.{paths-alike}
 use Rattle.spelling.specs.Spelling.{apart, calm}
-use Rattle.spelling.specs.Layout.{Written, written, laidOut, WellWritten, none, one, Sized}
+use Rattle.spelling.specs.Layout.{WrittenToken, written, laidOut, WellWritten, none, one, Sized}
 use Rattle.spelling.specs.Printing.{Prints, PrintsPath, markKind, rootKind, RootedPath, rootedWords}
 use Rattle.spelling.specs.Printing as printing
 use Rattle.spelling.proofs.Fixed.{isFixed, well-fixed, well-calm, written-opened}
 use Rattle.spelling.proofs.Printing.{laid-append, well-append}
 use Rattle.spelling.proofs.Productions.{prints-string, prints-number, string-literal, prints-literal, prints-attribute, prints-given, comparator-fixed}
 use Rattle.spelling.proofs.Productions.{comparator-kind, prints-comparison, prints-within, prints-simple, prints-alone, prints-both}
-use Rattle.permits.specs.Permits.{Test, equal, member, order, quoted, markOf, between, testText, testTree, joinedTo}
+use Rattle.permits.specs.Permits.{Test, equal, member, order, quoted, signOf, between, testText, testTree, joinedTo}
 use Rattle.permits.specs.Meaning.{Formed, equality, membership, comparison, Fits, equal-fits, member-fits, order-fits}
 use Rattle.permits.proofs.Values.{words-string}
 
@@ -55,7 +55,7 @@ name-apart (a-name l a k) c h = rw (l, h)
 
 -- its tokens, without blanks
 record PathLaid (p : Word) : Type 0 where
-  tokens : List Written
+  tokens : List WrittenToken
   prints : PrintsPath [] tokens p
   text : laidOut tokens ≡ p
   well : (q : List ℕ) → isOf WordBytes (getD q 0 0) ≡ false → WellWritten tokens q
@@ -83,14 +83,14 @@ path-laid (one-more {p} {n} k i) =
 
 -- its tokens stand behind a blank, and before a byte that makes none longer
 pub record TestLaid (t : Test) : Type 0 where
-  tokens : List Written
+  tokens : List WrittenToken
   text : laidOut tokens ≡ space ++ testText t
   well : (q : List ℕ) → calm (getD q 0 0) ≡ true → WellWritten tokens q
   prints : Fits t → Prints (Simple sizes) treeWords tokens (testTree t)
   fits : Each Sized tokens → Fits t
 
 -- a string
-abbrev stringToken : List ℕ → Word → Written
+abbrev stringToken : List ℕ → Word → WrittenToken
 stringToken b s = written b kinds.string (quoted s)
 
 -- one within its size
@@ -103,7 +103,7 @@ module _ (p : Word) (i : isPath p ≡ true) where
   unfolding PathsAlike
   path-is = path-laid (paths-alike p .0 i .0)
 
-  attributeTokens : List Written
+  attributeTokens : List WrittenToken
   attributeTokens = written space kinds.principalWord (bytes "principal") ∷ written [] kinds.dot (bytes ".") ∷ path-is .tokens
 
   attribute-text : laidOut attributeTokens ≡ space ++ (bytes "principal." ++ p)
@@ -127,12 +127,12 @@ module _ (p : Word) (i : isPath p ≡ true) where
   in-fixed q = refl
 
 -- a comparator's mark
-abbrev markToken : Comparator → Written
-markToken c = written space (markKind c) (markOf c)
+abbrev markToken : Comparator → WrittenToken
+markToken c = written space (markKind c) (signOf c)
 
 -- a test that is formed rightly is laid so
 pub test-laid : {t : Test} → Formed t → TestLaid t
-unfolding written-opened testText testTree markOf markKind
+unfolding written-opened testText testTree signOf markKind
 test-laid (equality {path} {value} i v) =
     let ys = markToken Equal ∷ stringToken space value ∷ [] in
     record {
@@ -171,7 +171,7 @@ test-laid (comparison {path} {n} {c} i o m) =
       tokens = attributeTokens path i ++ ys;
       text =
           laid-append (attributeTokens path i) ys
-          ∙ rw (attribute-text path i, append-nil n, append-assoc (space ++ bytes "principal.") path (space ++ (markOf c ++ (space ++ n))));
+          ∙ rw (attribute-text path i, append-nil n, append-assoc (space ++ bytes "principal.") path (space ++ (signOf c ++ (space ++ n))));
       well = λ q h.
           well-append (attribute-well path i (laidOut ys ++ q) refl) (well-fixed (well-calm none (next refl empty) (a-number m) h) (comparator-fixed c));
       prints = λ f. prints-comparison (prints-given (attribute-prints path i)) (comparator-kind c) (prints-literal (prints-number n (order-few f)));
@@ -197,7 +197,7 @@ between-is sep f x (y ∷ ys) = ap (λ (l : List ℕ). f x ++ (sep ++ l)) (betwe
 
 -- their tokens, before a byte that makes none longer; F: they fit
 pub record JoinedLaid (l : List ℕ) (c : TreeOf Word) (F : Type 0) : Type 0 where
-  pub tokens : List Written
+  pub tokens : List WrittenToken
   pub text : laidOut tokens ≡ l
   pub well : (q : List ℕ) → calm (getD q 0 0) ≡ true → WellWritten tokens q
   pub prints : F → Prints (Conjunction (Condition sizes mostInside)) treeWords tokens c

@@ -7,9 +7,9 @@ use Rattle.slices.specs.Ascii.{bytes}
 use Rattle.grammar.specs.Policies.{Root.Principal, Comparator, Comparator.Equal}
 use Rattle.grammar.specs.Policies.{text, number, attribute, literal, TreeOf, compare, within, both, any, pinned, oneOf, PolicyOf}
 use Rattle.placing.specs.Said.{Word}
--- a string with its quotes, and a comparator's mark
+-- a string with its quotes, and a comparator's sign
 pub use Rattle.spelling.specs.Marks.{quoted}
-unfoldable pub use Rattle.spelling.specs.Marks.{markOf}
+unfoldable pub use Rattle.spelling.specs.Marks.{signOf}
 
 -- A test of the principal's attribute with this path: it is that string, a list of strings that has that one, or a number that compares so with that one.
 pub data Test : Type 0 where
@@ -33,7 +33,7 @@ ofPrincipal path = bytes "principal." ++ path
 unfoldable pub testText : Test → List ℕ
 testText (equal path value) = ofPrincipal path ++ (bytes " == " ++ quoted value)
 testText (member path value) = quoted value ++ (bytes " in " ++ ofPrincipal path)
-testText (order path c n) = ofPrincipal path ++ (bytes " " ++ (markOf c ++ (bytes " " ++ n)))
+testText (order path c n) = ofPrincipal path ++ (bytes " " ++ (signOf c ++ (bytes " " ++ n)))
 
 -- the permit, for these actions on this resource where all these tests hold
 unfoldable pub permitText : List Word → Word → List Test → List ℕ

@@ -17,7 +17,7 @@ use Rattle.sheets.specs.declared.Answer.{Answer}
 use Rattle.sheets.specs.declared.Answer.the-variants.{Listed, Refused}
 use Rattle.sheet.specs.declared.Printed.{Printed}
 use Rattle.sheet.specs.declared.Printed.the-variants.{Rows, Refusal}
-use Rattle.sheet.specs.Printed.{refusalFor, Accepted, PagePrinted, pageRoom, ListedBefore, allListed, printedFor}
+use Rattle.sheet.specs.Printed.{sheetRefusal, Accepted, PagePrinted, pageRoom, ListedBefore, allListed, printedFor}
 
 -- ---- refusals
 
@@ -32,11 +32,11 @@ told-by zero w o = refl
 told-by (suc n) w o = refl
 
 module _ {text table s : List ℕ} {q : Request} {start : ℕ} {page after : List ℕ} {answer : Answer} (l : SheetListed text table s q start page 0 answer after) where
-  refusal-is : 6 ≤ length page → start ≤ rowsAsked s → refusalOf text table s q start page 0 ≡ refusalFor text table s q
-  unfolding refusalOf refusalFor
+  refusal-is : 6 ≤ length page → start ≤ rowsAsked s → refusalOf text table s q start page 0 ≡ sheetRefusal text table s q
+  unfolding refusalOf sheetRefusal
   refusal-is long h = rw (le-leb 6 (length page) long, le-leb start (rowsAsked s) h)
 
-  pub refusal-told : 6 ≤ length page → start ≤ rowsAsked s → {a : Answer} → answer ≡ a → refusedBy a ≡ refusalFor text table s q
+  pub refusal-told : 6 ≤ length page → start ≤ rowsAsked s → {a : Answer} → answer ≡ a → refusedBy a ≡ sheetRefusal text table s q
   unfolding sheetAnswer
   refusal-told long h e = ap refusedBy (sym e ∙ l .answered) ∙ told-by (refusalOf text table s q start page 0) _ _ ∙ refusal-is long h
 
@@ -60,11 +60,11 @@ a-question : (b : Bool) (n m : ℕ) {rows : ℕ} → cond b n 24 ≡ 0 → rows 
 a-question true n m e f = f
 a-question false n m e f = absurd (let z : _≡_ {A = ℕ} 24 0 = e in omega arith)
 
-pub accepted : {text table s : List ℕ} {q : Request} {number rows : ℕ} → number ≡ refusalFor text table s q → number ≤ 0 → rows ≡ cond (isQuestion s) (rowsAsked s) 0 → rows ≤ 262144
+pub accepted : {text table s : List ℕ} {q : Request} {number rows : ℕ} → number ≡ sheetRefusal text table s q → number ≤ 0 → rows ≡ cond (isQuestion s) (rowsAsked s) 0 → rows ≤ 262144
     → Accepted text table s q rows
-unfolding refusalFor
+unfolding sheetRefusal
 accepted {text} {table} {s} {q} r h e few =
-    let none : refusalFor text table s q ≡ 0 = omega arith in
+    let none : sheetRefusal text table s q ≡ 0 = omega arith in
     record { no-refusal = none; counted = a-question (isQuestion s) (requestRefusal text table q) (rowsAsked s) none e; few = few }
 
 -- ---- what is printed in all

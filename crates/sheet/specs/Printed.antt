@@ -15,12 +15,12 @@ use Rattle.sheet.specs.declared.Printed.{Printed}
 use Rattle.sheet.specs.declared.Printed.the-variants.{Rows, Refusal}
 
 -- the sheet's refusal number, and 0 where it gets none: the program has room for a row, and starts with row 0
-unfoldable pub refusalFor : List ℕ → List ℕ → List ℕ → Request → ℕ
-refusalFor text table s q = cond (isQuestion s) (requestRefusal text table q) 24
+unfoldable pub sheetRefusal : List ℕ → List ℕ → List ℕ → Request → ℕ
+sheetRefusal text table s q = cond (isQuestion s) (requestRefusal text table q) 24
 
 -- so many rows are asked for, and the sheet is not refused
 pub record Accepted (text table s : List ℕ) (q : Request) (rows : ℕ) : Type 0 where
-  pub no-refusal : refusalFor text table s q ≡ 0
+  pub no-refusal : sheetRefusal text table s q ≡ 0
   pub counted : rows ≡ rowsAsked s
   pub few : rows ≤ mostRows
 
@@ -59,4 +59,4 @@ pub record RowsPut (page : List ℕ) (written : ℕ) (new : List ℕ) (filled : 
 
 -- what is printed of a sheet: its refusal's number, or how many rows there are and how many of them are listed
 unfoldable pub printedFor : List ℕ → List ℕ → List ℕ → Request → Printed
-printedFor text table s q = unless (refusalFor text table s q) (Rows (rowsAsked s) (allListed text s q (rowsAsked s))) Refusal
+printedFor text table s q = unless (sheetRefusal text table s q) (Rows (rowsAsked s) (allListed text s q (rowsAsked s))) Refusal

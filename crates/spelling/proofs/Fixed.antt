@@ -4,20 +4,22 @@ use mathlib.Core.Bool.{Bool, true, false, _&&_, _||_}
 use mathlib.Core.List.{List, [], _∷_, _++_}
 use mathlib.Core.Logic.{⊎-elim}
 use Prim.Native.Nat.{ℕ}
-use lib.Dec.{eqb}
+use lib.Dec.{eqb, leb}
 use lib.ListN.{getD}
-use borrow.Author.Tests.{eqb-true}
+use borrow.Author.Tests.{eqb-true, leb-true}
 use Rattle.tokens.specs.Runs.{isOf}
 use Rattle.tokens.specs.Words.{wordKind}
-use Rattle.tokens.specs.Forms.{All, empty, next, marks, Form, a-word, a-mark}
+use Rattle.tokens.specs.Forms.{All, empty, next, marks, Form, a-word, a-mark, sizeOf, mostOf}
 use Rattle.tokens.specs.declared.classes.Sort.{Sort}
 use Rattle.tokens.specs.declared.classes.Sort.the-variants.{Blanks, Letters, WordBytes}
 use Rattle.tokens.proofs.TokenLaws.{never, and-left, and-right, or-cases, every}
 use Rattle.tokens.proofs.FormLaws.{isAmong, is-among}
 use Rattle.tokens.proofs.Opened.{tokens-opened}
 use Rattle.spelling.specs.Spelling.{apart, calm}
-use Rattle.spelling.specs.Layout.{Written, written, laidOut, readAs, standing, WellWritten, one}
+use Rattle.spelling.specs.Layout.{WrittenToken, written, laidOut, readAs, standing, WellWritten, one}
+use Rattle.spelling.specs.Printed.{PlainToken}
 use Rattle.spelling.proofs.Apart.{calm-apart}
+use Rattle.spelling.proofs.Laid.{read-fitting}
 
 all-of : (sort : Sort) (l : List ℕ) → every (isOf sort) l ≡ true → All sort l
 unfolding every
@@ -38,20 +40,45 @@ word-form kind (b ∷ l) e =
     (a-word (and-left _ _ e) (all-of WordBytes l (and-left _ _ rest)))
 
 -- a word or a mark of its kind behind blanks, that the next byte makes no longer
-unfoldable pub isFixed : Written → ℕ → Bool
+unfoldable pub isFixed : WrittenToken → ℕ → Bool
 unfolding isWord
 isFixed x b = every (isOf Blanks) (x .blanks) && ((isWord (x .kind) (x .bytes) || isAmong marks (x .kind) (x .bytes)) && apart (x .bytes) b)
 
-module _ {xs : List Written} {q : List ℕ} (w : WellWritten xs q) where
-  pub well-fixed : {x : Written} → isFixed x (getD (laidOut xs ++ q) 0 0) ≡ true → WellWritten (x ∷ xs) q
+-- a word or a mark of its kind has a form
+fixed-form : (kind : ℕ) (p : List ℕ) → (isWord kind p || isAmong marks kind p) ≡ true → Form kind p
+fixed-form kind p e =
+    ⊎-elim (λ (h : isWord kind p ≡ true). word-form kind p h) (λ (h : isAmong marks kind p ≡ true). a-mark (is-among marks kind p h))
+    (or-cases (isWord kind p) _ e)
+
+-- one within its size, as it is written plainly
+unfoldable pub isFixedToken : PlainToken → Bool
+unfolding isWord
+isFixedToken t = (isWord (t .0) (t .1) || isAmong marks (t .0) (t .1)) && leb (sizeOf (t .0) (t .1)) (mostOf (t .0))
+
+-- a token that has a form
+pub record FormedToken (t : PlainToken) : Type 0 where
+  pub form : Form (t .0) (t .1)
+
+-- and is read as one of the kind k
+pub record FixedToken (k : ℕ) (t : PlainToken) : Type 0 where
+  pub formed : FormedToken t
+  pub read : readAs (t .0) (t .1) ≡ k
+
+pub fixed : {t : PlainToken} → isFixedToken t ≡ true → FixedToken (t .0) t
+unfolding isFixedToken
+fixed {t} e = record {
+  formed = record { form = fixed-form (t .0) (t .1) (and-left _ _ e) };
+  read = read-fitting (t .0) (t .1) (leb-true _ _ (and-right (isWord (t .0) (t .1) || isAmong marks (t .0) (t .1)) _ e));
+}
+
+module _ {xs : List WrittenToken} {q : List ℕ} (w : WellWritten xs q) where
+  pub well-fixed : {x : WrittenToken} → isFixed x (getD (laidOut xs ++ q) 0 0) ≡ true → WellWritten (x ∷ xs) q
   unfolding isFixed
   well-fixed {x} e =
       let rest = and-right (every (isOf Blanks) (x .blanks)) _ e in
       let form = and-left _ _ rest in
       one (all-of Blanks (x .blanks) (and-left _ _ e))
-      (⊎-elim (λ (h : isWord (x .kind) (x .bytes) ≡ true). word-form (x .kind) (x .bytes) h)
-      (λ (h : isAmong marks (x .kind) (x .bytes) ≡ true). a-mark (is-among marks (x .kind) (x .bytes) h))
-      (or-cases (isWord (x .kind) (x .bytes)) _ form))
+      (fixed-form (x .kind) (x .bytes) form)
       (and-right (isWord (x .kind) (x .bytes) || isAmong marks (x .kind) (x .bytes)) _ rest)
       w
 
@@ -61,5 +88,5 @@ module _ {xs : List Written} {q : List ℕ} (w : WellWritten xs q) where
 
 -- One word for proofs that compute with written tokens.
 unfoldable pub written-opened : Unit {0}
-unfolding tokens-opened every isWord isFixed isAmong marks apart calm laidOut readAs standing
+unfolding tokens-opened every isWord isFixed isFixedToken isAmong marks apart calm laidOut readAs standing
 written-opened = tt

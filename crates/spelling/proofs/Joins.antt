@@ -93,7 +93,7 @@ unfolding border
 border-rest x [] c e = refl
 border-rest x (y ∷ ts) c e = e
 
-form-some : {kind : ℕ} {p : List ℕ} → Form kind p → 0 < length p
+pub form-some : {kind : ℕ} {p : List ℕ} → Form kind p → 0 < length p
 unfolding every marks
 form-some (a-word e a) = omega arith
 form-some (a-string a) = omega arith

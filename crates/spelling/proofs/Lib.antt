@@ -9,3 +9,10 @@ pub mod Texts
 pub mod Fixed
 pub mod Printing
 pub mod Productions
+pub mod Conditions
+pub mod Policies
+pub mod Plain
+pub mod Whole
+pub mod Theorems
+pub mod Back
+pub mod Examples

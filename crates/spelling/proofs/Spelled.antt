@@ -14,7 +14,7 @@ use Rattle.grammar.specs.Policies.{Policy}
 use Rattle.grammar.specs.Grammar.{RuleText, sizes, SaysPolicies}
 use Rattle.placing.specs.Placed.{Each, none-left, and-each}
 use Rattle.spelling.specs.Spelling.{Spelling, lexemeSays, spellingSays, calm}
-use Rattle.spelling.specs.Layout.{Written, laidOut, standing, WellWritten, none, one, Sized, singly, spelled}
+use Rattle.spelling.specs.Layout.{WrittenToken, laidOut, standing, WellWritten, none, one, Sized, singly, spelled}
 use Rattle.spelling.proofs.Apart.{form-longest, calm-apart}
 use Rattle.spelling.proofs.Laid.{Laid, Laid.blank, Laid.before, Fine, fine, read-fitting, read-sized, form-next, behind-token, laid-stand, tokens-laid}
 use Rattle.spelling.proofs.Pieced.{text-fine}
@@ -22,7 +22,7 @@ use Rattle.spelling.proofs.Pieced.{text-fine}
 -- ---- a text that is laid out has the tokens that it is laid out with
 
 -- from a place on
-well-stand : (text pre : List ℕ) {at : ℕ} {xs : List Written} → text ≡ pre ++ laidOut xs → at ≡ length pre → WellWritten xs [] → TokensOf text at (standing at xs)
+well-stand : (text pre : List ℕ) {at : ℕ} {xs : List WrittenToken} → text ≡ pre ++ laidOut xs → at ≡ length pre → WellWritten xs [] → TokensOf text at (standing at xs)
 unfolding laidOut standing
 well-stand text pre e h none = laid-stand text pre e h (Laid.blank empty)
 well-stand text pre e h (one {x = x} {xs = xs} a f n w) =
@@ -33,22 +33,22 @@ well-stand text pre e h (one {x = x} {xs = xs} a f n w) =
     (well-stand text ((pre ++ b) ++ p) (behind-token text pre b p q e) (omega (arith, length-append (pre ++ b) p, length-append pre b)) w)
 
 -- a text that is laid out of tokens has these tokens and no other, on paper
-pub laid-out-stand : {xs : List Written} → WellWritten xs [] → TokensOf (laidOut xs) 0 (standing 0 xs)
+pub laid-out-stand : {xs : List WrittenToken} → WellWritten xs [] → TokensOf (laidOut xs) 0 (standing 0 xs)
 laid-out-stand {xs} w = well-stand (laidOut xs) [] refl refl w
 
 -- so they are what is read of it
-pub tokens-laid-out : {xs : List Written} → WellWritten xs [] → tokensOf (laidOut xs) ≡ standing 0 xs
+pub tokens-laid-out : {xs : List WrittenToken} → WellWritten xs [] → tokensOf (laidOut xs) ≡ standing 0 xs
 tokens-laid-out {xs} w = tokens-are (laidOut xs) (laid-out-stand w)
 
 -- where none of them is refused, each is within its size
-fine-sized : (at : ℕ) (xs : List Written) → Fine (standing at xs) → Each Sized xs
+fine-sized : (at : ℕ) (xs : List WrittenToken) → Fine (standing at xs) → Each Sized xs
 unfolding standing
 fine-sized at [] f = none-left
 fine-sized at (x ∷ xs) (fine h f) =
     and-each (record { within = read-sized (x .kind) (x .bytes) h }) (fine-sized (at + length (x .blanks) + length (x .bytes)) xs f)
 
 -- as where they are a rule text
-pub text-sized : {xs : List Written} {ps : List Policy} → WellWritten xs [] → SaysPolicies (laidOut xs) ps → Each Sized xs
+pub text-sized : {xs : List WrittenToken} {ps : List Policy} → WellWritten xs [] → SaysPolicies (laidOut xs) ps → Each Sized xs
 text-sized {xs} {ps} w s =
     let same : s .tokens ≡ standing 0 xs = one-list (laidOut xs) (s .listed) (laid-out-stand w) in
     fine-sized 0 xs (text-fine (subst (λ (l : List Lexeme). RuleText sizes l ps) same (s .belongs)))

@@ -13,17 +13,17 @@ use Rattle.reading.specs.Lexemes.{Lexeme}
 use Rattle.spelling.specs.Spelling.{Spelling, lexemeAt, apart}
 
 -- a token as it is written: the blanks before it, its kind and its bytes
-pub record Written : Type 0 where
+pub record WrittenToken : Type 0 where
   pub blanks : List ℕ
   pub kind : ℕ
   pub bytes : List ℕ
 
 -- the same in one line
-abbrev pub written : List ℕ → ℕ → List ℕ → Written
+abbrev pub written : List ℕ → ℕ → List ℕ → WrittenToken
 written b kind p = record { blanks = b; kind = kind; bytes = p }
 
 -- the text of tokens one behind the other
-unfoldable pub laidOut : List Written → List ℕ
+unfoldable pub laidOut : List WrittenToken → List ℕ
 laidOut [] = []
 laidOut (x ∷ xs) = x .blanks ++ (x .bytes ++ laidOut xs)
 
@@ -32,27 +32,27 @@ unfoldable pub readAs : ℕ → List ℕ → ℕ
 readAs kind p = cond (leb (sizeOf kind p) (mostOf kind)) kind kinds.tooLong
 
 -- a written token as it is read, where its blanks begin at a place
-abbrev pub lexemeOf : ℕ → Written → Lexeme
+abbrev pub lexemeOf : ℕ → WrittenToken → Lexeme
 lexemeOf at x = lexemeAt (at + length (x .blanks)) (readAs (x .kind) (x .bytes)) (x .bytes)
 
 -- tokens one behind the other as they are read, where the text of them begins at a place
-unfoldable pub standing : ℕ → List Written → List Lexeme
+unfoldable pub standing : ℕ → List WrittenToken → List Lexeme
 standing at [] = []
 standing at (x ∷ xs) = lexemeOf at x ∷ standing (at + length (x .blanks) + length (x .bytes)) xs
 
 -- tokens that may be written one behind the other before the bytes q: blanks stand before each, its bytes have its kind's form, of any size,
 -- and the byte behind them makes it no longer
-pub data WellWritten : List Written → List ℕ → Type 0 where
+pub data WellWritten : List WrittenToken → List ℕ → Type 0 where
   none : {q : List ℕ} → WellWritten [] q
-  one : {x : Written} {xs : List Written} {q : List ℕ} → All Blanks (x .blanks) → Form (x .kind) (x .bytes)
+  one : {x : WrittenToken} {xs : List WrittenToken} {q : List ℕ} → All Blanks (x .blanks) → Form (x .kind) (x .bytes)
       → apart (x .bytes) (getD (laidOut xs ++ q) 0 0) ≡ true → WellWritten xs q → WellWritten (x ∷ xs) q
 
 -- a token that is within its kind's size
-pub record Sized (x : Written) : Type 0 where
+pub record Sized (x : WrittenToken) : Type 0 where
   pub within : sizeOf (x .kind) (x .bytes) ≤ mostOf (x .kind)
 
 -- tokens with single blanks between them, the first behind the blanks b
-unfoldable pub singly : List ℕ → List Spelling → List Written
+unfoldable pub singly : List ℕ → List Spelling → List WrittenToken
 singly b [] = []
 singly b (x ∷ xs) = written b (x .kind) (x .bytes) ∷ singly (code " " ∷ []) xs
 

@@ -2,6 +2,9 @@ pub mod Spelling
 pub mod Layout
 pub mod Marks
 pub mod Printing
+pub mod Printed
+pub mod Printable
 pub mod Pieces
 pub mod Moves
 pub mod Texts
+pub mod Promise

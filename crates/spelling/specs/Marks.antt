@@ -9,11 +9,11 @@ use Rattle.grammar.specs.Policies.{Comparator, Comparator.Equal, Comparator.Not
 abbrev pub quoted : List ℕ → List ℕ
 quoted s = quote ∷ (s ++ quote ∷ [])
 
--- a comparator's mark
-unfoldable pub markOf : Comparator → List ℕ
-markOf Equal = bytes "=="
-markOf NotEqual = bytes "!="
-markOf More = bytes ">"
-markOf AtLeast = bytes ">="
-markOf Less = bytes "<"
-markOf AtMost = bytes "<="
+-- a comparator's sign
+unfoldable pub signOf : Comparator → List ℕ
+signOf Equal = bytes "=="
+signOf NotEqual = bytes "!="
+signOf More = bytes ">"
+signOf AtLeast = bytes ">="
+signOf Less = bytes "<"
+signOf AtMost = bytes "<="

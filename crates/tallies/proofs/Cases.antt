@@ -28,7 +28,7 @@ use Rattle.turns.proofs.RowLaws.{none-ready, none-many}
 use Rattle.tallies.specs.Lent.{requestsOf}
 use Rattle.tallies.specs.Tallies.{formRefusal, firstWrong, someAsks, firstRefusal, groupCount, groupsOf, withSums, groupFor, RequestsTallied, tallyRefusal, countsAfter, Tallied}
 use Rattle.tallies.specs.Counted.{RulesHeld}
-use Rattle.tallies.specs.declared.counting.Rules.{Rules}
+use Rattle.tallies.specs.declared.counting.TableSize.{TableSize}
 use Rattle.tallies.proofs.Refusing.{first-refusal-is, groups-alike, parts-right}
 use Rattle.tallies.proofs.Deciders.{system-counts}
 
@@ -45,12 +45,12 @@ held-rules text table false {policies} {entries} h =
     rw (← p, ← e) (record { ready = none-ready text table; many = none-many table; few = omega arith })
 
 -- those for a request: none for the system
-module _ {r : Rules} (b : Bool) (policies entries : ℕ) (is : r ≡ record { policies = cond b 0 policies; entries = cond b 0 entries }) where
+module _ {r : TableSize} (b : Bool) (policies entries : ℕ) (is : r ≡ record { policies = cond b 0 policies; entries = cond b 0 entries }) where
   many-are : r .policies ≡ cond b 0 policies
-  many-are = ap (λ (r : Rules). r .policies) is
+  many-are = ap (λ (r : TableSize). r .policies) is
 
   entries-are : r .entries ≡ cond b 0 entries
-  entries-are = ap (λ (r : Rules). r .entries) is
+  entries-are = ap (λ (r : TableSize). r .entries) is
 
   pub rules-are : {text table : List ℕ} → RulesHeld text table policies entries → RulesHeld text table (r .policies) (r .entries)
   rules-are {text} {table} h = rw (many-are, entries-are) (go b)

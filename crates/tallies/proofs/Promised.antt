@@ -18,19 +18,19 @@ use Rattle.deciding.specs.Promise.{Wellformed, RequestRefused, bad-subject, bad
 use Rattle.deciding.proofs.Promised.{begun, begins-then, not-begun, begins-not}
 use Rattle.meaning.specs.Decisions.{Numbered, first, later}
 use Rattle.sheets.specs.Sheets.{sectionsIn, requestRefusal, unless}
-use Rattle.tallies.specs.Lent.{partOf, behindPart, requestsOf}
+use Rattle.tallies.specs.Lent.{lentPart, behindLentPart, requestsOf}
 use Rattle.tallies.specs.Tallies.{groupCount, firstRefusal, talliedOf, tallyRefusal, countsAfter}
 use Rattle.tallies.specs.Promise as promise
-use Rattle.tallies.specs.Promise.{TallyCall, PartAt, whole, missing, Lent, more, Accepted, the-system, none-wrong, FirstRefused, none-refused, passed, bad-request, not-compiled}
+use Rattle.tallies.specs.Promise.{TallyCall, PartLent, whole, missing, Lent, more, Passes, the-system, none-wrong, FirstRefused, none-refused, passed, bad-request, not-compiled}
 use Rattle.tallies.specs.Promise.{TallyRefused, no-request, too-many, no-question, by-request, TallyRefusedExactly, OneLent}
 
 -- ---- how requests are lent
 
-part-by : (n : ℕ) (bytes : List ℕ) (b : Bool) → leb n (length bytes) ≡ b → PartAt (n ∷ bytes) (cond b (take n bytes) []) (cond b (drop n bytes) [])
+part-by : (n : ℕ) (bytes : List ℕ) (b : Bool) → leb n (length bytes) ≡ b → PartLent (n ∷ bytes) (cond b (take n bytes) []) (cond b (drop n bytes) [])
 part-by n bytes true e =
     let long : length (take n bytes) ≡ n = length-take-le n bytes (leb-true n (length bytes) e) in
-    subst (λ (k : ℕ). PartAt (k ∷ bytes) (take n bytes) (drop n bytes)) long
-    (subst (λ (l : List ℕ). PartAt (length (take n bytes) ∷ l) (take n bytes) (drop n bytes)) (take-append-drop n bytes) whole)
+    subst (λ (k : ℕ). PartLent (k ∷ bytes) (take n bytes) (drop n bytes)) long
+    (subst (λ (l : List ℕ). PartLent (length (take n bytes) ∷ l) (take n bytes) (drop n bytes)) (take-append-drop n bytes) whole)
 part-by n bytes false e = missing (λ part rest q.
     let l : length bytes < n = leb-false n (length bytes) e in
     let a : n ≡ length part = ap (λ (l : List ℕ). getD l 0 0) q in
@@ -38,8 +38,8 @@ part-by n bytes false e = missing (λ part rest q.
     omega (arith, ap length b ∙ length-append part rest))
 
 -- what is read is a part, and what stands behind it
-part-read : (bytes : List ℕ) → PartAt bytes (partOf bytes) (behindPart bytes)
-unfolding partOf behindPart
+part-read : (bytes : List ℕ) → PartLent bytes (lentPart bytes) (behindLentPart bytes)
+unfolding lentPart behindLentPart
 part-read [] = missing {bytes = []} (λ part rest q. let z = ap length q in omega (arith, z))
 part-read (n ∷ bytes) = part-by n bytes (leb n (length bytes)) refl
 
@@ -51,8 +51,8 @@ there-or-not n bytes h true e =
     absurd (h (take n bytes) (drop n bytes) (rw (long, all)))
 
 -- there is one
-part-one : {bytes part rest : List ℕ} → PartAt bytes part rest → (part ≡ partOf bytes) × (rest ≡ behindPart bytes)
-unfolding partOf behindPart
+part-one : {bytes part rest : List ℕ} → PartLent bytes part rest → (part ≡ lentPart bytes) × (rest ≡ behindLentPart bytes)
+unfolding lentPart behindLentPart
 part-one (whole {part = part} {rest = rest}) =
     let l : length part ≤ length (part ++ rest) = omega (arith, length-append part rest) in
     rw (le-leb (length part) (length (part ++ rest)) l) (sym (take-append-seam part rest), sym (drop-append-seam part rest))
@@ -63,7 +63,7 @@ lent-read : (n : ℕ) (bytes : List ℕ) → Lent n bytes (requestsOf n bytes)
 unfolding requestsOf
 lent-read zero bytes = promise.none
 lent-read (suc n) bytes =
-    more (part-read bytes) (part-read (behindPart bytes)) (part-read (behindPart (behindPart bytes))) (lent-read n (behindPart (behindPart (behindPart bytes))))
+    more (part-read bytes) (part-read (behindLentPart bytes)) (part-read (behindLentPart (behindLentPart bytes))) (lent-read n (behindLentPart (behindLentPart (behindLentPart bytes))))
 
 both : {x y : Request} {xs ys : List Request} → x ≡ y → xs ≡ ys → x ∷ xs ≡ y ∷ ys
 both p q = cc
@@ -75,11 +75,11 @@ lent-once (more {n = n} {bytes = bytes} {behind = behind} {behind′ = behind′
     let e = part-one s in
     let f = part-one a in
     let g = part-one r in
-    let b : behind ≡ behindPart bytes = e .1 in
-    let b′ : behind′ ≡ behindPart (behindPart bytes) = f .1 ∙ ap behindPart b in
-    let action = f .0 ∙ ap partOf b in
-    let resource = g .0 ∙ ap partOf b′ in
-    both (λ i. record { subject = e .0 i; action = action i; resource = resource i }) (lent-once l ∙ ap (requestsOf n) (g .1 ∙ ap behindPart b′))
+    let b : behind ≡ behindLentPart bytes = e .1 in
+    let b′ : behind′ ≡ behindLentPart (behindLentPart bytes) = f .1 ∙ ap behindLentPart b in
+    let action = f .0 ∙ ap lentPart b in
+    let resource = g .0 ∙ ap lentPart b′ in
+    both (λ i. record { subject = e .0 i; action = action i; resource = resource i }) (lent-once l ∙ ap (requestsOf n) (g .1 ∙ ap behindLentPart b′))
 
 pub one-lent : OneLent
 unfolding OneLent
@@ -112,7 +112,7 @@ module _ (text table : List ℕ) where
   first-read [] = none-refused
   first-read (q ∷ qs) = first-more q qs (firstRefusal text table qs) (first-read qs)
 
-  pub accepted-none : {q : Request} → Accepted text table q → requestRefusal text table q ≡ 0
+  pub accepted-none : {q : Request} → Passes text table q → requestRefusal text table q ≡ 0
   unfolding requestRefusal
   accepted-none (the-system e) = rw e
   accepted-none (none-wrong f b) = rw (f .other, f .subject-is, f .action-is, f .resource-is, begins-then text table b)
@@ -169,10 +169,10 @@ tally-refused-exactly c number = (λ e. subst (TallyRefused c) e (refused-as c),
 pub requests-many : (n : ℕ) (bytes : List ℕ) → length (requestsOf n bytes) ≡ n
 unfolding requestsOf
 requests-many zero bytes = refl
-requests-many (suc n) bytes = ap suc (requests-many n (behindPart (behindPart (behindPart bytes))))
+requests-many (suc n) bytes = ap suc (requests-many n (behindLentPart (behindLentPart (behindLentPart bytes))))
 
 -- every request is accepted
-pub all-accepted : {text table : List ℕ} {qs : List Request} {n : ℕ} → FirstRefused text table qs n → n ≡ 0 → {k : ℕ} {q : Request} → Numbered k q qs → Accepted text table q
+pub all-accepted : {text table : List ℕ} {qs : List Request} {n : ℕ} → FirstRefused text table qs n → n ≡ 0 → {k : ℕ} {q : Request} → Numbered k q qs → Passes text table q
 all-accepted (passed a f) z first = a
 all-accepted (passed a f) z (later i) = all-accepted f z i
 all-accepted (bad-request (bad-subject e f)) z i = absurd (omega arith)
@@ -187,7 +187,7 @@ pub record TallyHeard (c : TallyCall) : Type 0 where
   pub columns : List Column
   pub question-says : QuestionBytes (c .question) base columns
   pub lent : Lent (c .many) (c .requests) (requestsOf (c .many) (c .requests))
-  pub accepted : {k : ℕ} {q : Request} → Numbered k q (requestsOf (c .many) (c .requests)) → Accepted (c .text) (c .table) q
+  pub accepted : {k : ℕ} {q : Request} → Numbered k q (requestsOf (c .many) (c .requests)) → Passes (c .text) (c .table) q
 
 heard-by : (c : TallyCall) {n : ℕ} → n ≡ 0 → TallyRefused c n → TallyHeard c
 heard-by c z (no-request e) = absurd (omega arith)

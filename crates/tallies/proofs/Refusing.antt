@@ -8,31 +8,31 @@ use Rattle.compiling.specs.Outcome.{beginsOf}
 use Rattle.meaning.specs.Targets.{Request, isSystem, isSubject, isAction, isResource}
 use Rattle.sheets.specs.Sheets.{requestRefusal, unless}
 use Rattle.tallies.specs.Tallies.{formRefusal, asksTable, formOf, firstWrong, someAsks, firstRefusal, groupsOf}
-use Rattle.tallies.specs.declared.lent.Form.{Form}
+use Rattle.tallies.specs.declared.lent.RequestForm.{RequestForm}
 
 -- ---- a request's form
 
 module _ (q : Request) where
-  pub form-system : isSystem (q .subject) ≡ true → _≡_ {A = Form} (record { asks = false; refusal = 0 }) (formOf q)
+  pub form-system : isSystem (q .subject) ≡ true → _≡_ {A = RequestForm} (record { asks = false; refusal = 0 }) (formOf q)
   unfolding formRefusal asksTable
   form-system s = rw s
 
   module _ (other : isSystem (q .subject) ≡ false) where
-    pub form-21 : isSubject (q .subject) ≡ false → _≡_ {A = Form} (record { asks = false; refusal = 21 }) (formOf q)
+    pub form-21 : isSubject (q .subject) ≡ false → _≡_ {A = RequestForm} (record { asks = false; refusal = 21 }) (formOf q)
     unfolding formRefusal asksTable
     form-21 e = rw (other, e)
 
     module _ (subject : isSubject (q .subject) ≡ true) where
-      pub form-22 : isAction (q .action) ≡ false → _≡_ {A = Form} (record { asks = false; refusal = 22 }) (formOf q)
+      pub form-22 : isAction (q .action) ≡ false → _≡_ {A = RequestForm} (record { asks = false; refusal = 22 }) (formOf q)
       unfolding formRefusal asksTable
       form-22 e = rw (other, subject, e)
 
       module _ (action : isAction (q .action) ≡ true) where
-        pub form-23 : isResource (q .resource) ≡ false → _≡_ {A = Form} (record { asks = false; refusal = 23 }) (formOf q)
+        pub form-23 : isResource (q .resource) ≡ false → _≡_ {A = RequestForm} (record { asks = false; refusal = 23 }) (formOf q)
         unfolding formRefusal asksTable
         form-23 e = rw (other, subject, action, e)
 
-        pub form-right : isResource (q .resource) ≡ true → _≡_ {A = Form} (record { asks = true; refusal = 0 }) (formOf q)
+        pub form-right : isResource (q .resource) ≡ true → _≡_ {A = RequestForm} (record { asks = true; refusal = 0 }) (formOf q)
         unfolding formRefusal asksTable
         form-right e = rw (other, subject, action, e)
 
@@ -179,12 +179,12 @@ groups-alike group group′ same (suc n) (q ∷ qs) w s =
 -- ---- the loop over the requests: what was found so far, and what is found in the requests that are left
 
 module _ (all : List Request) (b : Bool) (q : Request) (qs : List Request) (asks : someAsks all ≡ b || someAsks (q ∷ qs)) (wrong : firstWrong all ≡ firstWrong (q ∷ qs))
-    {form : Form} (is : form ≡ formOf q) where
+    {form : RequestForm} (is : form ≡ formOf q) where
   -- a request that is refused by itself
-  pub found-here : (form .refusal ≡ 0 → ⊥) → _≡_ {A = Form} (record { asks = b || form .asks; refusal = form .refusal }) (record { asks = someAsks all; refusal = firstWrong all })
+  pub found-here : (form .refusal ≡ 0 → ⊥) → _≡_ {A = RequestForm} (record { asks = b || form .asks; refusal = form .refusal }) (record { asks = someAsks all; refusal = firstWrong all })
   found-here h =
-      let r : form .refusal ≡ formRefusal q = ap (λ (f : Form). f .refusal) is in
-      let a : form .asks ≡ asksTable q = ap (λ (f : Form). f .asks) is in
+      let r : form .refusal ≡ formRefusal q = ap (λ (f : RequestForm). f .refusal) is in
+      let a : form .asks ≡ asksTable q = ap (λ (f : RequestForm). f .asks) is in
       let no : formRefusal q ≡ 0 → ⊥ = λ z. h (r ∙ z) in
       let x : b || form .asks ≡ someAsks all = ap (λ (t : Bool). b || t) a ∙ sym (asks-here b q qs no) ∙ sym asks in
       let y : form .refusal ≡ firstWrong all = r ∙ sym (wrong-here q qs no) ∙ sym wrong in
@@ -193,12 +193,12 @@ module _ (all : List Request) (b : Bool) (q : Request) (qs : List Request) (asks
   -- one that is not
   pub found-on : form .refusal ≡ 0 → (someAsks all ≡ (b || form .asks) || someAsks qs) × (firstWrong all ≡ firstWrong qs)
   found-on h =
-      let r : formRefusal q ≡ 0 = sym (ap (λ (f : Form). f .refusal) is) ∙ h in
-      let a : asksTable q ≡ form .asks = sym (ap (λ (f : Form). f .asks) is) in
+      let r : formRefusal q ≡ 0 = sym (ap (λ (f : RequestForm). f .refusal) is) ∙ h in
+      let a : asksTable q ≡ form .asks = sym (ap (λ (f : RequestForm). f .asks) is) in
       (asks ∙ asks-on b q qs r ∙ ap (λ (t : Bool). (b || t) || someAsks qs) a, wrong ∙ wrong-on q qs r)
 
 -- no request is left
 pub found-none : (all : List Request) (b : Bool) → someAsks all ≡ b || someAsks [] → firstWrong all ≡ firstWrong []
-    → _≡_ {A = Form} (record { asks = b; refusal = 0 }) (record { asks = someAsks all; refusal = firstWrong all })
+    → _≡_ {A = RequestForm} (record { asks = b; refusal = 0 }) (record { asks = someAsks all; refusal = firstWrong all })
 unfolding someAsks firstWrong
 found-none all b asks wrong = let a = sym (asks ∙ or-false b) in λ i. record { asks = a i; refusal = sym wrong i }

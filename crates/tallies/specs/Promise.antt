@@ -25,27 +25,27 @@ pub record TallyCall : Type 0 where
 -- ---- how requests are lent
 
 -- at the start of the bytes stands a part behind its length byte; behind it stands the rest. What is not wholly there is empty, and so is all behind it
-pub data PartAt : List ℕ → List ℕ → List ℕ → Type 0 where
-  whole : {part rest : List ℕ} → PartAt (length part ∷ part ++ rest) part rest
-  missing : {bytes : List ℕ} → ((part rest : List ℕ) → bytes ≡ length part ∷ part ++ rest → ⊥) → PartAt bytes [] []
+pub data PartLent : List ℕ → List ℕ → List ℕ → Type 0 where
+  whole : {part rest : List ℕ} → PartLent (length part ∷ part ++ rest) part rest
+  missing : {bytes : List ℕ} → ((part rest : List ℕ) → bytes ≡ length part ∷ part ++ rest → ⊥) → PartLent bytes [] []
 
 -- so many requests: subject, action and resource of each
 pub data Lent : ℕ → List ℕ → List Request → Type 0 where
   none : {bytes : List ℕ} → Lent zero bytes []
-  more : {n : ℕ} {bytes subject behind action behind′ resource rest : List ℕ} {qs : List Request} → PartAt bytes subject behind → PartAt behind action behind′
-      → PartAt behind′ resource rest → Lent n rest qs → Lent (suc n) bytes (request subject action resource ∷ qs)
+  more : {n : ℕ} {bytes subject behind action behind′ resource rest : List ℕ} {qs : List Request} → PartLent bytes subject behind
+      → PartLent behind action behind′ → PartLent behind′ resource rest → Lent n rest qs → Lent (suc n) bytes (request subject action resource ∷ qs)
 
 -- ---- refusals
 
 -- nothing is refused of a request: it is the system's, or it is well-formed and the table is the text's
-pub data Accepted (text table : List ℕ) (q : Request) : Type 0 where
-  the-system : isSystem (q .subject) ≡ true → Accepted text table q
-  none-wrong : Wellformed q → Begun text table → Accepted text table q
+pub data Passes (text table : List ℕ) (q : Request) : Type 0 where
+  the-system : isSystem (q .subject) ≡ true → Passes text table q
+  none-wrong : Wellformed q → Begun text table → Passes text table q
 
 -- the refusals of the requests in turn: the first refused request refuses the tally; 0 where none is refused
 pub data FirstRefused (text table : List ℕ) : List Request → ℕ → Type 0 where
   none-refused : FirstRefused text table [] 0
-  passed : {q : Request} {qs : List Request} {number : ℕ} → Accepted text table q → FirstRefused text table qs number → FirstRefused text table (q ∷ qs) number
+  passed : {q : Request} {qs : List Request} {number : ℕ} → Passes text table q → FirstRefused text table qs number → FirstRefused text table (q ∷ qs) number
   bad-request : {q : Request} {qs : List Request} {number : ℕ} → RequestRefused q number → FirstRefused text table (q ∷ qs) number
   not-compiled : {q : Request} {qs : List Request} → Wellformed q → (Begun text table → ⊥) → FirstRefused text table (q ∷ qs) 20
 

@@ -12,7 +12,7 @@ use Rattle.deciding.specs.Answers.{wordsIn}
 use Rattle.pages.specs.Tally.{groupSize, fromOn, tallyOf}
 use Rattle.sheets.specs.Sheets.{rowsIn, decisionAt, sectionsIn, requestRefusal, unless}
 use Rattle.tallies.specs.Lent.{requestsOf}
-use Rattle.tallies.specs.declared.lent.Form.{Form}
+use Rattle.tallies.specs.declared.lent.RequestForm.{RequestForm}
 
 -- ---- refusals
 
@@ -26,7 +26,7 @@ unfoldable pub asksTable : Request → Bool
 asksTable q = cond (isSystem (q .subject)) false (isSubject (q .subject) && isAction (q .action) && isResource (q .resource))
 
 -- a request's form
-abbrev pub formOf : Request → Form
+abbrev pub formOf : Request → RequestForm
 formOf q = record { asks = asksTable q; refusal = formRefusal q }
 
 -- the refusal of the first request that is refused by itself
@@ -40,7 +40,7 @@ someAsks [] = false
 someAsks (q ∷ qs) = asksTable q || unless (formRefusal q) (someAsks qs) (λ _. false)
 
 -- both
-abbrev pub formsOf : List Request → Form
+abbrev pub formsOf : List Request → RequestForm
 formsOf qs = record { asks = someAsks qs; refusal = firstWrong qs }
 
 -- the refusal of the first request that is refused, the text and its table included
@@ -48,7 +48,7 @@ unfoldable pub firstRefusal : List ℕ → List ℕ → List Request → ℕ
 firstRefusal text table [] = 0
 firstRefusal text table (q ∷ qs) = unless (requestRefusal text table q) (firstRefusal text table qs) (λ n. n)
 
--- ---- the counts
+-- ---- the counts: eight groups, one for each request, and behind them their sums
 
 abbrev pub groupCount : ℕ
 groupCount = 8

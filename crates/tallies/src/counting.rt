@@ -38,7 +38,7 @@ const EIGHT: usize = 544;
 const ALL: usize = 612;
 
 // How many policies and entries the table holds; none where no request asks for it.
-pub struct Rules {
+pub struct TableSize {
     pub policies: usize,
     pub entries: usize,
 }
@@ -206,16 +206,16 @@ fn count_request<'a>(
 }
 
 // The rules for a subject: none for the system.
-fn rules_for(system: bool, policies: usize, entries: usize) -> Rules
+fn rules_for(system: bool, policies: usize, entries: usize) -> TableSize
     ensures { λ r. ⌜ r ≡ record { policies = cond system 0 policies; entries = cond system 0 entries } ⌝ }
 {
     if system {
-        return Rules {
+        return TableSize {
             policies: 0,
             entries: 0,
         };
     }
-    Rules {
+    TableSize {
         policies: policies,
         entries: entries,
     }
@@ -317,7 +317,7 @@ fn clear(counts: &mut [u32])
 
 // The tally of requests that are all accepted: the places of columns and candidates are found once.
 pub fn count_all<'a>(
-    rules: Rules,
+    rules: TableSize,
     text: &'a [u8],
     table: &[u8],
     s: &'a [u8],

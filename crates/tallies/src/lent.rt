@@ -3,7 +3,7 @@ ghost use mathlib.Core.Path.{_≡_};
 ghost use Prim.Native.Nat.{_≤_};
 ghost use lib.ListN.{length};
 ghost use Rattle.targets.specs.Matching.{request};
-ghost use Rattle.tallies.specs.Lent.{requestsOf, spanned, PartFound, RequestFound};
+ghost use Rattle.tallies.specs.Lent.{requestsOf, spanBytes, PartFound, RequestFound};
 ghost use Rattle.tallies.specs.Tallies.{formOf, formsOf};
 use targets::forms::is_action;
 use targets::forms::is_system;
@@ -11,20 +11,20 @@ use targets::forms::resource_type;
 use targets::forms::subject_type;
 
 // Where a part lies.
-pub struct Span {
+pub struct LentSpan {
     pub start: usize,
     pub end: usize,
 }
 
 // Where the parts of a request lie. The next request starts at its resource's end.
-pub struct Spans {
-    pub subject: Span,
-    pub action: Span,
-    pub resource: Span,
+pub struct LentSpans {
+    pub subject: LentSpan,
+    pub action: LentSpan,
+    pub resource: LentSpan,
 }
 
 // The part behind the length byte at a place. What is not wholly there is empty, and so is everything behind it.
-fn part_at(requests: &[u8], at: usize) -> Span
+fn part_at(requests: &[u8], at: usize) -> LentSpan
     requires { ⌜ at ≤ length (now requests) ⌝ }
     ensures { λ r. ⌜ PartFound (now (requests .entry)) at r ⌝ }
 {
@@ -33,24 +33,24 @@ fn part_at(requests: &[u8], at: usize) -> Span
         let size = requests[at] as usize;
         let start = at + 1;
         if size <= n - start {
-            return Span {
+            return LentSpan {
                 start: start,
                 end: start + size,
             };
         }
     }
-    Span { start: n, end: n }
+    LentSpan { start: n, end: n }
 }
 
 // The request at a place.
-pub fn request_at(requests: &[u8], at: usize) -> Spans
+pub fn request_at(requests: &[u8], at: usize) -> LentSpans
     requires { ⌜ at ≤ length (now requests) ⌝ }
     ensures { λ r. ⌜ RequestFound (now (requests .entry)) at r ⌝ }
 {
     let subject = part_at(requests, at);
     let action = part_at(requests, subject.end);
     let resource = part_at(requests, action.end);
-    Spans {
+    LentSpans {
         subject: subject,
         action: action,
         resource: resource,
@@ -58,50 +58,50 @@ pub fn request_at(requests: &[u8], at: usize) -> Spans
 }
 
 // What is refused of a request by itself, 0 where nothing is; and whether the text and its table are looked at for it.
-pub struct Form {
+pub struct RequestForm {
     pub asks: bool,
     pub refusal: u8,
 }
 
 // The form of a request. Of the system nothing is refused, and no table is looked at.
-fn form_of(subject: &[u8], action: &[u8], resource: &[u8]) -> Form
+fn form_of(subject: &[u8], action: &[u8], resource: &[u8]) -> RequestForm
     ensures { λ r. ⌜ r ≡ formOf (request (now (subject .entry)) (now (action .entry)) (now (resource .entry))) ⌝ }
 {
     if is_system(subject) {
-        return Form {
+        return RequestForm {
             asks: false,
             refusal: 0,
         };
     }
     if subject_type(subject) == 0 {
-        return Form {
+        return RequestForm {
             asks: false,
             refusal: 21,
         };
     }
     if !is_action(action) {
-        return Form {
+        return RequestForm {
             asks: false,
             refusal: 22,
         };
     }
     if resource_type(resource) == 0 {
-        return Form {
+        return RequestForm {
             asks: false,
             refusal: 23,
         };
     }
-    Form {
+    RequestForm {
         asks: true,
         refusal: 0,
     }
 }
 
 // The form of the request whose parts lie there.
-fn form_at(requests: &[u8], spans: Spans, at: usize) -> Form
+fn form_at(requests: &[u8], spans: LentSpans, at: usize) -> RequestForm
     requires { ⌜ RequestFound (now requests) at spans ⌝ }
-    ensures { λ r. ⌜ r ≡ formOf (request (spanned (now (requests .entry)) (spans .subject)) (spanned (now (requests .entry)) (spans .action))
-        (spanned (now (requests .entry)) (spans .resource))) ⌝ }
+    ensures { λ r. ⌜ r ≡ formOf (request (spanBytes (now (requests .entry)) (spans .subject)) (spanBytes (now (requests .entry)) (spans .action))
+        (spanBytes (now (requests .entry)) (spans .resource))) ⌝ }
 {
     let subject_start = spans.subject.start;
     let subject_end = spans.subject.end;
@@ -117,7 +117,7 @@ fn form_at(requests: &[u8], spans: Spans, at: usize) -> Form
 }
 
 // The first of so many requests that is refused by itself: its refusal, and whether the text and its table are looked at for one before it.
-pub fn first_wrong(many: usize, requests: &[u8]) -> Form
+pub fn first_wrong(many: usize, requests: &[u8]) -> RequestForm
     ensures { λ r. ⌜ r ≡ formsOf (requestsOf many (now (requests .entry))) ⌝ }
 {
     let mut asks = false;
@@ -130,13 +130,13 @@ pub fn first_wrong(many: usize, requests: &[u8]) -> Form
         left -= 1;
         asks = asks | form.asks;
         if form.refusal != 0 {
-            return Form {
+            return RequestForm {
                 asks: asks,
                 refusal: form.refusal,
             };
         }
     }
-    Form {
+    RequestForm {
         asks: asks,
         refusal: 0,
     }

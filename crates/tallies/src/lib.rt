@@ -11,7 +11,7 @@ ghost use Rattle.compiling.specs.declared.Held.the-variants.{Right};
 ghost use Rattle.questions.specs.Questions.{Question};
 ghost use Rattle.tallies.specs.Lent.{requestsOf};
 ghost use Rattle.tallies.specs.Tallies.{groupCount, RequestsTallied, Tallied};
-use crate::counting::Rules;
+use crate::counting::TableSize;
 use crate::counting::count_all;
 use crate::lent::first_wrong;
 use bags::sections::Divided;
@@ -54,7 +54,7 @@ fn tally_asked<'a>(
         Held::Wrong => 20,
         Held::Right(policies, entries) => {
             if first.refusal == 0 {
-                let rules = Rules {
+                let rules = TableSize {
                     policies: policies,
                     entries: entries,
                 };

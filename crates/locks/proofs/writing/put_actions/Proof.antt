@@ -1,84 +1,47 @@
+-- `locks::writing::put_actions` meets its contract: what is left to put behind the place is the text of the strings left. Assumes nothing.
 use Rattle.locks.proofs.PutLaws.{rest-room}
 use native.Mathlib.Omega.{arith}
 use borrow.Author.Needs.{needs}
 use Rattle.locks.proofs.TestLaws.{actions-first, actions-end, actions-more, actions-left}
 use Rattle.locks.proofs.PutLaws.{Rest, rest-start, rest-last, rest-on}
 use Rattle.locks.proofs.ListedLaws.{some-left}
-use Rattle.locks.specs.Reading.{areSome, listed, actionStep, textOf, comma, actionsText}
+use Rattle.locks.specs.Reading.{areSome, thingsFrom, actionStep, textOf, betweenActions, actionsText}
 use Rattle.permits.specs.Permits.{quoted}
 use Rattle.slices.specs.Parts.{part}
-use lib.ListN.{length, length-append}
 use mathlib.Core.Bool.{true}
-use mathlib.Core.Path.{_≡_, ap}
-use Prim.Native.Nat.{_≤_, _-_}
+use mathlib.Core.Path.{_≡_}
 use Rattle.locks.proofs.writing.put_actions.Statement.{statement}
 use Rattle.locks.proofs.writing.put_actions.Tie as tie
-use Rattle.locks.proofs.writing.put_actions.Reads as reads
-use Rattle.locks.proofs.writing.put_actions.Lts as lts
-use Rattle.locks.proofs.actions.action_at.Reads as action-at-reads
-use Rattle.locks.proofs.writing.put.Reads as put-reads
-use Rattle.locks.proofs.writing.put_quoted.Reads as put-quoted-reads
 
 abbrev Inv-loop : tie.InvT-loop
 Inv-loop classes actions room₀ at left₀ next₀ end₀ t14 room left next end =
-    (areSome (listed left (actionStep actions) next) ≡ true)
-    × Rest room₀ at (actionsText actions) room end (textOf comma quoted (listed left (actionStep actions) next))
+    (areSome (thingsFrom left (actionStep actions) next) ≡ true)
+    × Rest room₀ at (actionsText actions) room end (textOf betweenActions quoted (thingsFrom left (actionStep actions) next))
 
 abbrev μ-loop : tie.MeasureT-loop
 μ-loop classes actions room₀ at left₀ next₀ end₀ t14 room left next end = left
 
--- src/writing.rt:134:5
 loop-holds : tie.Need-loop-holds Inv-loop μ-loop
 loop-holds c = (c .before .before .pre .0 .1, rest-start _ _ _)
 
--- src/writing.rt:135:13
-action-at-requires : tie.Need-action-at-requires Inv-loop μ-loop
-action-at-requires c κs = search needs
-
--- src/writing.rt:138:37
-sub-put-quoted : tie.Need-sub-put-quoted Inv-loop μ-loop
-sub-put-quoted c = search needs
-
--- src/writing.rt:138:37
-part-put-quoted-start : tie.Need-part-put-quoted-start Inv-loop μ-loop
-part-put-quoted-start c = search needs
-
--- src/writing.rt:138:37
-part-put-quoted-end : tie.Need-part-put-quoted-end Inv-loop μ-loop
-part-put-quoted-end c = search needs
-
--- src/writing.rt:138:9
 put-quoted-requires : tie.Need-put-quoted-requires Inv-loop μ-loop
 unfolding part
 put-quoted-requires c κs = omega (arith, actions-first _ _ _ _ (c .before .before .action-at .ensures) (c .before .before .before .loop .inv .0), c .before .before .before .loop .inv .1 .stop, c .before .before .before .loop .inv .1 .long)
 
--- src/writing.rt:140:13
-same-length : tie.Need-same-length Inv-loop μ-loop
-same-length c = search needs
-
--- src/writing.rt:140:13
 returns : tie.Need-returns Inv-loop μ-loop
 unfolding part
 returns c = rest-last (c .before .before .before .before .before .before .before .loop .inv .1) (actions-end _ _ _ _ (c .before .before .before .before .before .before .action-at .ensures) (c .before .before .before .before .before .before .before .loop .inv .0) (c .if1 .taken)) (c .before .before .before .put-quoted .ensures)
 
--- src/writing.rt:142:30
-slice-aggregate-put : tie.Need-slice-aggregate-put Inv-loop μ-loop
-slice-aggregate-put c = search needs
-
--- src/writing.rt:142:9
 put-requires : tie.Need-put-requires Inv-loop μ-loop
 unfolding part
-put-requires c κs = rest-room (c .before .before .before .before .before .before .before .before .before .loop .inv .1) comma _ (actions-more _ _ _ _ (c .before .before .before .before .before .before .before .before .action-at .ensures) (c .before .before .before .before .before .before .before .before .before .loop .inv .0) (c .before .before .if1 .left)) (c .before .before .before .before .before .put-quoted .ensures) (c .before .before .before .before .before .before .before .before .before .before .before .before .pre .1)
+put-requires c κs = rest-room (c .before .before .before .before .before .before .before .before .before .loop .inv .1) betweenActions _ (actions-more _ _ _ _ (c .before .before .before .before .before .before .before .before .action-at .ensures) (c .before .before .before .before .before .before .before .before .before .loop .inv .0) (c .before .before .if1 .left)) (c .before .before .before .before .before .put-quoted .ensures) (c .before .before .before .before .before .before .before .before .before .before .before .before .pre .1)
 
--- src/writing.rt:143:9
 sub-left : tie.Need-sub-left Inv-loop μ-loop
 sub-left c = omega (arith, some-left _ _ _ (c .before .before .before .before .before .before .before .before .before .before .before .before .loop .inv .0))
 
--- src/writing.rt:134:5
 loop-less : tie.Need-loop-less Inv-loop μ-loop
 loop-less c = omega (arith, some-left _ _ _ (c .before .before .before .before .before .before .before .before .before .before .before .before .loop .inv .0))
 
--- src/writing.rt:134:5
 loop-again : tie.Need-loop-again Inv-loop μ-loop
 unfolding part
 loop-again c = (
@@ -93,14 +56,14 @@ put-actions-spec =
     Inv-loop
     μ-loop
     loop-holds
-    action-at-requires
-    sub-put-quoted
-    part-put-quoted-start
-    part-put-quoted-end
+    (λ c κs. search needs)
+    (λ c. search needs)
+    (λ c. search needs)
+    (λ c. search needs)
     put-quoted-requires
-    same-length
+    (λ c. search needs)
     returns
-    slice-aggregate-put
+    (λ c. search needs)
     put-requires
     sub-left
     loop-less
