@@ -4,8 +4,8 @@
 #   indented lines           `permit ..` a text that is allowed by policy 1 with the bag of the page; `principal.grade = 3` an attribute of that bag
 #   `true`, `false` columns  conditions that are so with that bag; in a column `is` the row says it
 #   outcome, policy          what a text decides
-#   wrong, refused at, right a text that is refused with the row's number at that line and column, for so many bytes, and one that is not. A text is its code in turn, with `N times` before what is repeated,
-#                            and P at the start of a piece stands for permit(principal,action,resource)
+#   wrong, refused at, right a text that is refused with the row's number at that line and column, for so many bytes, and one that is not. A text is its code in turn, with `N times` before what is repeated
+#                            and `byte` before the number of a byte that no page can show, and P at the start of a piece stands for permit(principal,action,resource)
 #   Reserved, so no names    each word that follows is refused as a name
 #   at, bytes                the bytes of a bag or question, from top to bottom, named by the heading above
 #   root, path, kind, ..     what is looked up in that bag;  no bag, no question: bytes that are none
@@ -20,16 +20,18 @@ if [ -z "$archive" ]; then
     archive=target/staticlib/libdesk.a
 fi
 
-awk '
+LC_ALL=C awk '
 BEGIN { P = "permit(principal,action,resource)"; OFS = "\t" }
 function say(line) { said[++lines] = line }
 function code(words) { gsub(/`/, "", words); gsub("\001", "|", words); return words }
-# The text that a cell says: pieces of code, each once or `N times`.
+function digit(d) { return index("0123456789ABCDEF", d) - 1 }
+# The text that a cell says: pieces of code, each once or `N times`, and bytes by their numbers.
 function pieces(words, out, piece, times) {
     out = ""
-    while (match(words, /([0-9][0-9,]* times )?`[^`]*`/)) {
+    while (match(words, /(byte |[0-9][0-9,]* times )?`[^`]*`/)) {
         piece = substr(words, RSTART, RLENGTH); words = substr(words, RSTART + RLENGTH)
         times = 1
+        if (piece ~ /^byte /) { out = out sprintf("%c", 16 * digit(substr(piece, 7, 1)) + digit(substr(piece, 8, 1))); continue }
         if (piece ~ / times `/) { times = piece; sub(/ times .*/, "", times); gsub(/,/, "", times) }
         sub(/^[^`]*`/, "", piece); sub(/^P/, P, piece)
         for (piece = code(piece); times > 0; times--) out = out piece

@@ -13,8 +13,8 @@ extern "C" {
 #define DESK_LAID_OUT _Static_assert
 #endif
 
-#define DESK_VERSION "2.0"
-#define DESK_VERSION_MAJOR 2
+#define DESK_VERSION "3.0"
+#define DESK_VERSION_MAJOR 3
 #define DESK_VERSION_MINOR 0
 
 /* Outcomes of a decision and of a listed row. Yes is ALLOWED or SYSTEM. */
@@ -52,6 +52,7 @@ extern "C" {
 #define DESK_REFUSED_MANY_LITERALS 14u
 #define DESK_REFUSED_MANY_POLICIES 15u
 #define DESK_REFUSED_LONG_PATH 16u
+#define DESK_REFUSED_NOT_UTF8 17u
 
 /* of the other calls. */
 #define DESK_REFUSED_OTHER_TABLE 20u

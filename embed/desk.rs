@@ -2,7 +2,7 @@
 //! lend is as the desk asks for it. Link with libdesk.a.
 #![allow(dead_code)]
 
-pub const VERSION: &str = "2.0";
+pub const VERSION: &str = "3.0";
 
 // Outcomes of a decision and of a listed row. Yes is ALLOWED or SYSTEM.
 pub const ALLOWED: u32 = 1;
@@ -39,6 +39,7 @@ pub const REFUSED_PATTERN: u32 = 13;
 pub const REFUSED_MANY_LITERALS: u32 = 14;
 pub const REFUSED_MANY_POLICIES: u32 = 15;
 pub const REFUSED_LONG_PATH: u32 = 16;
+pub const REFUSED_NOT_UTF8: u32 = 17;
 
 // of the other calls.
 pub const REFUSED_OTHER_TABLE: u32 = 20;

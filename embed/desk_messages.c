@@ -16,10 +16,11 @@ const char *desk_message(uint32_t refusal) {
     case DESK_REFUSED_NOT_ADMITTED: return "Something else must stand here, or the text ends inside a policy.";
     case DESK_REFUSED_ACTION_PATH: return "The action has one attribute only, action.name.";
     case DESK_REFUSED_DEPTH: return "Conditions nest deeper than 32 levels.";
-    case DESK_REFUSED_PATTERN: return "The pattern has more than 100 bytes, more than 5 wildcards, or a square bracket, a brace or two stars in turn.";
+    case DESK_REFUSED_PATTERN: return "The pattern has more than 100 characters, more than 5 wildcards, or a square bracket, a brace or two stars in turn.";
     case DESK_REFUSED_MANY_LITERALS: return "The list has more than 16 literals.";
     case DESK_REFUSED_MANY_POLICIES: return "The text has more than 64 policies.";
     case DESK_REFUSED_LONG_PATH: return "The path of the attribute has more than 64 bytes.";
+    case DESK_REFUSED_NOT_UTF8: return "The string is not UTF-8; save the rules as UTF-8, and write the string again.";
     case DESK_REFUSED_OTHER_TABLE: return "The table is not the one that this rule text compiles to, or the text is refused.";
     case DESK_REFUSED_SUBJECT: return "The subject is not system, and not person: or tool: and an id, or has more than 100 bytes.";
     case DESK_REFUSED_ACTION: return "The action is empty or has more than 100 bytes.";

@@ -42,11 +42,16 @@ static bool add_word(struct asked *a, const char *line) {
     return true;
 }
 
-// The string behind a quote, where a quote that follows a backslash is part of it; gives what stands behind it.
+// The string behind a quote, where a quote that follows a backslash is part of it, and \xFC is a byte; gives what stands behind it.
 static const char *string(const char *at, char *s, size_t *n) {
     for (*n = 0, at++; *at != '"' && *at != 0; at++) {
+        char byte[3] = {0};
         if (*at == '\\') at++;
-        s[(*n)++] = *at;
+        if (at[0] == 'x' && at[-1] == '\\') {
+            memcpy(byte, at + 1, 2);
+            at += 2;
+        }
+        s[(*n)++] = byte[0] != 0 ? (char)strtoul(byte, NULL, 16) : *at;
     }
     s[*n] = 0;
     return at + 1;

@@ -41,6 +41,10 @@ static void refusals(void) {
     CHECK(compiled(desk_compile(LENT("permit(principal,action,resource)"), table, 400), DESK_REFUSED_NOT_ADMITTED, 1, 34, 0));
     CHECK(compiled(desk_compile(LENT("\n permit(principal is lift"), table, 400), DESK_REFUSED_TYPE, 2, 22, 4));
     CHECK(compiled(desk_compile(LENT("permit \"teach "), table, 400), DESK_REFUSED_UNENDED_STRING, 1, 8, 7));
+    // columns are characters, and in a string that is not UTF-8 bytes; lengths are bytes
+    CHECK(compiled(desk_compile(LENT("permit(principal,action in[\"\xC3\xBC\",\"\xFC\"],resource);"), table, 400), DESK_REFUSED_NOT_UTF8, 1, 32, 3));
+    CHECK(compiled(desk_compile(LENT("permit(principal,action in[\"\xC3\xBC\1\"],resource);"), table, 400), DESK_REFUSED_BYTE, 1, 30, 1));
+    CHECK(compiled(desk_compile(LENT("permit(principal,action in[\"\xC3\xBC\1\xFF\"],resource);"), table, 400), DESK_REFUSED_BYTE, 1, 31, 1));
     // a table that is not the text's
     CHECK(!desk_begins(TEXT, table, 400));
     // decide: 21, 22, 23, 24, 20, in this order

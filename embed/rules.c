@@ -25,6 +25,19 @@ static void check(bool holds, const char *line) {
 
 // ---- attributes, as the pages write them
 
+// What stands for a byte in a string of a page, \xFC, becomes that byte; gives the length that is left.
+static size_t with_bytes(char *s, size_t n) {
+    size_t kept = 0;
+    for (size_t at = 0; at < n; kept++) {
+        char digits[3] = {0};
+        bool byte = at + 3 < n && s[at] == '\\' && s[at + 1] == 'x';
+        if (byte) memcpy(digits, s + at + 2, 2);
+        s[kept] = byte ? (char)strtoul(digits, NULL, 16) : s[at];
+        at += byte ? 4 : 1;
+    }
+    return kept;
+}
+
 static bool set_list(uint8_t root, DeskPath path, const char *at) {
     if (desk_bag_list(&bag, root, path) != DESK_WROTE) return false;
     while ((at = strchr(at, '"')) != NULL) {
@@ -40,8 +53,8 @@ static bool set_attribute(char *line) {
     if (dot == NULL || equals == NULL) return false;
     uint8_t root = *line == 'p' ? DESK_ROOT_PRINCIPAL : *line == 'r' ? DESK_ROOT_RESOURCE : DESK_ROOT_ENV;
     DeskPath path = desk_path(dot + 1, (size_t)(equals - dot - 1));
-    const char *value = equals + 3;
-    if (*value == '"') return desk_bag_string(&bag, root, path, value + 1, strlen(value) - 2) == DESK_WROTE;
+    char *value = equals + 3;
+    if (*value == '"') return desk_bag_string(&bag, root, path, value + 1, with_bytes(value + 1, strlen(value) - 2)) == DESK_WROTE;
     if (*value == '[') return set_list(root, path, value);
     if (*value == 't' || *value == 'f') return desk_bag_flag(&bag, root, path, *value == 't') == DESK_WROTE;
     return desk_bag_number(&bag, root, path, strtod(value, NULL)) == DESK_WROTE;
@@ -138,7 +151,7 @@ int main(void) {
     static char line[LONGEST];
     desk_bag_begin(&bag, attributes, sizeof attributes);
     while (fgets(line, sizeof line, stdin) != NULL) ask(line);
-    for (unsigned r = DESK_REFUSED_LONG_TEXT; r <= DESK_REFUSED_LONG_PATH; r++)
+    for (unsigned r = DESK_REFUSED_LONG_TEXT; r <= DESK_REFUSED_NOT_UTF8; r++)
         if (r != DESK_REFUSED_SMALL_TABLE && !seen[r]) check(false, "a refusal of texts without an example");
     printf("%d examples, %d failed\n", asked, failed);
     return failed != 0 || asked < 100;

@@ -81,6 +81,12 @@ static void texts(void) {
     CHECK(condition("1 in [1", DESK_MOST_LITERALS, ",1", "]") == DESK_REFUSED_MANY_LITERALS);
     CHECK(condition("1 like \"", DESK_MOST_PATTERN, "a", "\"") == 0);
     CHECK(condition("1 like \"", DESK_MOST_PATTERN + 1, "a", "\"") == DESK_REFUSED_PATTERN);
+    // a pattern's characters are counted, a string's bytes
+    CHECK(condition("1 like \"", DESK_MOST_TEXT_STRING - DESK_MOST_PATTERN, "\u00FC", "aaaaaaaaaaaaaaaaaaaaaaaaaaaaaaaaaaaaaaaaaaaaaaaaaaaaaaaaaaaaaaaaaaaaaaaaa\"") == 0);
+    CHECK(condition("1 like \"", DESK_MOST_TEXT_STRING / 2, "\u00FC", "\"") == 0);
+    CHECK(condition("1 like \"", DESK_MOST_TEXT_STRING / 2 + 1, "\u00FC", "\"") == DESK_REFUSED_LONG_TOKEN);
+    CHECK(condition("1 == \"", 1, "\xFC", "\"") == DESK_REFUSED_NOT_UTF8);
+    CHECK(condition("1 like \"", DESK_MOST_PATTERN + 1, "\x80", "\"") == DESK_REFUSED_NOT_UTF8);
     CHECK(condition("1 like \"", DESK_MOST_WILDCARDS, "*a", "\"") == 0);
     CHECK(condition("1 like \"", DESK_MOST_WILDCARDS + 1, "*a", "\"") == DESK_REFUSED_PATTERN);
     CHECK(nested(DESK_MOST_LEVELS) == 0);

@@ -120,6 +120,8 @@ rm "$work/f/request.txt"
 tried 1 'request.txt: it is taken as empty' "$desk" sheet "$work/f" --missing-is-empty
 asked "$rules" "${request}principal.grade: 3"
 tried 2 'question.txt:4:16: expected = and a value after the attribute' "$desk" sheet "$work/f"
+asked "$rules" "${request}principal.name = \"Süd\" x"
+tried 2 'question.txt:4:24: ' "$desk" sheet "$work/f"
 
 # What was hardly meant.
 while IFS='|' read -r old new words; do
@@ -134,6 +136,8 @@ absent . 3 . 2.5|"3"|principal.grade is never a number in this question: the com
 "own" . "loan"|true|principal.hired is never a string in this question: the comparison is always false
 person:K7|system|the subject is system: the answer is yes without a look at the rules
 CASES
+tried 0 'policy 1 has resource.name like "S?d", but "S\xFCd" is not UTF-8: no pattern matches it' "$desk" sheet "$root/examples/south"
+tried 0 'rows 5 1 1 1 2 1 1 allowed 2' "$desk" sheet "$root/examples/south"
 asked "" "$request"
 tried 0 'has no policy: nothing is allowed' "$desk" sheet "$work/f"
 asked 'permit(principal, action, resource is record);' "$request"
@@ -161,7 +165,11 @@ permit(principal is person:K7, action, resource);|A colon stands outside a strin
 permit(principal, action == "teach", resource);|expected `in` or `,` in the policy that begins in line 1
 \0357\0273\0277ANY;|a byte order mark: save the file without one
 ANY when { env.a == "x };|A string begins here and has no closing quote
+ANY when { env.a == "S\0374d" };|This string is not UTF-8: its byte 2 is 0xFC, and no character. Save the rules as UTF-8
+ANY when { env.a like "**\0303" };|Refused, number 17.
 CASES
+asked 'permit(principal, action, resource) when { resource.name == "Süd" && resource.name };' "$request"
+tried 1 'line 1, column 84:' "$desk" check "$work/f"
 
 # Requests that are refused.
 asked "$rules" "${request/person:K7/dog:1}$columns"
@@ -263,6 +271,7 @@ word firm = principal.a, number~firm:own~The vocabulary has the word firm alread
 word a = principal.in, number~firm:own~This is no path
 MANY~firm:own~This is the 17th word
 actions = "a\\x22"~firm:own~This is no string of rule texts
+resource = "shaft:S\\xFCd"~firm:own~This string is not UTF-8, as strings of rule texts are
 CASES
 
 # Two at once, as they are called: each with a folder of its own, so that each proves what is missing, one after the other.

@@ -3,14 +3,16 @@ use mathlib.Core.Path.{_≡_, refl, _∙_, sym, ap, ap₂}
 use mathlib.Core.Logic.{_⊎_, inl, inr, ⊎-elim}
 use mathlib.Core.Bool.{Bool, true, false, cond}
 use mathlib.Core.List.{List, [], _∷_, _++_}
-use Prim.Native.Nat.{ℕ, _+_, _*_, _≤_, _<_}
+use Prim.Native.Nat.{ℕ, zero, suc, _+_, _*_, _≤_, _<_}
 use native.Mathlib.Omega.{arith}
 use lib.Dec.{ltb, eqb}
 use lib.ListN.{length, take, drop}
 use lib.Seq.{take-at, drop-at}
 use borrow.Author.Tests.{le-ltb, ltb-true, ltb-false}
+use Rattle.tokens.specs.declared.places.Counting.{Counting}
+use Rattle.tokens.specs.declared.places.Counting.the-variants.{Outside}
 use Rattle.tokens.specs.declared.places.Place.{Place}
-use Rattle.tokens.specs.Places.{place, past, pastAll, placeOf}
+use Rattle.tokens.specs.Places.{place, behindByte, columnsTaken, past, pastAll, placeOf}
 use Rattle.tokens.specs.Sizes.{mostTextBytes}
 use Rattle.reading.specs.Lexemes.{Lexeme, choose, tokensOf}
 use Rattle.reading.specs.Reader as reader
@@ -108,18 +110,19 @@ accepted text room policies bytes l h = (
 -- ---- refusal
 
 -- every line has a number from 1 on
-past-line : (b : ℕ) (p : Place) → 1 ≤ p .line → 1 ≤ past b p .line
+past-line : (k : Counting) (b : ℕ) (p : Place) → 1 ≤ p .line → 1 ≤ past k b p .line
 unfolding past
-past-line b p h = go (eqb b 10)
+past-line k b p h = go (eqb b 10)
   where
-    go : (o : Bool) → 1 ≤ cond o (place (p .line + 1) 1) (place (p .line) (p .column + 1)) .line
+    go : (o : Bool) → 1 ≤ cond o (place (p .line + 1) 1) (place (p .line) (p .column + columnsTaken k b)) .line
     go true = omega arith
     go false = h
 
-line-from : (l : List ℕ) (p : Place) → 1 ≤ p .line → 1 ≤ pastAll l p .line
+line-from : (n : ℕ) (l : List ℕ) (k : Counting) (p : Place) → 1 ≤ p .line → 1 ≤ pastAll n l k p .line
 unfolding pastAll
-line-from [] p h = h
-line-from (b ∷ l) p h = line-from l (past b p) (past-line b p h)
+line-from zero l k p h = h
+line-from (suc n) [] k p h = h
+line-from (suc n) (b ∷ l) k p h = line-from n l (behindByte b l k) (past k b p) (past-line k b p h)
 
 -- a refusal with no place is one by the sizes
 sized : (text : List ℕ) (room number : ℕ) → compiledOf text room ≡ Refused number nowhere → foundOf text room ≡ Unfit number
@@ -129,7 +132,7 @@ sized text room number e = go (foundOf text room) e
     go : (x : Found) → toldOf text x ≡ Refused number nowhere → x ≡ Unfit number
     go (Accepted p n) e = absurd (let z : _≡_ {A = ℕ} 0 1 = cc in omega arith)
     go (Unfit n) e = cc
-    go (Turned f) e = absurd (let y : spotOf text (f .start) (f .size) ≡ nowhere = cc in let z : placeOf text (f .start) .line ≡ 0 = ap (λ (s : Spot). s .line) y in let y = line-from (take (f .start) text) (place 1 1) (omega arith) in omega arith)
+    go (Turned f) e = absurd (let y : spotOf text (f .start) (f .size) ≡ nowhere = cc in let z : placeOf text (f .start) .line ≡ 0 = ap (λ (s : Spot). s .line) y in let y = line-from (f .start) text Outside (place 1 1) (omega arith) in omega arith)
 
 unfit-is : (text : List ℕ) (room number : ℕ) → foundOf text room ≡ Unfit number
     → ((mostTextBytes < length text) × (number ≡ 1)) ⊎ (((length text ≤ mostTextBytes) × (room < roomFor text)) × (number ≡ 2))

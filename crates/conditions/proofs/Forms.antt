@@ -12,11 +12,12 @@ use Rattle.tokens.specs.Kinds as kinds
 use Rattle.tokens.specs.declared.reader.Token.{Token}
 use Rattle.tokens.specs.Tokens.{tokenAt}
 use Rattle.reading.specs.Lexemes.{Lexeme, lexeme, is, choose, stream}
-use Rattle.reading.specs.Reader.{Reader, took, numbered, refuseBy, bind, on, ten, before, mapped}
+use Rattle.reading.specs.Reader.{Reader, took, numbered, refuseBy, bind, on, before, mapped}
 use Rattle.reading.proofs.Stream.{stream-end, stream-token, next-on, next-off}
 use Rattle.grammar.specs.Policies.{Tree, literal, choice}
 use Rattle.grammar.specs.Rules.{isLiteral, literalOf, isRoot, rootOf}
-use Rattle.grammar.specs.Parser.{noLevel, read-operator, read-rooted, read-simple, read-negated, read-bracketed, read-conditional, read-deeper, read-condition}
+use Rattle.grammar.specs.Parser.{noText, noLevel, isTextOf, read-operator, read-rooted, read-simple, read-negated, read-bracketed, read-conditional, read-deeper, read-condition}
+use Rattle.grammar.proofs.Completeness.{no-sort-of, of-sort}
 use Rattle.parts.specs.Names.{rootFrom}
 use Rattle.parts.proofs.Sorts.{literal-some, root-some}
 
@@ -37,7 +38,7 @@ deeper-is zero h = absurd (h refl)
 deeper-is (suc d) h = rw sub-one
 
 module _ (text : List ℕ) (t : Token) where
-  level : (t .kind ≡ kinds.bang → ⊥) → (t .kind ≡ kinds.leftRound → ⊥) → (t .kind ≡ kinds.ifWord → ⊥) → ten (lexeme text t) ≡ noLevel (lexeme text t)
+  level : (t .kind ≡ kinds.bang → ⊥) → (t .kind ≡ kinds.leftRound → ⊥) → (t .kind ≡ kinds.ifWord → ⊥) → noText (lexeme text t) ≡ noLevel (lexeme text t)
   unfolding noLevel
   level n₁ n₂ n₃ = rw (ne-eqb _ _ n₁, ne-eqb _ _ n₂, ne-eqb _ _ n₃)
 
@@ -51,27 +52,27 @@ module _ (text : List ℕ) (t : Token) where
 
   simple-same : (inner : Reader Tree) → read-deeper inner (stream text t) ≡ refuseBy noLevel (stream text t) → read-simple (read-deeper inner) (stream text t) ≡ read-condition 0 (stream text t)
   unfolding read-condition read-simple
-  simple-same inner h = on-same isLiteral _ _ _ (stream text t) (on-same isRoot _ _ _ (stream text t) h)
+  simple-same inner h = on-same (isTextOf isLiteral) _ _ _ (stream text t) (on-same isRoot _ _ _ (stream text t) h)
 
   module _ (n : Token) (q : n ≡ tokenAt text (t .end)) (high : t .end ≤ length text) where
-    pub literal-first : isLiteral (lexeme [] t) ≡ true → read-condition 0 (stream text t) ≡ read-operator (literal (literalOf (lexeme text t))) (stream text n)
+    pub literal-first : isTextOf isLiteral (lexeme text t) ≡ true → read-condition 0 (stream text t) ≡ read-operator (literal (literalOf (lexeme text t))) (stream text n)
     unfolding read-condition read-simple
-    literal-first e = next-on text t isLiteral _ _ n (literal-some (lexeme [] t) e) high q e
+    literal-first e = next-on text t (isTextOf isLiteral) _ _ n (literal-some (lexeme text t) (of-sort isLiteral (lexeme text t) e)) high q e
 
-    module _ (n₁ : isLiteral (lexeme [] t) ≡ false) where
+    module _ (n₁ : isTextOf isLiteral (lexeme text t) ≡ false) where
       pub root-first : isRoot (lexeme [] t) ≡ true → read-condition 0 (stream text t) ≡ read-rooted (rootFrom (t .kind)) (stream text n)
       unfolding read-condition read-simple rootOf
-      root-first e = next-off text t isLiteral _ _ n₁ ∙ next-on text t isRoot _ _ n (root-some (lexeme [] t) e) high q e
+      root-first e = next-off text t (isTextOf isLiteral) _ _ n₁ ∙ next-on text t isRoot _ _ n (root-some (lexeme [] t) e) high q e
 
       pub none-first : isRoot (lexeme [] t) ≡ false → read-condition 0 (stream text t) ≡ refuseBy noLevel (stream text t)
       unfolding read-condition read-simple
-      none-first e = next-off text t isLiteral _ _ n₁ ∙ next-off text t isRoot _ _ e
+      none-first e = next-off text t (isTextOf isLiteral) _ _ n₁ ∙ next-off text t isRoot _ _ e
 
     module _ (d : ℕ) (deep : d ≡ 0 → ⊥) where
       -- a token that is no literal and no root goes one deeper
       deeper-first : isLiteral (lexeme text t) ≡ false → isRoot (lexeme text t) ≡ false → read-condition d (stream text t) ≡ read-deeper (read-condition (d - 1)) (stream text t)
       unfolding read-simple
-      deeper-first l r = rw (deeper-is d deep) (next-off text t isLiteral _ _ l ∙ next-off text t isRoot _ _ r)
+      deeper-first l r = rw (deeper-is d deep) (next-off text t (isTextOf isLiteral) _ _ (no-sort-of isLiteral (lexeme text t) l) ∙ next-off text t isRoot _ _ r)
 
       pub negation-first : t .kind ≡ kinds.bang → read-condition d (stream text t) ≡ read-negated (read-condition (d - 1)) (stream text n)
       unfolding read-deeper
@@ -96,7 +97,7 @@ module _ (text : List ℕ) (t : Token) where
           unfolding read-deeper
           flat-first n₃ = rw (deeper-is d deep) (simple-same (read-condition (d - 1)) (
               next-off text t (is kinds.bang) _ _ (ne-eqb _ _ n₁) ∙ next-off text t (is kinds.leftRound) _ _ (ne-eqb _ _ n₂) ∙ next-off text t (is kinds.ifWord) _ _ (ne-eqb _ _ n₃)
-              ∙ refused-same ten noLevel (level n₁ n₂ n₃)))
+              ∙ refused-same noText noLevel (level n₁ n₂ n₃)))
 
 -- a choice after its first part
 pub choice-second : (inner : Reader Tree) (i : List Lexeme) {m : List Lexeme} {a : Tree} → before kinds.thenWord inner i ≡ took a m

@@ -22,8 +22,9 @@ use leaves::read_rooted;
 use parts::answers::Answer;
 use parts::answers::Refusal;
 use parts::answers::turned_away;
-use parts::lists::is_literal;
+use parts::lists::is_text_literal;
 use parts::lists::literal_entry;
+use parts::lists::no_text;
 use parts::paths::is_root;
 use parts::refusals;
 use table::Entry;
@@ -138,7 +139,7 @@ fn no_level(t: Token) -> u8
     if (k == b'!') | (k == b'(') | (k == kinds::IF) {
         refusals::TOO_DEEP
     } else {
-        refusals::NOT_ADMITTED
+        no_text(t)
     }
 }
 
@@ -189,7 +190,7 @@ fn read_flat(
         (read-condition 0 (stream (now (text .entry)) t)) r ⌝ }
 {
     let next = next_token(classes, text, t.end);
-    if is_literal(t) {
+    if is_text_literal(text, t) {
         return read_operator(
             classes,
             text,

@@ -7,7 +7,9 @@ use Rattle.tokens.proofs.Longest.{longest-token, one-token}
 use Rattle.reading.proofs.Listed.{tokens-stand, one-list}
 use Rattle.numbers.proofs.Rounded.{rounded-once}
 use Rattle.numbers.proofs.Spelled.{written-value}
-use Rattle.patterns.proofs.Computed.{likes-decides}
+use Rattle.utf8.proofs.Readings.{says-exactly}
+use Rattle.tokens.proofs.PlaceLaws.{one-column}
+use Rattle.patterns.proofs.Computed.{likes-decides, text-decides}
 use Rattle.placing.specs.Words.{AllSaidAlike}
 use Rattle.placing.proofs.Theorems.{policies-placed}
 use Rattle.placing.proofs.Words.{all-said-alike}
@@ -43,7 +45,10 @@ grounds = record {
   one-list = λ text ts us a b. one-list text a b;
   written-value = written-value;
   rounded-once = rounded-once;
+  characters-exactly = says-exactly;
+  one-column = one-column;
   likes-decides = likes-decides;
+  text-decides = text-decides;
   policies-placed = λ text ps s. policies-placed text ps (read-as text ps s);
   compiled-says = λ text table ps s b. compiled-says (record { short = s .short; read = read-as text ps s }) b;
   said-alike = all-said-alike;

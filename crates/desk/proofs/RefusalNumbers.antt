@@ -1,4 +1,4 @@
--- The numbers that a refused text can get for a token, 3 to 16, since no token of a text has a kind below 3; and the token's length. Assumes nothing.
+-- The numbers that a refused text can get for a token, 3 to 17, since no token of a text has a kind below 3; and the token's length. Assumes nothing.
 use mathlib.Core.Path.{_≡_, refl, sym, ap, _∙_}
 use mathlib.Core.Logic.{⊎-elim}
 use mathlib.Core.Bool.{Bool, true, false}
@@ -110,7 +110,7 @@ all-kinded text = kinded text (suc (length text)) 0 (omega arith)
 -- ---- the numbers
 
 abbrev Between : ℕ → Type 0
-Between n = (3 ≤ n) × (n ≤ 16)
+Between n = (3 ≤ n) × (n ≤ 17)
 
 -- a row that applies to a token
 row-number : {text : List ℕ} {b : List Lexeme} {x : Lexeme} {n : ℕ} → Kinded text x → Applies b x n → Between n

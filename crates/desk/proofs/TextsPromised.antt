@@ -67,14 +67,14 @@ module _ (text table : List ℕ) where
 
   -- ---- demand 1
 
-  number-few : {c : Compiled} → Told c → compileSaid c .refusal ≤ 16
+  number-few : {c : Compiled} → Told c → compileSaid c .refusal ≤ 17
   unfolding compileSaid
   number-few (told-accepted ps s h e) = rw e (omega arith)
   number-few (told-long l e) = rw e (omega arith)
   number-few (told-no-room l h e) = rw e (omega arith)
   number-few (told-broken number at l h r e) = rw e (token-number r .1)
 
-  pub compile-refusals : compileSays text table .refusal ≤ 16
+  pub compile-refusals : compileSays text table .refusal ≤ 17
   unfolding compileSays
   compile-refusals = number-few told
 

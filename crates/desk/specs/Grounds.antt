@@ -10,15 +10,18 @@ use lib.Ieee.{binary64, ofInt, div}
 use lib.ListN.{length, getD}
 use lib.IntN.{pos}
 use Rattle.slices.specs.Decides.{Decides}
+use Rattle.utf8.specs.Characters.{Spells, Utf8}
+use Rattle.utf8.specs.Reading.{utf8, points}
 use Rattle.tokens.specs.Forms.{StandsAt}
+use Rattle.tokens.specs.Places.{OneColumn}
 use Rattle.tokens.specs.Tokens.{tokenAt}
 use Rattle.tokens.specs.declared.reader.Token.{Token}
 use Rattle.tokens.specs.Sizes.{mostDigits}
 use Rattle.reading.specs.Listed.{Lexeme, TokensOf}
 use Rattle.reading.specs.Lexemes.{tokensOf}
-use Rattle.numbers.specs.Literals.{NumberLiteral, WellFormed, written, signed, quotient, allDigits, places, numberIn}
+use Rattle.numbers.specs.Literals.{NumberLiteral, WellFormed, literalBytes, signed, quotient, allDigits, places, numberIn}
 use Rattle.patterns.specs.Like.{Matches}
-use Rattle.patterns.specs.Likes.{likes}
+use Rattle.patterns.specs.Likes.{likes, likesText}
 use Rattle.grammar.specs.Policies.{Policy}
 use Rattle.placing.specs.Placed.{Each, PoliciesPlaced}
 use Rattle.placing.specs.Said.{wordsOf}
@@ -66,11 +69,16 @@ pub record Grounds : Type 0 where
   pub tokens-stand : (text : List ℕ) → TokensOf text 0 (tokensOf text)
   pub one-list : (text : List ℕ) (ts us : List Lexeme) → TokensOf text 0 ts → TokensOf text 0 us → ts ≡ us
   -- A number literal of digits N with k after the point: its value is N divided by ten to the k, rounded once to binary64, negated under a minus.
-  pub written-value : (l : NumberLiteral) → WellFormed l → numberIn (written l) ≡ signed (l .negative) (quotient (allDigits l) (places l))
+  pub written-value : (l : NumberLiteral) → WellFormed l → numberIn (literalBytes l) ≡ signed (l .negative) (quotient (allDigits l) (places l))
   -- the one division of two whole numbers is that quotient
   pub rounded-once : (n k : ℕ) → n ≤ 10 ^ mostDigits → k ≤ mostDigits → div binary64 (ofInt binary64 (pos n)) (ofInt binary64 (pos (10 ^ k))) ≡ quotient n k
-  -- `like` matches as document 01 says.
+  -- Bytes are UTF-8, and say these characters, exactly as RFC 3629's table has it.
+  pub characters-exactly : (s numbers : List ℕ) → Spells s numbers ↔ ((utf8 s ≡ true) × (numbers ≡ points s))
+  -- Where characters count, a character takes one column, however many bytes it has.
+  pub one-column : OneColumn
+  -- `like` matches as document 01 says, over characters (document 02, request 5): a string that is not UTF-8 matches no pattern.
   pub likes-decides : (pattern s : List ℕ) → Decides (Matches pattern s) (likes pattern s)
+  pub text-decides : (pattern s : List ℕ) → Decides (Utf8 s × Matches (points pattern) (points s)) (likesText pattern s)
   -- The strings, numbers and paths of a text's policies lie in the text and have their forms and sizes there.
   pub policies-placed : (text : List ℕ) (ps : List Policy) → Says text ps → PoliciesPlaced text ps
   -- A table that begins with a text's compiled bytes says the text's policies.

@@ -64,12 +64,12 @@ use Rattle.desk.specs.declared.DeskLock.{DeskLock}
 
 pub record DemandOne : Type 0 where
   -- the refusals that each call can give; 0 is none
-  pub compile-refusals : (text table : List ℕ) → compileSays text table .refusal ≤ 16
+  pub compile-refusals : (text table : List ℕ) → compileSays text table .refusal ≤ 17
   pub decide-refusals : (c : DecideCall) → List·Memᴰ (decisionFor c .refusal) (0 ∷ 20 ∷ 21 ∷ 22 ∷ 23 ∷ 24 ∷ [])
   pub lookup-refusals : (bag : List ℕ) (root : ℕ) (path : List ℕ) → List·Memᴰ (lookupSays bag root path .refusal) (0 ∷ 24 ∷ [])
   pub sheet-refusals : (c : SheetCall) → List·Memᴰ (pageFor c .refusal) (0 ∷ 20 ∷ 21 ∷ 22 ∷ 23 ∷ 24 ∷ 25 ∷ 26 ∷ [])
   pub tally-refusals : (c : TallyCall) → List·Memᴰ (refusalFor c) (0 ∷ 20 ∷ 21 ∷ 22 ∷ 23 ∷ 24 ∷ 27 ∷ [])
-  -- refusals 3 to 16 stand at the one token before which nothing is broken and at which a rule is, with its line, column and length; 1 and 2 have the
+  -- refusals 3 to 17 stand at the one token before which nothing is broken and at which a rule is, with its line, column and length; 1 and 2 have the
   -- place 0, 0 and the length 0
   pub placed : (text table : List ℕ) → 2 < compileSays text table .refusal
       → RefusedThere text (compileSays text table .refusal) (spotSaid (compileSays text table))
@@ -384,7 +384,7 @@ pub record LookUps : Type 0 where
 pub record Refusals : Type 0 where
   pub too-long : (text table : List ℕ) → (compileSays text table .refusal ≡ 1) ↔ (mostTextBytes < length text)
   pub no-room : (text table : List ℕ) → (compileSays text table .refusal ≡ 2) ↔ ((length text ≤ mostTextBytes) × (length table < roomFor text))
-  -- 3 to 16, where the sizes are right: exactly by the number, at the line and column, and with the length, of the one token at which a rule is first broken
+  -- 3 to 17, where the sizes are right: exactly by the number, at the line and column, and with the length, of the one token at which a rule is first broken
   pub token-exactly : (text table : List ℕ) (number line column size : ℕ) → length text ≤ mostTextBytes → roomFor text ≤ length table → 2 < number
       → (compileSays text table ≡ record { refusal = number; line = line; column = column; length = size; policies = 0; bytes = 0 })
       ↔ RefusedThere text number (spot line column size)

@@ -8,7 +8,7 @@ use native.Mathlib.Omega.{arith}
 use Rattle.grammar.specs.Policies.{Comparator.Equal, Tree, TreeOf, constant, compare, like, among, within, contains, has, brackets, both, either, choice}
 use Rattle.grammar.specs.Policies as tree
 use Rattle.views.specs.Meaning.{View}
-use Rattle.patterns.specs.Likes.{likes}
+use Rattle.patterns.specs.Likes.{likesText}
 use Rattle.placing.specs.Said.{Word, treeWords}
 use Rattle.meaning.specs.Values.{literalValue, attributeValue, operandValue, ifText, ifTexts, compares}
 use Rattle.meaning.specs.Conditions.{told, given, givenBoth, settled, negated, bothOf, eitherOf, choiceOf, some, asked, amongStrings, had, verdict}
@@ -73,7 +73,7 @@ joins t view = record {
 unfoldable pub verdictBy : (Verdict → Verdict) → View → TreeOf Word → Verdict
 verdictBy f view (constant b) = told b
 verdictBy f view (compare c a b) = f (givenBoth (operandValue view a) (operandValue view b) (compares c (operandValue view a) (operandValue view b)))
-verdictBy f view (like a s) = f (given (operandValue view a) (ifText (operandValue view a) (likes s)))
+verdictBy f view (like a s) = f (given (operandValue view a) (ifText (operandValue view a) (likesText s)))
 verdictBy f view (among a ls) = f (given (operandValue view a) (some (λ l. compares Equal (operandValue view a) (literalValue l)) ls))
 verdictBy f view (within a root s) =
     f (givenBoth (operandValue view a) (attributeValue view root s) (ifText (operandValue view a) λ x. ifTexts (attributeValue view root s) λ l. amongStrings l x))

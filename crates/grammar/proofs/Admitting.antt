@@ -3,11 +3,11 @@ use mathlib.Core.Path.{_≡_, refl, sym, ap, _∙_}
 use mathlib.Core.Logic.{_⊎_, inl, inr, ⊎-elim}
 use mathlib.Core.Bool.{Bool, true, false, cond, _&&_}
 use mathlib.Core.List.{List, [], _∷_, _++_, reverse, reverseAux, append-nil, reverseAux-eq, reverseAux-append, reverse-reverse}
-use Prim.Native.Nat.{ℕ, _+_, _≤_}
+use Prim.Native.Nat.{ℕ, _+_, _≤_, _<_}
 use native.Mathlib.Omega.{arith}
-use lib.Dec.{eqb}
+use lib.Dec.{eqb, ltb}
 use lib.ListN.{length}
-use borrow.Author.Tests.{eqb-true, eqb-false}
+use borrow.Author.Tests.{eqb-true, eqb-false, ltb-true, ltb-false}
 use Rattle.slices.specs.Same as strings
 use Rattle.tokens.specs.Kinds as kinds
 use Rattle.tokens.proofs.TokenLaws.{never, and-left, and-right, or-cases}
@@ -23,7 +23,7 @@ use Rattle.grammar.specs.Grammar.{lifting, Beyond, sizesBefore, unlimite
 use Rattle.grammar.specs.Parser.{read-text}
 use Rattle.grammar.specs.Numbers.{lastPasses, atName, atType, atPattern, afterPolicy, atCondition, leftRoot, afterLeft, afterAction, oneMore, numberOfToken, numberOfFirst, NumberedRightly}
 use Rattle.grammar.specs.Promise.{Sofar, RefusedRightly, TokensAcceptedExactly}
-use Rattle.grammar.specs.Lowest.{Under, Admitted, SomeAdmitted, NameMustStand, EndsInOperand}
+use Rattle.grammar.specs.Lowest.{Under, Admitted, SomeAdmitted, NameMustStand, EndsInOperand, rank}
 use Rattle.grammar.proofs.Begun.{made, Exempt}
 use Rattle.grammar.proofs.Viable.{Opened, viable-text}
 use Rattle.grammar.proofs.Theorems.{cut, swap-is, less-asked, beginning, text-alive, refused-rightly}
@@ -45,30 +45,30 @@ less-under {Asked = Asked} {Kept = Kept} f u = record {
       (λ n r h. elim h [ inl g ↦ inl (λ a. g (f n a)) | inr l ↦ inr l ]) (u .belongs);
 }
 
--- the text that goes on with the refused token x keeps every limit but n up to x
-opened-under : (k n : ℕ) (b : List Lexeme) (x : Lexeme) (s : List Lexeme) → 11 ≤ n → (n ≡ 12 → 1 ≤ k) → ((12 ≡ n → ⊥) → 31 + k ≤ 31) → Opened k (b ++ x ∷ s) n (x ∷ s)
-    → Under (λ m. m ≡ n → ⊥) (b ++ x ∷ [])
+-- the text that goes on with the refused token x keeps every limit that goes before n up to x
+opened-under : (k n : ℕ) (b : List Lexeme) (x : Lexeme) (s : List Lexeme) → 11 ≤ n → (n ≡ 12 → 1 ≤ k) → (rank 12 < rank n → 31 + k ≤ 31) → Opened k (b ++ x ∷ s) n (x ∷ s)
+    → Under (λ m. rank m < rank n) (b ++ x ∷ [])
 opened-under k n b x s l d shallow o = go (o .on) (o .kept l d) (rw (swap-is b (o .swapped) refl) at (o .belongs))
   where
-    but : (on r : List Lexeme) (m : ℕ) → Exempt n (x ∷ on) m r → (b : Bool) → eqb m n ≡ b → (¬ (m ≡ n → ⊥)) ⊎ Beyond on r
-    but on r m h true e = inl (λ f. f (eqb-true m n e))
-    but on r m h false e = inr (let y = h .first (eqb-false m n e) l in omega arith)
+    but : (on r : List Lexeme) (m : ℕ) → Exempt n (x ∷ on) m r → (b : Bool) → ltb (rank m) (rank n) ≡ b → (¬ (rank m < rank n)) ⊎ Beyond on r
+    but on r m h true e = inr (let y = h .first (ltb-true (rank m) (rank n) e) l in omega arith)
+    but on r m h false e = inl (λ f. let y = ltb-false (rank m) (rank n) e in omega (arith, y, f))
 
-    go : (on : List Lexeme) → Alike (x ∷ s) on → RuleText (lifting (31 + k) (Exempt n on)) (b ++ on) (o .policies) → Under (λ m. m ≡ n → ⊥) (b ++ x ∷ [])
+    go : (on : List Lexeme) → Alike (x ∷ s) on → RuleText (lifting (31 + k) (Exempt n on)) (b ++ on) (o .policies) → Under (λ m. rank m < rank n) (b ++ x ∷ [])
     go (y ∷ on) same h = record {
       on = on;
       levels = 31 + k;
       policies = o .policies;
       shallow = shallow;
-      belongs = less-asked (31 + k) (Exempt n (x ∷ on)) (λ m r. (¬ (m ≡ n → ⊥)) ⊎ Beyond on r) (λ m r c. but on r m c (eqb m n) refl) (rw (← cut b x on) h);
+      belongs = less-asked (31 + k) (Exempt n (x ∷ on)) (λ m r. (¬ (rank m < rank n)) ⊎ Beyond on r) (λ m r c. but on r m c (ltb (rank m) (rank n)) refl) (rw (← cut b x on) h);
     }
 
--- Refused by the limit n at x: some rule text goes on with x where every other limit is asked.
-pub goes-on-else : (b : List Lexeme) (x : Lexeme) (s : List Lexeme) (n : ℕ) → read-text (b ++ x ∷ s) ≡ refuse n (x ∷ s) → 11 ≤ n → Under (λ m. m ≡ n → ⊥) (b ++ x ∷ [])
+-- Refused by the limit n at x: some rule text goes on with x where every limit is asked that goes before n.
+pub goes-on-else : (b : List Lexeme) (x : Lexeme) (s : List Lexeme) (n : ℕ) → read-text (b ++ x ∷ s) ≡ refuse n (x ∷ s) → 11 ≤ n → Under (λ m. rank m < rank n) (b ++ x ∷ [])
 goes-on-else b x s n e l = go (eqb n 12) refl
   where
-    go : (o : Bool) → eqb n 12 ≡ o → Under (λ m. m ≡ n → ⊥) (b ++ x ∷ [])
-    go true q = opened-under 1 n b x s l (λ d. omega arith) (λ f. absurd (f (sym (eqb-true n 12 q)))) (goes-refused (rw e at (viable-text 1 (b ++ x ∷ s))))
+    go : (o : Bool) → eqb n 12 ≡ o → Under (λ m. rank m < rank n) (b ++ x ∷ [])
+    go true q = opened-under 1 n b x s l (λ d. omega arith) (λ f. absurd (let g : rank n ≡ 12 = ap rank (eqb-true n 12 q) in omega (arith, f, g))) (goes-refused (rw e at (viable-text 1 (b ++ x ∷ s))))
     go false q = opened-under 0 n b x s l (λ d. absurd (eqb-false n 12 q d)) (λ f. omega arith) (goes-refused (rw e at (viable-text 0 (b ++ x ∷ s))))
 
 -- ---- what the reader would refuse by a limit, or take, is admitted
@@ -152,7 +152,7 @@ name-limited : (c : List Lexeme) (y : Lexeme) → atName c ≡ true → y .kind 
 unfolding numberOfToken
 name-limited c y a e =
     rw (e, a, name-no-type c a)
-    (no-row (afterLeft c) 8 _ (some-row (afterAction c) 11 _ (omega arith) (some-row (atCondition c && false) 12 _ (omega arith) (some-row (atPattern c && false) 13 _ (omega arith) (some-row (oneMore mostLiterals c (record { kind = kinds.name; start = y .start; end = y .end; bytes = y .bytes })) 14 _ (omega arith) (some-row (afterPolicy c && false) 15 16 (omega arith) (omega arith)))))))
+    (no-row (afterLeft c) 8 _ (some-row (afterAction c) 11 _ (omega arith) (some-row (atCondition c && false) 12 _ (omega arith) (some-row (oneMore mostLiterals c (record { kind = kinds.name; start = y .start; end = y .end; bytes = y .bytes })) 14 _ (omega arith) (some-row (afterPolicy c && false) 15 16 (omega arith) (omega arith))))))
 
 bang-limited : (c : List Lexeme) → atCondition c ≡ true → 11 ≤ numberOfToken c (made kinds.bang)
 unfolding numberOfToken

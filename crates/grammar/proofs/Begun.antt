@@ -13,6 +13,7 @@ use Rattle.reading.specs.Reader.{Reader, need, before, mapped, onwards, chain}
 use Rattle.reading.proofs.Local.{Alike}
 use Rattle.reading.proofs.Readers.{Goes, good, goes-weaker, goes-bind, goes-need, goes-onwards}
 use Rattle.grammar.specs.Grammar.{Limit, Limits, sizesTo, lifting}
+use Rattle.grammar.specs.Lowest.{rank}
 
 -- What the grammar reads, under each limits.
 abbrev pub Family : Type 0 → Type 1
@@ -44,10 +45,10 @@ pub record Eases (L M : Limits) (r s : List Lexeme) : Type 0 where
 abbrev pub taken : ℕ → Limits
 taken k = sizesTo (mostInside + k)
 
--- The limit m is not asked of a token with r behind it: the token stands in s. But where a limit n refused the first token of s, the other limits are asked of it.
+-- The limit m is not asked of a token with r behind it: the token stands in s. But where a limit n refused the first token of s, those that go before n are asked of it.
 pub record Exempt (n : ℕ) (s : List Lexeme) (m : ℕ) (r : List Lexeme) : Type 0 where
   pub behind : length r < length s
-  pub first : (m ≡ n → ⊥) → 11 ≤ n → suc (length r) < length s
+  pub first : rank m < rank n → 11 ≤ n → suc (length r) < length s
 
 -- the same, with k levels more, where what is refused by n is gone on with by s
 abbrev pub beyond : ℕ → ℕ → List Lexeme → Limits

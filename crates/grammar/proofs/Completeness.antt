@@ -1,6 +1,6 @@
 -- What is in the grammar under limits L the reader of rule texts takes, but for the refusals that L asks to excuse. Assumes nothing.
 use mathlib.Core.Path.{_≡_, refl, sym, _∙_}
-use mathlib.Core.Bool.{Bool, true, false, _||_}
+use mathlib.Core.Bool.{Bool, true, false, cond, not, _&&_, _||_}
 use mathlib.Core.List.{List, [], _∷_, _++_}
 use mathlib.Core.Logic.{⊎-elim}
 use mathlib.Core.Option.{Option}
@@ -9,22 +9,23 @@ use native.Mathlib.Omega.{arith}
 use lib.Dec.{eqb, leb, ltb}
 use lib.ListN.{length}
 use borrow.Author.Tests.{eqb-true, eq-eqb, ne-eqb, leb-true}
+use Rattle.utf8.specs.Reading.{utf8}
 use Rattle.tokens.specs.Kinds as kinds
 use Rattle.tokens.proofs.TokenLaws.{never, and-left, and-right, or-cases}
-use Rattle.tokens.specs.Sizes.{mostPolicies, mostInside}
+use Rattle.tokens.specs.Sizes.{mostLiterals, mostPolicies, mostInside}
 use Rattle.reading.specs.Lexemes.{Lexeme, is, choose}
 use Rattle.reading.specs.Reads.{Reading, Chain, Chain.alone, Chain.more, Onto, Onto.onto, Before.ended, After.begun}
-use Rattle.reading.specs.Reader.{Answer, took, Reader, refuseBy, numbered, bind, on, need, mapped, upTo, onwards}
+use Rattle.reading.specs.Reader.{Answer, took, refuse, Reader, refuseBy, numbered, bind, on, need, mapped, upTo, onwards}
 use Rattle.reading.proofs.Readers.{Shrinks, shrinks-onto, Without, on-without, on-token, on-other}
 use Rattle.reading.proofs.Complete.{Nearly, exact, excused, nearly-bind, nearly-on, Complete, complete-mapped, complete-before, complete-chain}
 use Rattle.grammar.specs.Policies.{Span, Root, Literal, truth, Operand, attribute, literal, Tree, within, contains, both, either, Part, typed, Actions, Policy}
-use Rattle.grammar.specs.Rules.{isEffect, isRoot, rootOf, isTruth, isLiteral, literalOf, isComparator, isContains, whichOf, deepens, principalTypes, resourceTypes, typeOf, isType}
-use Rattle.grammar.specs.Grammar.{Limit, a-name, a-pattern, a-literal, a-policy, limitNumber, kept, Limits, Path, spanned, FirstName, first, NextName, next, APath, rooted, AnOperand, given, Element, element, Literals, Simple, comparison, likeness, listed, held, call, having, Conjunction, Disjunction, ConditionOver, simple, negation, bracketed, conditional, Nothing, Condition, Typed, ResourceRest, ActionRest, When, PolicyRest, Policies, policy, RuleText}
+use Rattle.grammar.specs.Rules.{isEffect, isRoot, rootOf, isTruth, isLiteral, literalOf, isComparator, isContains, whichOf, deepens, principalTypes, resourceTypes, typeOf, isType, inside, isPattern, isText}
+use Rattle.grammar.specs.Grammar.{Limit, a-name, a-pattern, a-string, a-literal, a-policy, limitNumber, kept, Limits, Path, spanned, FirstName, first, NextName, next, APath, rooted, AnOperand, given, Element, element, Literals, Simple, comparison, likeness, listed, held, call, having, Conjunction, Disjunction, ConditionOver, simple, negation, bracketed, conditional, Nothing, Condition, Typed, ResourceRest, ActionRest, When, PolicyRest, Policies, policy, RuleText}
 use Rattle.grammar.specs.Grammar as grammar
-use Rattle.grammar.specs.Parser.{Way, calling, noName, noLevel, noPolicy, nameFits, read-first-name, goesOn, read-next-name, read-way, noExit, spannedBy, read-path, read-attribute, read-operand, isElement, read-element, read-list, read-bare, read-in, isLike, read-pattern, read-operator, read-call, read-rest, read-rooted, read-simple, read-joined, read-conjunction, read-disjunction, read-negated, read-bracketed, read-conditional, read-deeper, read-condition, read-conditions, read-type, read-principal, read-action, read-resource, read-when, read-policy, mayBegin, read-next-policy, atEnd, read-text}
+use Rattle.grammar.specs.Parser.{Way, calling, noName, noText, noLevel, noPolicy, nameFits, read-first-name, goesOn, read-next-name, read-way, noExit, spannedBy, read-path, read-attribute, read-operand, isTextOf, isElement, read-element, read-list, read-bare, read-in, isLike, read-pattern, read-operator, read-call, read-rest, read-rooted, read-simple, read-joined, read-conjunction, read-disjunction, read-negated, read-bracketed, read-conditional, read-deeper, read-condition, read-conditions, read-type, read-principal, read-action, read-resource, read-when, read-policy, mayBegin, read-next-policy, atEnd, read-text}
 use Rattle.grammar.specs.Parser as parser
 use Rattle.grammar.proofs.Begun.{made}
-use Rattle.grammar.proofs.Limits.{name-number, string-number, literal-number, effect-number, level-number}
+use Rattle.grammar.proofs.Limits.{name-number, string-number, text-number, literal-number, effect-number, level-number}
 use Rattle.grammar.proofs.Framing.{shrinks-element, shrinks-condition, shrinks-conjunction, shrinks-policy}
 
 -- Z excuses each refusal of what L admits and the sizes do not.
@@ -69,6 +70,49 @@ root-no-literal x t =
     let low : 204 ≤ x .kind = leb-true _ _ (and-left _ _ t) in let high : x .kind ≤ 207 = leb-true _ _ (and-right (leb 204 (x .kind)) (leb (x .kind) 207) t) in
     rw (ne-eqb (x .kind) 34 (λ q. omega arith), ne-eqb (x .kind) 48 (λ q. omega arith), ne-eqb (x .kind) 212 (λ q. omega arith), ne-eqb (x .kind) 213 (λ q. omega arith))
 
+literal-no-root : (x : Lexeme) → isLiteral x ≡ true → isRoot x ≡ false
+literal-no-root x t = go (isRoot x) refl
+  where
+    go : (b : Bool) → isRoot x ≡ b → isRoot x ≡ false
+    go true e = absurd (never (sym (root-no-literal x e) ∙ t))
+    go false e = e
+
+-- what is not UTF-8 is a string
+pub not-text-string : (x : Lexeme) → isText x ≡ false → is kinds.string x ≡ true
+not-text-string x e = go (is kinds.string x) (utf8 (inside x)) e
+  where
+    go : (s u : Bool) → (not s || u) ≡ false → s ≡ true
+    go true u e = refl
+    go false u e = absurd (never (sym e))
+
+past-true : {a : Bool} (b c : Bool) → a ≡ true → ((a && b) && c) ≡ false → (b && c) ≡ false
+past-true b c e f = rw e at f
+
+past-one : {a : Bool} (b : Bool) → a ≡ true → (a && b) ≡ false → b ≡ false
+past-one b e f = rw e at f
+
+-- a token of a sort that keeps the limit of strings, or not, and of another sort
+module _ (sort : Lexeme → Bool) (x : Lexeme) where
+  pub text-of : sort x ≡ true → isText x ≡ true → isTextOf sort x ≡ true
+  unfolding isTextOf
+  text-of t e = rw t e
+
+  pub no-text-of : isText x ≡ false → isTextOf sort x ≡ false
+  unfolding isTextOf
+  no-text-of e = go (sort x) e
+    where
+      go : (s : Bool) {b : Bool} → b ≡ false → (s && b) ≡ false
+      go true e = e
+      go false e = refl
+
+  pub no-sort-of : sort x ≡ false → isTextOf sort x ≡ false
+  unfolding isTextOf
+  no-sort-of e = rw e
+
+  pub of-sort : isTextOf sort x ≡ true → sort x ≡ true
+  unfolding isTextOf
+  of-sort e = and-left _ _ e
+
 truth-literal : (x : Lexeme) → isTruth x ≡ true → isLiteral x ≡ true
 truth-literal x t = go (is kinds.string x) (is kinds.number x)
   where
@@ -76,6 +120,9 @@ truth-literal x t = go (is kinds.string x) (is kinds.number x)
     go true n = refl
     go false true = refl
     go false false = t
+
+truth-text : (x : Lexeme) → isTruth x ≡ true → isText x ≡ true
+truth-text x t = ⊎-elim (λ (e : is kinds.trueWord x ≡ true). rw (eqb-true (x .kind) 212 e)) (λ (e : is kinds.falseWord x ≡ true). rw (eqb-true (x .kind) 213 e)) (or-cases (is kinds.trueWord x) (is kinds.falseWord x) t)
 
 literal-truth : (x : Lexeme) → isTruth x ≡ true → literalOf x ≡ truth (is kinds.trueWord x)
 unfolding literalOf
@@ -115,7 +162,22 @@ shrinks-next-way L exit root w = record { at = go }
     go (onward (next e l)) = omega arith
     go (exits e) = omega arith
 
+-- what reads a condition that is no literal and no root refuses a string
+record Turns (deeper : Reader Tree) : Type 0 where
+  at : (x : Lexeme) (r : List Lexeme) → is kinds.string x ≡ true → deeper (x ∷ r) ≡ refuse 17 (x ∷ r)
+
+turns-level : Turns (refuseBy noLevel)
+unfolding refuseBy numbered noLevel noText
+turns-level = record { at = λ x r t. rw (eqb-true (x .kind) kinds.string t) }
+
+turns-deeper : (p : Reader Tree) → Turns (read-deeper p)
+unfolding read-deeper on choose refuseBy numbered noText
+turns-deeper p = record { at = λ x r t. rw (eqb-true (x .kind) kinds.string t) }
+
 module _ {L : Limits} {Z : ℕ → List Lexeme → Type 0} (ok : Excuses L Z) where
+  no-text-there : (x : Lexeme) (r : List Lexeme) → L .Asks (a-string x) r → isText x ≡ false → Z (numbered noText x) (x ∷ r)
+  no-text-there x r l e = rw (text-number x (not-text-string x e)) (ok .over (a-string x) x r l e)
+
   too-deep-there : mostInside < L .levels → (x : Lexeme) (r : List Lexeme) → deepens x ≡ true → Z (numbered noLevel x) (x ∷ r)
   too-deep-there l x r t = rw (level-number x t) (ok .no-level l x r)
 
@@ -169,18 +231,26 @@ module _ {L : Limits} {Z : ℕ → List Lexeme → Type 0} (ok : Excuses L Z) wh
   complete-attribute root f d {i = i} e j w = rw (on-token (is kinds.dot) _ _ d i (eq-eqb _ _ e)) (nearly-bind _ (complete-path root j w) exact)
 
   complete-operand : {i r : List Lexeme} {a : Operand} → AnOperand L i r a → NoDot r → Nearly Z a r (read-operand i)
-  unfolding read-operand
+  unfolding read-operand refuseBy
   complete-operand (given (rooted {x = x} {d = d} t e j)) w =
-      rw (on-other isLiteral _ _ x _ (root-no-literal x t), on-token isRoot _ _ x _ t) (complete-attribute (rootOf x) attribute d e j w)
-  complete-operand (grammar.AnOperand.literally {x = x} {r = r} t) w = rw (on-token isLiteral _ _ x r t) exact
+      rw (on-other (isTextOf isLiteral) _ _ x _ (no-sort-of isLiteral x (root-no-literal x t)), on-token isRoot _ _ x _ t) (complete-attribute (rootOf x) attribute d e j w)
+  complete-operand (grammar.AnOperand.literally {x = x} {r = r} t l) w = go (isText x) refl
+    where
+      go : (b : Bool) → isText x ≡ b → Nearly Z (literal (literalOf x)) r (read-operand (x ∷ r))
+      go true e = rw (on-token (isTextOf isLiteral) _ _ x r (text-of isLiteral x t e)) exact
+      go false e = rw (on-other (isTextOf isLiteral) _ _ x r (no-text-of isLiteral x e), on-other isRoot _ _ x r (literal-no-root x t)) (excused (no-text-there x r l e))
 
   module _ (sort : Lexeme → Bool) (sorts : (x : Lexeme) → sort x ≡ true → isLiteral x ≡ true) where
     complete-element : (ls : List Literal) → Complete Z Any (read-element sort ls) (Element L sort ls)
-    unfolding read-element isElement
+    unfolding read-element isElement isTextOf
     complete-element ls = record { at = go }
       where
+        over : (x : Lexeme) (r : List Lexeme) → sort x ≡ true → L .Asks (a-literal (length ls)) r → L .Asks (a-string x) r → (b : Bool) → ltb (length ls) mostLiterals ≡ b → (b && (sort x && isText x)) ≡ false → Z (cond b 17 14) (x ∷ r)
+        over x r t c l true e f = ok .over (a-string x) x r l (rw t at f)
+        over x r t c l false e f = ok .over (a-literal (length ls)) x r c e
+
         go : {i r : List Lexeme} {ks : List Literal} → Element L sort ls i r ks → Any r → Nearly Z ks r (read-element sort ls i)
-        go (element {x = x} {r = r} t c) u = nearly-on _ _ _ x r exact (λ f. rw (literal-number sort x (sorts x t) t) (ok .over (a-literal (length ls)) x r c (rw t at f)))
+        go (element {x = x} {r = r} t c l) u = nearly-on _ _ _ x r exact (λ f. rw (literal-number sort ls x (sorts x t) t) (over x r t c l (ltb (length ls) mostLiterals) refl f))
 
     complete-list : {i r : List Lexeme} {ls : List Literal}
         → Literals L sort i r ls → Nearly Z ls r (read-list sort i)
@@ -190,30 +260,38 @@ module _ {L : Limits} {Z : ℕ → List Lexeme → Type 0} (ok : Excuses L Z) wh
         kinds.rightSquare (λ x m e. rw e) h
 
   -- Where an operand stands, the reader goes on after it.
-  complete-left : {i r s : List Lexeme} {a : Operand} {t : Tree} (deeper : Reader Tree) → AnOperand L i r a → NoDot r → Nearly Z t s (read-operator a r) → Nearly Z t s (read-simple deeper i)
+  complete-left : {i r s : List Lexeme} {a : Operand} {t : Tree} (deeper : Reader Tree) → Turns deeper → AnOperand L i r a → NoDot r → Nearly Z t s (read-operator a r) → Nearly Z t s (read-simple deeper i)
   unfolding read-simple read-rooted read-rest
-  complete-left deeper (given (rooted {x = x} {d = d} t e j)) w k =
-      rw (on-other isLiteral _ _ x _ (root-no-literal x t), on-token isRoot _ _ x _ t, on-token (is kinds.dot) _ _ d _ (eq-eqb _ _ e))
+  complete-left deeper d′ (given (rooted {x = x} {d = d} t e j)) w k =
+      rw (on-other (isTextOf isLiteral) _ _ x _ (no-sort-of isLiteral x (root-no-literal x t)), on-token isRoot _ _ x _ t, on-token (is kinds.dot) _ _ d _ (eq-eqb _ _ e))
       (nearly-bind _ (complete-plain isContains contains-passes (rootOf x) j w) k)
-  complete-left deeper (grammar.AnOperand.literally {x = x} {r = r} t) w k = rw (on-token isLiteral _ _ x r t) k
+  complete-left {s = s} {t = tree} deeper d′ (grammar.AnOperand.literally {x = x} {r = r} t l) w k = go (isText x) refl
+    where
+      go : (b : Bool) → isText x ≡ b → Nearly Z tree s (read-simple deeper (x ∷ r))
+      go true e = rw (on-token (isTextOf isLiteral) _ _ x r (text-of isLiteral x t e)) k
+      go false e = rw (on-other (isTextOf isLiteral) _ _ x r (no-text-of isLiteral x e), on-other isRoot _ _ x r (literal-no-root x t), d′ .at x r (not-text-string x e)) (excused (ok .over (a-string x) x r l e))
 
   complete-bare : (a : Operand) (r : List Lexeme) → Free r → read-operator a r ≡ read-bare a r
   unfolding read-operator
   complete-bare a r f = rw (on-without isComparator _ _ r (f .0), on-without (is kinds.likeWord) _ _ r (f .1), on-without (is kinds.inWord) _ _ r (f .2))
 
-  complete-simple : (deeper : Reader Tree) {i r : List Lexeme} {t : Tree} → Simple L i r t → Free r → Nearly Z t r (read-simple deeper i)
-  unfolding read-simple read-rooted read-rest read-operator read-bare read-pattern read-in read-call isLike mapped need Without
-  complete-simple deeper (grammar.Simple.bare {x = x} {r = r} t) f = rw (on-token isLiteral _ _ x r (truth-literal x t), literal-truth x t) (rw (complete-bare (literal (truth (is kinds.trueWord x))) r f) exact)
-  complete-simple deeper (comparison {x = x} {m = m} h t k) f =
-      complete-left deeper h (other-kind (λ k. isComparator (made k)) (x .kind) kinds.dot t refl) (rw (on-token isComparator _ _ x m t) (nearly-bind _ (complete-operand k (f .3)) exact))
-  complete-simple deeper (likeness {x = x} {s = s} {r = r} h e e′ l) f =
-      complete-left deeper h (rw e) (rw (on-other isComparator _ _ x (s ∷ r) (rw e), on-token (is kinds.likeWord) _ _ x (s ∷ r) (eq-eqb _ _ e))
-      (nearly-on _ _ _ s r exact (λ u. rw (string-number s e′) (ok .over (a-pattern s) s r l (rw (eq-eqb _ _ e′) at u)))))
-  complete-simple deeper (listed {x = x} h e (begun {x = y} e′ k)) f =
-      complete-left deeper h (rw e) (rw (on-other isComparator _ _ x _ (rw e), on-other (is kinds.likeWord) _ _ x _ (rw e), on-token (is kinds.inWord) _ _ x _ (eq-eqb _ _ e), on-token (is kinds.leftSquare) _ _ y _ (eq-eqb _ _ e′))
+  complete-simple : (deeper : Reader Tree) → Turns deeper → {i r : List Lexeme} {t : Tree} → Simple L i r t → Free r → Nearly Z t r (read-simple deeper i)
+  unfolding read-simple read-rooted read-rest read-operator read-bare read-pattern read-in read-call isLike isTextOf mapped need Without
+  complete-simple deeper d′ (grammar.Simple.bare {x = x} {r = r} t) f = rw (on-token (isTextOf isLiteral) _ _ x r (text-of isLiteral x (truth-literal x t) (truth-text x t)), literal-truth x t) (rw (complete-bare (literal (truth (is kinds.trueWord x))) r f) exact)
+  complete-simple deeper d′ (comparison {x = x} {m = m} h t k) f =
+      complete-left deeper d′ h (other-kind (λ k. isComparator (made k)) (x .kind) kinds.dot t refl) (rw (on-token isComparator _ _ x m t) (nearly-bind _ (complete-operand k (f .3)) exact))
+  complete-simple deeper d′ (likeness {x = x} {s = s} {r = r} h e e′ l p) f =
+      complete-left deeper d′ h (rw e) (rw (on-other isComparator _ _ x (s ∷ r) (rw e), on-token (is kinds.likeWord) _ _ x (s ∷ r) (eq-eqb _ _ e))
+      (nearly-on _ _ _ s r exact (λ u. rw (string-number s (eq-eqb _ _ e′)) (over (isText s) refl (past-true (isText s) (isPattern (inside s)) (eq-eqb (s .kind) kinds.string e′) u)))))
+    where
+      over : (b : Bool) → isText s ≡ b → (b && isPattern (inside s)) ≡ false → Z (cond b 13 17) (s ∷ r)
+      over true q u = ok .over (a-pattern s) s r p u
+      over false q u = ok .over (a-string s) s r l q
+  complete-simple deeper d′ (listed {x = x} h e (begun {x = y} e′ k)) f =
+      complete-left deeper d′ h (rw e) (rw (on-other isComparator _ _ x _ (rw e), on-other (is kinds.likeWord) _ _ x _ (rw e), on-token (is kinds.inWord) _ _ x _ (eq-eqb _ _ e), on-token (is kinds.leftSquare) _ _ y _ (eq-eqb _ _ e′))
       (nearly-bind _ (complete-list isLiteral (λ x e. e) k) exact))
-  complete-simple deeper (held {x = x} {a = a} h e (rooted {x = y} {d = d} t e′ j)) f =
-      complete-left deeper h (rw e) (rw (
+  complete-simple deeper d′ (held {x = x} {a = a} h e (rooted {x = y} {d = d} t e′ j)) f =
+      complete-left deeper d′ h (rw e) (rw (
         on-other isComparator _ _ x _ (rw e),
         on-other (is kinds.likeWord) _ _ x _ (rw e),
         on-token (is kinds.inWord) _ _ x _ (eq-eqb _ _ e),
@@ -221,13 +299,13 @@ module _ {L : Limits} {Z : ℕ → List Lexeme → Type 0} (ok : Excuses L Z) wh
         on-token isRoot _ _ y _ t,
       )
       (complete-attribute (rootOf y) (within a) d e′ j (f .3)))
-  complete-simple deeper (call {w = w} {o = o} (rooted {x = x} {d = d} {p = p} t e j) e′ t′ e″ (ended (begun {x = l} k h) k′)) f =
-      rw (on-other isLiteral _ _ x _ (root-no-literal x t), on-token isRoot _ _ x _ t, on-token (is kinds.dot) _ _ d _ (eq-eqb _ _ e))
+  complete-simple deeper d′ (call {w = w} {o = o} (rooted {x = x} {d = d} {p = p} t e j) e′ t′ e″ (ended (begun {x = l} k h) k′)) f =
+      rw (on-other (isTextOf isLiteral) _ _ x _ (no-sort-of isLiteral x (root-no-literal x t)), on-token isRoot _ _ x _ t, on-token (is kinds.dot) _ _ d _ (eq-eqb _ _ e))
       (nearly-bind _ (complete-calling isContains contains-passes (rootOf x) j e′ t′)
       (rw (on-token (is kinds.leftRound) _ _ o _ (eq-eqb _ _ e″), on-token (is kinds.leftSquare) _ _ l _ (eq-eqb _ _ k))
       (complete-before (complete-mapped {S = Any} (record { at = λ h u. complete-list isLiteral (λ x e. e) h }) (contains (whichOf w) (rootOf x) (spanned p))) kinds.rightRound (λ x m e. tt) (ended (onto h) k′))))
-  complete-simple deeper (having {x = x} {h = h} t e j) f =
-      rw (on-other isLiteral _ _ x _ (root-no-literal x t), on-token isRoot _ _ x _ t, on-other (is kinds.dot) _ _ h _ (rw e), on-token (is kinds.hasWord) _ _ h _ (eq-eqb _ _ e))
+  complete-simple deeper d′ (having {x = x} {h = h} t e j) f =
+      rw (on-other (isTextOf isLiteral) _ _ x _ (no-sort-of isLiteral x (root-no-literal x t)), on-token isRoot _ _ x _ t, on-other (is kinds.dot) _ _ h _ (rw e), on-token (is kinds.hasWord) _ _ h _ (eq-eqb _ _ e))
       (nearly-bind _ (complete-path (rootOf x) j (f .3)) exact)
 
   -- ---- conditions
@@ -249,8 +327,8 @@ module _ {L : Limits} {Z : ℕ → List Lexeme → Type 0} (ok : Excuses L Z) wh
       }
 
   complete-form : {p : Reader Tree} {R : Reading Tree} → Shrinks R → Complete Z Free p R → {i r : List Lexeme} {t : Tree} → ConditionOver L R i r t → Free r → Nearly Z t r (read-simple (read-deeper p) i)
-  unfolding read-simple read-deeper read-negated read-bracketed read-conditional mapped on choose Without
-  complete-form {p = p} s c (simple h) f = complete-simple (read-deeper p) h f
+  unfolding read-simple read-deeper read-negated read-bracketed read-conditional isTextOf mapped on choose Without
+  complete-form {p = p} s c (simple h) f = complete-simple (read-deeper p) (turns-deeper p) h f
   complete-form s c (negation e h) f = rw e (nearly-bind _ (c .at h f) exact)
   complete-form s c (bracketed e h) f = rw e (nearly-bind _ (complete-before (complete-disjunction s c) kinds.rightRound (closes kinds.rightRound (((refl, refl, refl, refl), refl), refl)) h) exact)
   complete-form s c (conditional e h₁ h₂ h₃) f =
@@ -267,17 +345,17 @@ module _ {L : Limits} {Z : ℕ → List Lexeme → Type 0} (ok : Excuses L Z) wh
   -- what goes deeper than the reader does gets an excused refusal
   too-deep : {R : Reading Tree} → 31 < L .levels → {i r : List Lexeme} {t : Tree} → ConditionOver L R i r t → Free r → Nearly Z t r (read-simple (refuseBy noLevel) i)
   unfolding read-simple refuseBy
-  too-deep l (simple h) f = complete-simple _ h f
-  too-deep l (negation {x = x} {i = i} e h) f = rw (on-other isLiteral _ _ x i (rw e), on-other isRoot _ _ x i (rw e)) (excused (too-deep-there l x i (rw e)))
-  too-deep l (bracketed {x = x} {i = i} e h) f = rw (on-other isLiteral _ _ x i (rw e), on-other isRoot _ _ x i (rw e)) (excused (too-deep-there l x i (rw e)))
-  too-deep l (conditional {x = x} {i = i} e h₁ h₂ h₃) f = rw (on-other isLiteral _ _ x i (rw e), on-other isRoot _ _ x i (rw e)) (excused (too-deep-there l x i (rw e)))
+  too-deep l (simple h) f = complete-simple _ turns-level h f
+  too-deep l (negation {x = x} {i = i} e h) f = rw (on-other (isTextOf isLiteral) _ _ x i (no-sort-of isLiteral x (rw e)), on-other isRoot _ _ x i (rw e)) (excused (too-deep-there l x i (rw e)))
+  too-deep l (bracketed {x = x} {i = i} e h) f = rw (on-other (isTextOf isLiteral) _ _ x i (no-sort-of isLiteral x (rw e)), on-other isRoot _ _ x i (rw e)) (excused (too-deep-there l x i (rw e)))
+  too-deep l (conditional {x = x} {i = i} e h₁ h₂ h₃) f = rw (on-other (isTextOf isLiteral) _ _ x i (no-sort-of isLiteral x (rw e)), on-other isRoot _ _ x i (rw e)) (excused (too-deep-there l x i (rw e)))
 
   -- the reader has d levels left inside, the grammar e
   complete-condition : (d e : ℕ) → (d < e → 31 < L .levels) → Complete Z Free (read-condition d) (Condition L e)
   unfolding read-condition
-  complete-condition zero zero g = record { at = λ h f. complete-simple _ (only-simple h) f }
+  complete-condition zero zero g = record { at = λ h f. complete-simple _ turns-level (only-simple h) f }
   complete-condition zero (suc e) g = record { at = λ h f. too-deep (g (omega arith)) h f }
-  complete-condition (suc d) zero g = record { at = λ h f. complete-simple _ (only-simple h) f }
+  complete-condition (suc d) zero g = record { at = λ h f. complete-simple _ (turns-deeper (read-condition d)) (only-simple h) f }
   complete-condition (suc d) (suc e) g = record { at = λ h f. complete-form (shrinks-condition L e) (complete-condition d e (λ l. g (omega arith))) h f }
 
   -- ---- policies
@@ -303,15 +381,16 @@ module _ {L : Limits} {Z : ℕ → List Lexeme → Type 0} (ok : Excuses L Z) wh
       go (grammar.ActionRest.list {x = x} e (begun {i = i} {x = y} k h)) w =
           rw (on-token (is kinds.inWord) _ _ x (y ∷ i) (eq-eqb _ _ e), on-token (is kinds.leftSquare) _ _ y i (eq-eqb _ _ k)) (nearly-bind _ (complete-list (is kinds.string) (λ x e. rw e) h) exact)
 
-  complete-resource : Complete Z (λ r. Without (is kinds.isWord) r × Without (is kinds.equal) r) read-resource ResourceRest
-  unfolding read-resource
+  complete-resource : Complete Z (λ r. Without (is kinds.isWord) r × Without (is kinds.equal) r) read-resource (ResourceRest L)
+  unfolding read-resource isTextOf
   complete-resource = record { at = go }
     where
-      go : {i r : List Lexeme} {p : Part} → ResourceRest i r p → Without (is kinds.isWord) r × Without (is kinds.equal) r → Nearly Z p r (read-resource i)
+      go : {i r : List Lexeme} {p : Part} → ResourceRest L i r p → Without (is kinds.isWord) r × Without (is kinds.equal) r → Nearly Z p r (read-resource i)
       go (grammar.ResourceRest.sort (grammar.Typed.bare {r = r})) w = rw (on-without (is kinds.isWord) _ _ r (w .0), on-without (is kinds.equal) _ _ r (w .1)) exact
       go (grammar.ResourceRest.sort (grammar.Typed.one {x = x} {n = n} {r = r} e t)) w = rw (on-token (is kinds.isWord) _ _ x (n ∷ r) (eq-eqb _ _ e)) (complete-type resourceTypes n r t)
-      go (grammar.ResourceRest.string {x = x} {s = s} {r = r} e k) w =
-          rw (on-other (is kinds.isWord) _ _ x (s ∷ r) (rw e), on-token (is kinds.equal) _ _ x (s ∷ r) (eq-eqb _ _ e), on-token (is kinds.string) _ _ s r (eq-eqb _ _ k)) exact
+      go (grammar.ResourceRest.string {x = x} {s = s} {r = r} e k l) w =
+          rw (on-other (is kinds.isWord) _ _ x (s ∷ r) (rw e), on-token (is kinds.equal) _ _ x (s ∷ r) (eq-eqb _ _ e))
+          (nearly-on _ _ _ s r exact (λ u. no-text-there s r l (past-one (isText s) (eq-eqb (s .kind) kinds.string k) u)))
 
   complete-when : Complete Z (Without (is kinds.whenWord)) read-when (When L)
   unfolding read-when read-conditions need mapped Without

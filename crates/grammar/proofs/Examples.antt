@@ -43,6 +43,10 @@ abbrev pub times : {A : Type 0} → ℕ → List A → List A
 times zero s = []
 times (suc n) s = s ++ times n s
 
+-- the bytes of `ü`
+abbrev pub umlaut : List ℕ
+umlaut = 0xC3 ∷ 0xBC ∷ []
+
 -- the tokens of a policy that asks for nothing
 abbrev pub plainest : List Lexeme
 plainest =
@@ -111,7 +115,7 @@ pub record Computed : Type 0 where
       × (ofBytes (bytes "permit(principal,action in[" ++ times 16 (bytes "\"a\",") ++ bytes "\"a\"],resource);") ≡ refused 14 (place 1 92))
       × (ofBytes (bytes "permit(principal,action in[" ++ times 16 (bytes "\"a\",") ++ bytes "1],resource);") ≡ refused 10 (place 1 92))
 
-  -- word 64 bytes, string 127, number 15 digits, path 64 bytes with its dots, pattern 100 bytes and 5 wildcards: at the size, and one above
+  -- word 64 bytes, string 127, number 15 digits, path 64 bytes with its dots, pattern 100 characters and 5 wildcards: at the size, and one above
   pub at-the-sizes :
       (when (bytes "env." ++ times 64 (bytes "w") ++ bytes "==1") ≡ policies 1)
       × (when (bytes "env." ++ times 65 (bytes "w") ++ bytes "==1") ≡ refused 6 (place 1 43))
@@ -125,6 +129,19 @@ pub record Computed : Type 0 where
       × (when (bytes "1 like\"" ++ times 101 (bytes "a") ++ bytes "\"") ≡ refused 13 (place 1 45))
       × (when (bytes "1 like\"*?*?*\"") ≡ policies 1)
       × (when (bytes "1 like\"*?*?*?\"") ≡ refused 13 (place 1 45))
+
+  -- a string is UTF-8, else it gets 17; where none may stand 10, one too many in a list 14, a pattern 17 before 13. A pattern has at most 100 characters
+  pub texts :
+      (when (bytes "1==\"S" ++ umlaut ++ bytes "d\"") ≡ policies 1)
+      × (when (bytes "1==\"S" ++ 0xC3 ∷ bytes "d\"") ≡ refused 17 (place 1 42))
+      × (when (bytes "\"" ++ 0xFF ∷ bytes "\"==1") ≡ refused 17 (place 1 39))
+      × (when (bytes "1 in\"" ++ 0xC3 ∷ bytes "\"") ≡ refused 10 (place 1 43))
+      × (when (bytes "1 in[" ++ times 15 (bytes "1,") ++ bytes "\"" ++ 0xC3 ∷ bytes "\"]") ≡ refused 17 (place 1 74))
+      × (when (bytes "1 in[" ++ times 16 (bytes "1,") ++ bytes "\"" ++ 0xC3 ∷ bytes "\"]") ≡ refused 14 (place 1 76))
+      × (when (bytes "1 like\"" ++ umlaut ++ bytes "[\"") ≡ refused 13 (place 1 45))
+      × (when (bytes "1 like\"" ++ 0xC3 ∷ bytes "[\"") ≡ refused 17 (place 1 45))
+      × (when (bytes "1 like\"" ++ times 27 umlaut ++ times 73 (bytes "a") ++ bytes "\"") ≡ policies 1)
+      × (when (bytes "1 like\"" ++ times 26 umlaut ++ times 75 (bytes "a") ++ bytes "\"") ≡ refused 13 (place 1 45))
 
   -- a text has at most 64 policies
   pub sixty-four :
@@ -141,5 +158,6 @@ computed = record {
   levels = (refl, refl, refl, refl, refl, refl);
   lists = (refl, refl, refl, refl, refl);
   at-the-sizes = (refl, refl, refl, refl, refl, refl, refl, refl, refl, refl, refl, refl);
+  texts = (refl, refl, refl, refl, refl, refl, refl, refl, refl, refl);
   sixty-four = (refl, refl);
 }

@@ -39,13 +39,13 @@ module _ (L : Limits) where
     where
       go : {i r : List Lexeme} {a : Operand} → AnOperand L i r a → length r < length i
       go (given h) = shrinks-attribute .at h
-      go (grammar.AnOperand.literally t) = omega arith
+      go (grammar.AnOperand.literally t l) = omega arith
 
   pub shrinks-element : (sort : Lexeme → Bool) (ls : List Literal) → Shrinks (Element L sort ls)
   shrinks-element sort ls = record { at = go }
     where
       go : {i r : List Lexeme} {ks : List Literal} → Element L sort ls i r ks → length r < length i
-      go (element t c) = omega arith
+      go (element t c l) = omega arith
 
   shrinks-listing : (sort : Lexeme → Bool) → Shrinks (Listing L sort)
   shrinks-listing sort = record { at = go }
@@ -59,7 +59,7 @@ module _ (L : Limits) where
       go : {i r : List Lexeme} {t : Tree} → Simple L i r t → length r < length i
       go (grammar.Simple.bare t) = omega arith
       go (comparison h t k) = let x = shrinks-operand .at h in let y = shrinks-operand .at k in omega arith
-      go (likeness h e e′ f) = let x = shrinks-operand .at h in omega arith
+      go (likeness h e e′ l f) = let x = shrinks-operand .at h in omega arith
       go (listed h e k) = let x = shrinks-operand .at h in let y = shrinks-listing isLiteral .at k in omega arith
       go (held h e k) = let x = shrinks-operand .at h in let y = shrinks-attribute .at k in omega arith
       go (call h e t e′ k) = let x = shrinks-attribute .at h in let y = shrinks-before (shrinks-listing isLiteral) .at k in omega arith
@@ -91,9 +91,9 @@ module _ (L : Limits) where
       typed-part grammar.Typed.bare = omega arith
       typed-part (grammar.Typed.one k t) = omega arith
 
-      resource-part : {i r : List Lexeme} {p : Part} → ResourceRest i r p → length r ≤ length i
+      resource-part : {i r : List Lexeme} {p : Part} → ResourceRest L i r p → length r ≤ length i
       resource-part (grammar.ResourceRest.sort h) = typed-part h
-      resource-part (grammar.ResourceRest.string k e) = omega arith
+      resource-part (grammar.ResourceRest.string k e l) = omega arith
 
       action-part : {i r : List Lexeme} {a : Actions} → ActionRest L i r a → length r ≤ length i
       action-part grammar.ActionRest.bare = omega arith
@@ -129,13 +129,13 @@ framed-operand = record { at = go }
   where
     go : {L M : Limits} {r s i m n : List Lexeme} {a : Operand} → Eases L M r s → AnOperand L i m a → Swap r s m n → Moved (AnOperand M) r s i n a
     go e (given h) w = let q = framed-attribute .at e h w in (_, q .1, given (q .2))
-    go e (grammar.AnOperand.literally t) w = (_, step w, grammar.AnOperand.literally t)
+    go e (grammar.AnOperand.literally t l) w = (_, step w, grammar.AnOperand.literally t (e .asks w _ l))
 
 pub framed-element : (sort : Lexeme → Bool) (ls : List Literal) → Framed (λ L. Element L sort ls)
 framed-element sort ls = record { at = go }
   where
     go : {L M : Limits} {r s i m n : List Lexeme} {ks : List Literal} → Eases L M r s → Element L sort ls i m ks → Swap r s m n → Moved (Element M sort ls) r s i n ks
-    go e (element t c) w = (_, step w, element t (e .asks w _ c))
+    go e (element t c l) w = (_, step w, element t (e .asks w _ c) (e .asks w _ l))
 
 pub framed-list : (sort : Lexeme → Bool) → Framed (λ L. Literals L sort)
 framed-list sort = framed-before (framed-chain (framed-element sort []) (λ ls x. framed-element sort ls)) kinds.rightSquare
@@ -149,7 +149,7 @@ framed-simple = record { at = go }
     go : {L M : Limits} {r s i m n : List Lexeme} {t : Tree} → Eases L M r s → Simple L i m t → Swap r s m n → Moved (Simple M) r s i n t
     go e (grammar.Simple.bare t) w = (_, step w, grammar.Simple.bare t)
     go e (comparison h t k) w = let q = framed-operand .at e k w in let p = framed-operand .at e h (step (q .1)) in (_, p .1, comparison (p .2) t (q .2))
-    go e (likeness h t t′ f) w = let p = framed-operand .at e h (step (step w)) in (_, p .1, likeness (p .2) t t′ (e .asks w _ f))
+    go e (likeness h t t′ l f) w = let p = framed-operand .at e h (step (step w)) in (_, p .1, likeness (p .2) t t′ (e .asks w _ l) (e .asks w _ f))
     go e (listed h t k) w = let q = framed-listing isLiteral .at e k w in let p = framed-operand .at e h (step (q .1)) in (_, p .1, listed (p .2) t (q .2))
     go e (held h t k) w = let q = framed-attribute .at e k w in let p = framed-operand .at e h (step (q .1)) in (_, p .1, held (p .2) t (q .2))
     go e (call h t t′ t″ k) w =
@@ -185,12 +185,12 @@ framed-typed types = record { at = go }
     go e grammar.Typed.bare w = (_, w, grammar.Typed.bare)
     go e (grammar.Typed.one k t) w = (_, step (step w), grammar.Typed.one k t)
 
-pub framed-resource : Framed (λ L. ResourceRest)
+pub framed-resource : Framed ResourceRest
 framed-resource = record { at = go }
   where
-    go : {L M : Limits} {r s i m n : List Lexeme} {p : Part} → Eases L M r s → ResourceRest i m p → Swap r s m n → Moved (ResourceRest) r s i n p
+    go : {L M : Limits} {r s i m n : List Lexeme} {p : Part} → Eases L M r s → ResourceRest L i m p → Swap r s m n → Moved (ResourceRest M) r s i n p
     go e (grammar.ResourceRest.sort h) w = let q = framed-typed resourceTypes .at e h w in (_, q .1, grammar.ResourceRest.sort (q .2))
-    go e (grammar.ResourceRest.string k t) w = (_, step (step w), grammar.ResourceRest.string k t)
+    go e (grammar.ResourceRest.string k t l) w = (_, step (step w), grammar.ResourceRest.string k t (e .asks w _ l))
 
 pub framed-action : Framed ActionRest
 framed-action = record { at = go }
@@ -219,7 +219,7 @@ framed-principals = framed-after (framed-after (framed-before (framed-typed prin
 pub framed-actions : Framed (λ L. After kinds.actionWord (Before kinds.comma (ActionRest L)))
 framed-actions = framed-after (framed-before framed-action kinds.comma) kinds.actionWord
 
-pub framed-resources : Framed (λ L. After kinds.resourceWord (Before kinds.rightRound ResourceRest))
+pub framed-resources : Framed (λ L. After kinds.resourceWord (Before kinds.rightRound (ResourceRest L)))
 framed-resources = framed-after (framed-before framed-resource kinds.rightRound) kinds.resourceWord
 
 pub framed-policy : (permits : Bool) → Framed (λ L. PolicyRest L permits)

@@ -1,10 +1,11 @@
 -- The number of each limit, by the token that breaks it, and what goes on where a limit refuses. Assumes nothing.
-use mathlib.Core.Path.{_≡_, refl, sym, _∙_}
-use mathlib.Core.Bool.{Bool, true, false, cond}
+use mathlib.Core.Path.{_≡_, refl, sym, ap, _∙_}
+use mathlib.Core.Bool.{Bool, true, false, cond, _||_}
 use mathlib.Core.List.{List, _∷_}
 use Prim.Native.Nat.{ℕ, zero, suc, _≤_, _<_}
 use native.Mathlib.Omega.{arith}
 use lib.Dec.{ltb}
+use lib.ListN.{length}
 use borrow.Author.Tests.{ltb-true}
 use Rattle.tokens.specs.Kinds as kinds
 use Rattle.tokens.proofs.TokenLaws.{never}
@@ -12,10 +13,12 @@ use Rattle.reading.specs.Lexemes.{Lexeme, is}
 use Rattle.reading.specs.Reader.{numbered, refuseBy}
 use Rattle.reading.proofs.Local.{same}
 use Rattle.reading.proofs.Readers.{Goes, goes-refuseBy, number-below}
-use Rattle.grammar.specs.Policies.{Root, Root.Principal, Root.Resource, Root.Env, Root.Action}
-use Rattle.grammar.specs.Rules.{isEffect, isReserved, isLiteral, endsBare, deepens}
-use Rattle.grammar.specs.Grammar.{Limit, a-name, a-pattern, a-literal, a-policy, pathNumber, limitNumber}
-use Rattle.grammar.specs.Parser.{noName, noOperator, noType, noLevel, noPattern, tooMany, noPolicy}
+use Rattle.tokens.specs.Sizes.{mostLiterals}
+use Rattle.grammar.specs.Policies.{Root, Root.Principal, Root.Resource, Root.Env, Root.Action, Literal}
+use Rattle.grammar.specs.Rules.{isEffect, isReserved, isLiteral, endsBare, deepens, isText}
+use Rattle.grammar.specs.Grammar.{Limit, a-name, a-pattern, a-string, a-literal, a-policy, pathNumber, limitNumber}
+use Rattle.grammar.specs.Lowest.{rank}
+use Rattle.grammar.specs.Parser.{noName, noOperator, noType, noText, noLevel, noPattern, noElement, noPolicy}
 use Rattle.grammar.proofs.Begun.{made, Exempt, Kept, few}
 
 -- ---- the number of each limit
@@ -56,16 +59,21 @@ path-limit Action = omega arith
 pub limit-low : (l : Limit) → 11 ≤ limitNumber l
 limit-low (a-name root used x) = path-limit root
 limit-low (a-pattern x) = omega arith
+limit-low (a-string x) = omega arith
 limit-low (a-literal k) = omega arith
 limit-low (a-policy k) = omega arith
 
-pub string-number : (x : Lexeme) → x .kind ≡ kinds.string → numbered noPattern x ≡ 13
+pub string-number : (x : Lexeme) → is kinds.string x ≡ true → numbered noPattern x ≡ cond (isText x) 13 17
 unfolding numbered noPattern
-string-number x e = rw e
+string-number x t = rw (is-token (λ k. is kinds.string (made k)) (refl, refl, refl, refl, refl, refl, refl) (x .kind) t, t)
 
-pub literal-number : (sort : Lexeme → Bool) (x : Lexeme) → isLiteral x ≡ true → sort x ≡ true → numbered (tooMany sort) x ≡ 14
-unfolding numbered tooMany
-literal-number sort x t e = rw (is-token (λ k. isLiteral (made k)) (refl, refl, refl, refl, refl, refl, refl) (x .kind) t, e)
+pub text-number : (x : Lexeme) → is kinds.string x ≡ true → numbered noText x ≡ 17
+unfolding numbered noText
+text-number x t = rw (is-token (λ k. is kinds.string (made k)) (refl, refl, refl, refl, refl, refl, refl) (x .kind) t, t)
+
+pub literal-number : (sort : Lexeme → Bool) (ls : List Literal) (x : Lexeme) → isLiteral x ≡ true → sort x ≡ true → numbered (noElement sort ls) x ≡ cond (ltb (length ls) mostLiterals) 17 14
+unfolding numbered noElement
+literal-number sort ls x t e = rw (is-token (λ k. isLiteral (made k)) (refl, refl, refl, refl, refl, refl, refl) (x .kind) t, e)
 
 pub effect-number : (x : Lexeme) → isEffect x ≡ true → numbered noPolicy x ≡ 15
 unfolding numbered noPolicy
@@ -74,6 +82,18 @@ effect-number x t = rw (is-token (λ k. isEffect (made k)) (refl, refl, refl, re
 pub level-number : (x : Lexeme) → deepens x ≡ true → numbered noLevel x ≡ 12
 unfolding numbered noLevel
 level-number x t = rw (is-token (λ k. deepens (made k)) (refl, refl, refl, refl, refl, refl, refl) (x .kind) t, t)
+
+-- where no level is left, a token is refused by the levels, or by the string
+abbrev pub levelOrText : Lexeme → Bool
+levelOrText x = deepens x || is kinds.string x
+
+pub level-or-text : (x : Lexeme) → levelOrText x ≡ true → numbered noLevel x ≡ cond (deepens x) 12 17
+unfolding numbered noLevel noText
+level-or-text x t = go (deepens x) refl
+  where
+    go : (d : Bool) → deepens x ≡ d → numbered noLevel x ≡ cond (deepens x) 12 17
+    go true e = rw (is-token (λ k. levelOrText (made k)) (refl, refl, refl, refl, refl, refl, refl) (x .kind) t, e)
+    go false e = let s : is kinds.string x ≡ true = rw e at t in rw (is-token (λ k. levelOrText (made k)) (refl, refl, refl, refl, refl, refl, refl) (x .kind) t, e, s)
 
 -- ---- other numbers
 
@@ -97,33 +117,41 @@ pub pattern-below : (x : Lexeme) → is kinds.string x ≡ false → noPattern x
 unfolding noPattern
 pattern-below x e = rw e (omega arith)
 
-pub literal-below : (sort : Lexeme → Bool) (x : Lexeme) → sort x ≡ false → tooMany sort x < 11
-unfolding tooMany
-literal-below sort x e = rw e (omega arith)
+pub text-below : (x : Lexeme) → is kinds.string x ≡ false → noText x < 11
+unfolding noText
+text-below x e = rw e (omega arith)
+
+pub literal-below : (sort : Lexeme → Bool) (ls : List Literal) (x : Lexeme) → sort x ≡ false → noElement sort ls x < 11
+unfolding noElement
+literal-below sort ls x e = rw e (omega arith)
 
 pub effect-below : (x : Lexeme) → isEffect x ≡ false → noPolicy x < 11
 unfolding noPolicy
 effect-below x e = rw e (omega arith)
 
-pub level-below : (x : Lexeme) → deepens x ≡ false → noLevel x < 11
-unfolding noLevel
-level-below x e = rw e (omega arith)
+pub level-below : (x : Lexeme) → levelOrText x ≡ false → noLevel x < 11
+unfolding noLevel noText
+level-below x e = go (deepens x) refl
+  where
+    go : (d : Bool) → deepens x ≡ d → noLevel x < 11
+    go true f = absurd (never (sym (rw f at e)))
+    go false f = let s : is kinds.string x ≡ false = rw f at e in rw (f, s) (omega arith)
 
 -- ---- what goes on where a limit refuses
 
--- Where i is refused by n at a place of the limit m: a token that passes the test and can go on. It is the refused one where n is m; else n is of no limit.
-pub record Chosen (k : ℕ) (test : Lexeme → Bool) (m n : ℕ) (i : List Lexeme) : Type 0 where
+-- Where i is refused by n at a place of limits whose number m has for a token: a token that passes the test and can go on. It is the refused one where n is that number; else n is of no limit.
+pub record Chosen (k : ℕ) (test : Lexeme → Bool) (m : Lexeme → ℕ) (n : ℕ) (i : List Lexeme) : Type 0 where
   pub token : Lexeme
   pub passes : test token ≡ true
-  pub only : (m ≡ n → ⊥) → 11 ≤ n → ⊥
+  pub only : (m token ≡ n → ⊥) → 11 ≤ n → ⊥
   pub kept : (w : List Lexeme) → Kept k n i (token ∷ w)
 
--- That limit is not asked of it.
-pub chosen-beyond : {k m n : ℕ} {test : Lexeme → Bool} {i : List Lexeme} (c : Chosen k test m n i) (w : List Lexeme) → Exempt n (c .token ∷ w) m w
-chosen-beyond c w = record { behind = omega arith; first = λ d l. absurd (c .only d l) }
+-- That limit is not asked of it, nor one that goes behind that.
+pub chosen-beyond : {k n : ℕ} {test : Lexeme → Bool} {m : Lexeme → ℕ} {i : List Lexeme} (c : Chosen k test m n i) (o : ℕ) → rank (m (c .token)) ≤ rank o → (w : List Lexeme) → Exempt n (c .token ∷ w) o w
+chosen-beyond {n = n} {m = m} c o g w = record { behind = omega arith; first = λ d l. absurd (c .only (λ e. let f : rank (m (c .token)) ≡ rank n = ap rank e in omega (arith, d, f, g)) l) }
 
-pub goes-limit : {k : ℕ} {A : Type 0} {P : A → List Lexeme → Type 0} {Q : ℕ → List Lexeme → Type 0} (number : Lexeme → ℕ) (test : Lexeme → Bool) (m : ℕ) (y : Lexeme) → test y ≡ true
-    → ((x : Lexeme) → test x ≡ true → numbered number x ≡ m) → ((x : Lexeme) → test x ≡ false → number x < 11)
+pub goes-limit : {k : ℕ} {A : Type 0} {P : A → List Lexeme → Type 0} {Q : ℕ → List Lexeme → Type 0} (number : Lexeme → ℕ) (test : Lexeme → Bool) (m : Lexeme → ℕ) (y : Lexeme) → test y ≡ true
+    → ((x : Lexeme) → test x ≡ true → numbered number x ≡ m x) → ((x : Lexeme) → test x ≡ false → number x < 11)
     → (i : List Lexeme) → ((n : ℕ) → Chosen k test m n i → Q n i) → Goes P Q (refuseBy number i)
 goes-limit {k = k} {Q = Q} number test m y fit is-m below i f = goes-refuseBy number i (λ e. f 10 (other 10 (omega arith))) (λ x r e. go x r e (test x) refl)
   where

@@ -14,15 +14,15 @@ use Rattle.reading.specs.Lexemes.{Lexeme, is}
 use Rattle.reading.specs.Reader.{took, refuse, Reader, numbered, refuseBy, ten, bind, on, before, onwards}
 use Rattle.reading.proofs.Readers.{Without}
 use Rattle.grammar.specs.Policies.{Span, Root, Literal, text, number, truth, Operand, attribute, literal, Which, Tree, among, within, contains, both, either, Policy}
-use Rattle.grammar.specs.Rules.{isEffect, isRoot, rootOf, isLiteral, literalOf, isComparator, isContains, principalTypes, resourceTypes}
+use Rattle.grammar.specs.Rules.{isEffect, isRoot, rootOf, isLiteral, literalOf, isComparator, isContains, principalTypes, resourceTypes, inside, isPattern, isText}
 use Rattle.grammar.specs.Grammar.{Path}
-use Rattle.grammar.specs.Parser.{Way, uncalled, calling, noName, noOperator, noType, noLevel, noPattern, tooMany, noPolicy, nameFits, read-first-name, goesOn, read-next-name, read-way, noExit, read-path, read-attribute, read-operand, isElement, read-element, read-list, read-bare, read-in, isLike, read-pattern, read-operator, read-call, read-rest, read-rooted, read-simple, read-joined, read-conjunction, read-disjunction, read-negated, read-bracketed, read-conditional, read-deeper, read-condition, read-conditions, read-type, read-principal, read-action, read-resource, read-when, read-policy, mayBegin, read-next-policy, atEnd, read-text}
-use Rattle.grammar.specs.Numbers.{lastPasses, atCondition, afterLeft, actionIn, oneMore, numberOfToken, numberOfFirst, NumberedRightly}
+use Rattle.grammar.specs.Parser.{Way, uncalled, calling, noName, noOperator, noType, noText, noLevel, noPattern, noElement, noPolicy, nameFits, read-first-name, goesOn, read-next-name, read-way, noExit, read-path, read-attribute, read-operand, isTextOf, isElement, read-element, read-list, read-bare, read-in, isLike, read-pattern, read-operator, read-call, read-rest, read-rooted, read-simple, read-joined, read-conjunction, read-disjunction, read-negated, read-bracketed, read-conditional, read-deeper, read-condition, read-conditions, read-type, read-principal, read-action, read-resource, read-when, read-policy, mayBegin, read-next-policy, atEnd, read-text}
+use Rattle.grammar.specs.Numbers.{lastPasses, atCondition, afterLeft, actionIn, oneMore, atLiteral, numberOfToken, numberOfFirst, NumberedRightly}
 use Rattle.grammar.proofs.Begun.{made}
 use Rattle.grammar.proofs.Completeness.{other-kind}
 use Rattle.grammar.proofs.Steps.{policies-step}
 use Rattle.grammar.proofs.Telling.{Past, here, step, Places, Told, good, stops, Tells, tells-weaker, tells-took, tells-refuseBy, tells-bind, Stepped, stepped, tells-on, Plain, tells-ten, tells-need, tells-before, tells-mapped, tells-onwards, tells-chain}
-use Rattle.grammar.proofs.Spots.{TestsAt, Quiet, AtCondition, Left, quiet-ten, begins-deepest, begins-ten, left-bare, type-number, pattern-number, policy-number, opens, at-kind, quiet-root, quiet-literal, quiet-comparator, quiet-contains, quiet-effect, quiet-round, quiet-comma, at-left, begins-round, OnPath, dotted, had, longer, path-number, Named, named, named-place, InList, opened, further, element-number}
+use Rattle.grammar.proofs.Spots.{TestsAt, Quiet, AtCondition, AtText, Left, quiet-ten, begins-deepest, begins-text, text-at, admits, left-bare, type-number, pattern-number, policy-number, opens, at-kind, quiet-root, quiet-literal, text-comparator, quiet-contains, quiet-effect, quiet-round, quiet-comma, at-left, begins-round, OnPath, dotted, had, longer, path-number, Named, named, named-place, InList, opened, further, element-number}
 
 -- places by what stands before them
 abbrev At : (List Lexeme → Type 0) → Places
@@ -36,7 +36,7 @@ quietly = record { at = λ c i h x. quiet-ten h x }
 
 -- behind a token of the kind k, which is no name, no comma and no `(`
 behind-kind : (k : ℕ) → (eqb k kinds.name ≡ false) × (eqb k kinds.comma ≡ false) × (eqb k kinds.leftRound ≡ false) → {P : Places} {x : Lexeme} {c i : List Lexeme} → x .kind ≡ k → Stepped x P c i
-    → TestsAt (eqb k kinds.dot || eqb k kinds.hasWord) false (eqb k kinds.isWord) (opens k) (eqb k kinds.likeWord) (eqb k kinds.semicolon) c
+    → TestsAt (eqb k kinds.dot || eqb k kinds.hasWord) false (eqb k kinds.isWord) (opens k) (eqb k kinds.likeWord) (eqb k kinds.semicolon) (admits k) c
 behind-kind k h e (stepped q) = at-kind k h _ _ e
 
 -- ---- paths
@@ -88,7 +88,7 @@ tells-path root = tells-bind _ (tells-way false root noExit (λ x e. absurd (nev
 
 -- behind a root that begins no left operand
 data RightRoot : Root → List Lexeme → Type 0 where
-  right : {x : Lexeme} {c : List Lexeme} → isRoot x ≡ true → Quiet c → RightRoot (rootOf x) (x ∷ c)
+  right : {x : Lexeme} {c : List Lexeme} → isRoot x ≡ true → atCondition c ≡ false → RightRoot (rootOf x) (x ∷ c)
 
 tells-attribute : {A : Type 0} (root : Root) (f : Root → Span → A) → Tells (At (RightRoot root)) (read-attribute root f) (Ends Quiet)
 unfolding read-attribute
@@ -99,20 +99,20 @@ tells-attribute root f =
     quiet (right {x = x} t h) = quiet-root x _ t
 
     go : {root : Root} {d : Lexeme} {c i : List Lexeme} → d .kind ≡ kinds.dot → Stepped d (At (RightRoot root)) c i → OnPath false root c
-    go e (stepped (right t h)) = dotted t e (h .begins)
+    go e (stepped (right t h)) = dotted t e h
 
-tells-operand : Tells (At Quiet) read-operand (Ends Quiet)
-unfolding read-operand
+tells-operand : Tells (At AtText) read-operand (Ends Quiet)
+unfolding read-operand isTextOf
 tells-operand =
     tells-on _ _ _ (λ x t. tells-took _ (λ c i h. go t h))
     (tells-on _ _ _ (λ x t. tells-weaker (tells-attribute (rootOf x) attribute) (λ c i h. root t h) (λ a c i h. h))
-    (tells-ten (record { at = λ c i h x. quiet-ten (h .0 .0) x })))
+    (tells-refuseBy noText (λ c r x h. text-at (h .0 .0) x)))
   where
-    go : {x : Lexeme} {c i : List Lexeme} → isLiteral x ≡ true → Stepped x (At Quiet) c i → Quiet c
-    go t (stepped h) = quiet-literal _ _ t
+    go : {x : Lexeme} {c i : List Lexeme} → (isLiteral x && isText x) ≡ true → Stepped x (At AtText) c i → Quiet c
+    go t (stepped h) = quiet-literal _ _ (and-left _ _ t)
 
-    root : {x : Lexeme} {c i : List Lexeme} → isRoot x ≡ true → Stepped x (λ c i. Quiet c × Without isLiteral i) c i → RightRoot (rootOf x) c
-    root t (stepped h) = right t (h .0)
+    root : {x : Lexeme} {c i : List Lexeme} → isRoot x ≡ true → Stepped x (λ c i. AtText c × Without (isTextOf isLiteral) i) c i → RightRoot (rootOf x) c
+    root t (stepped h) = right t (h .0 .begins)
 
 -- behind one part of a target, or a list
 abbrev BehindPart : List Lexeme → Type 0
@@ -122,15 +122,15 @@ BehindPart c = Quiet c × (lastPasses isLiteral c ≡ false)
 data Listed (sort : Lexeme → Bool) (ls : List Literal) : List Lexeme → Type 0 where
   listed : {k : ℕ} {l : Lexeme} {c : List Lexeme} → InList sort k c → length ls ≡ suc k → suc k ≤ mostLiterals → isLiteral l ≡ true → Listed sort ls (l ∷ c)
 
-module _ (sort : Lexeme → Bool) (sorts : (x : Lexeme) → sort x ≡ true → isLiteral x ≡ true) where
+module _ (sort : Lexeme → Bool) (sorts : (x : Lexeme) → sort x ≡ true → isLiteral x ≡ true) (strings : (x : Lexeme) → is kinds.string x ≡ true → sort x ≡ true) where
   tells-element : (ls : List Literal) → Tells (λ c i. InList sort (length ls) c × (length ls ≤ mostLiterals)) (read-element sort ls) (λ ks c r. Listed sort ks c)
-  unfolding read-element isElement Without
-  tells-element ls = tells-on _ _ _ (λ x t. tells-took _ (λ c i h. go t h)) (tells-refuseBy (tooMany sort) (λ c r x h. element-number (h .0 .0) (h .0 .1) x (h .1)))
+  unfolding read-element isElement isTextOf Without
+  tells-element ls = tells-on _ _ _ (λ x t. tells-took _ (λ c i h. go t h)) (tells-refuseBy (noElement sort ls) (λ c r x h. element-number ls strings (h .0 .0) (h .0 .1) x (h .1)))
     where
-      go : {x : Lexeme} {c i : List Lexeme} → (sort x && ltb (length ls) mostLiterals) ≡ true → Stepped x (λ c i. InList sort (length ls) c × (length ls ≤ mostLiterals)) c i → Listed sort (ls ++ literalOf x ∷ []) c
+      go : {x : Lexeme} {c i : List Lexeme} → (ltb (length ls) mostLiterals && (sort x && isText x)) ≡ true → Stepped x (λ c i. InList sort (length ls) c × (length ls ≤ mostLiterals)) c i → Listed sort (ls ++ literalOf x ∷ []) c
       go {x = x} t (stepped h) =
-          let a = length-append ls (literalOf x ∷ []) in let b = ltb-true (length ls) mostLiterals (and-right (sort x) _ t) in
-          listed (h .0) (omega arith) (omega arith) (sorts x (and-left _ _ t))
+          let a = length-append ls (literalOf x ∷ []) in let b = ltb-true (length ls) mostLiterals (and-left _ _ t) in
+          listed (h .0) (omega arith) (omega arith) (sorts x (and-left _ _ (and-right (ltb (length ls) mostLiterals) _ t)))
 
   tells-list : Tells (At (InList sort 0)) (read-list sort) (Ends BehindPart)
   unfolding read-list lastPasses
@@ -148,10 +148,13 @@ module _ (sort : Lexeme → Bool) (sorts : (x : Lexeme) → sort x ≡ true → 
 
 -- ---- conditions that hold no other
 
+string-literal : (x : Lexeme) → is kinds.string x ≡ true → isLiteral x ≡ true
+string-literal x e = rw e
+
 tells-in : (a : Operand) → Tells (λ c i. Quiet c × (actionIn c ≡ false)) (read-in a) (Ends Quiet)
 unfolding read-in
 tells-in a =
-    tells-on _ _ _ (λ x t. tells-mapped (among a) _ (tells-weaker (tells-list isLiteral (λ x e. e)) (λ c i h. list (eqb-true _ _ t) h) (λ ls c i h. h .0)))
+    tells-on _ _ _ (λ x t. tells-mapped (among a) _ (tells-weaker (tells-list isLiteral (λ x e. e) string-literal) (λ c i h. list (eqb-true _ _ t) h) (λ ls c i h. h .0)))
     (tells-on _ _ _ (λ x t. tells-weaker (tells-attribute (rootOf x) (within a)) (λ c i h. root t h) (λ v c i h. h))
     (tells-ten (record { at = λ c i h x. quiet-ten (h .0 .0 .0) x })))
   where
@@ -159,7 +162,7 @@ tells-in a =
     list e (stepped {c = c} h) = opened {c = c} e (λ x. rw (h .1))
 
     root : {x : Lexeme} {c i : List Lexeme} → isRoot x ≡ true → Stepped x (λ c i. (Quiet c × (actionIn c ≡ false)) × Without (is kinds.leftSquare) i) c i → RightRoot (rootOf x) c
-    root t (stepped h) = right t (h .0 .0)
+    root t (stepped h) = right t (h .0 .0 .begins)
 
 -- the last token is not action
 abbrev NoAction : List Lexeme → Type 0
@@ -171,16 +174,16 @@ no-action-in w [] e = refl
 no-action-in w (a ∷ c) e = rw e (and-false (is kinds.inWord w))
 
 tells-operator : (a : Operand) (K : List Lexeme → Type 0) → Tells (At K) (read-bare a) (Ends Quiet) → Tells (λ c i. K c × NoAction c) (read-operator a) (Ends Quiet)
-unfolding read-operator read-pattern isLike
+unfolding read-operator read-pattern isLike isTextOf
 tells-operator a K b =
     tells-on _ _ _ (λ x t. tells-mapped _ _ (tells-weaker tells-operand (λ c i h. compared t h) (λ v c i h. h)))
     (tells-on _ _ _
-    (λ x t. tells-on _ _ _ (λ y u. tells-took _ (λ c i h. behind-kind kinds.string (refl, refl, refl) (eqb-true _ _ (and-left _ _ u)) h)) (tells-refuseBy noPattern (λ c r y h. pattern-number (behind-kind kinds.likeWord (refl, refl, refl) (eqb-true _ _ t) (h .0)) y)))
+    (λ x t. tells-on _ _ _ (λ y u. tells-took _ (λ c i h. behind-kind kinds.string (refl, refl, refl) (eqb-true _ _ (and-left _ _ (and-left (is kinds.string y && isText y) (isPattern (inside y)) u))) h)) (tells-refuseBy noPattern (λ c r y h. pattern-number (behind-kind kinds.likeWord (refl, refl, refl) (eqb-true _ _ t) (h .0)) y)))
     (tells-on _ _ _ (λ x t. tells-weaker (tells-in a) (λ c i h. held (eqb-true _ _ t) h) (λ v c i h. h))
     (tells-weaker b (λ c i h. h .0 .0 .0 .0) (λ v c i h. h))))
   where
-    compared : {x : Lexeme} {P : Places} {c i : List Lexeme} → isComparator x ≡ true → Stepped x P c i → Quiet c
-    compared t (stepped h) = quiet-comparator _ _ t
+    compared : {x : Lexeme} {P : Places} {c i : List Lexeme} → isComparator x ≡ true → Stepped x P c i → AtText c
+    compared t (stepped h) = text-comparator _ _ t
 
     held : {x : Lexeme} {c i : List Lexeme} → x .kind ≡ kinds.inWord → Stepped x (λ c i. ((K c × NoAction c) × Without isComparator i) × Without (is kinds.likeWord) i) c i → Quiet c × (actionIn c ≡ false)
     held {x = x} e (stepped h) = (at-kind kinds.inWord (refl, refl, refl) x _ e, no-action-in x _ (h .0 .0 .1))
@@ -194,7 +197,7 @@ unfolding read-call lastPasses actionIn
 tells-call w root p =
     tells-need kinds.leftRound _ (record { at = λ c i h x. quiet-ten (quiet h) x }) (λ o e.
     tells-need kinds.leftSquare _ (record { at = λ c i h x. quiet-ten (round e h) x }) (λ l e′.
-    tells-before kinds.rightRound _ (tells-mapped (contains w root p) _ (tells-weaker (tells-list isLiteral (λ x e. e)) (λ c i h. list e e′ h) (λ ls c i h. h .0))) (λ t. quietly)
+    tells-before kinds.rightRound _ (tells-mapped (contains w root p) _ (tells-weaker (tells-list isLiteral (λ x e. e) string-literal) (λ c i h. list e e′ h) (λ ls c i h. h .0))) (λ t. quietly)
     (λ t x c r k h. at-kind kinds.rightRound (refl, refl, refl) x c k)))
   where
     quiet : {c : List Lexeme} → Called c → Quiet c
@@ -248,16 +251,16 @@ tells-bare (truth b) = tells-took _ (λ c i h. h)
 tells-bare (text s) = tells-ten quietly
 tells-bare (number s) = tells-ten quietly
 
-tells-simple : (deeper : Reader Tree) → Tells (λ c i. (AtCondition c × Without isLiteral i) × Without isRoot i) deeper (Ends Quiet) → Tells (At AtCondition) (read-simple deeper) (Ends Quiet)
-unfolding read-simple lastPasses
+tells-simple : (deeper : Reader Tree) → Tells (λ c i. (AtCondition c × Without (isTextOf isLiteral) i) × Without isRoot i) deeper (Ends Quiet) → Tells (At AtCondition) (read-simple deeper) (Ends Quiet)
+unfolding read-simple isTextOf lastPasses
 tells-simple deeper d =
     tells-on _ _ _ (λ x t. tells-weaker (tells-operator _ Quiet (tells-bare (literalOf x))) (λ c i h. go t h) (λ u c i h. h))
     (tells-on _ _ _ (λ x t. tells-weaker (tells-rooted (rootOf x)) (λ c i h. root t h) (λ u c i h. h)) d)
   where
-    go : {x : Lexeme} {c i : List Lexeme} → isLiteral x ≡ true → Stepped x (At AtCondition) c i → Quiet c × NoAction c
-    go {x = x} t (stepped h) = (quiet-literal x _ t, other-kind (λ k. isLiteral (made k)) (x .kind) kinds.actionWord t refl)
+    go : {x : Lexeme} {c i : List Lexeme} → (isLiteral x && isText x) ≡ true → Stepped x (At AtCondition) c i → Quiet c × NoAction c
+    go {x = x} t (stepped h) = (quiet-literal x _ (and-left _ _ t), other-kind (λ k. isLiteral (made k)) (x .kind) kinds.actionWord (and-left _ _ t) refl)
 
-    root : {x : Lexeme} {c i : List Lexeme} → isRoot x ≡ true → Stepped x (λ c i. AtCondition c × Without isLiteral i) c i → LeftRoot (rootOf x) c
+    root : {x : Lexeme} {c i : List Lexeme} → isRoot x ≡ true → Stepped x (λ c i. AtCondition c × Without (isTextOf isLiteral) i) c i → LeftRoot (rootOf x) c
     root t (stepped h) = leads t (h .0)
 
 module _ {p : Reader Tree} (t : Tells (At AtCondition) p (Ends Quiet)) where
@@ -290,7 +293,7 @@ module _ {p : Reader Tree} (t : Tells (At AtCondition) p (Ends Quiet)) where
       (λ x e. tells-mapped _ _ (tells-before kinds.rightRound _ {Mid = Ends Quiet} (tells-weaker tells-disjunction (λ c i h. bracket (eqb-true _ _ e) h) (λ u c i h. h)) (λ u. quietly)
       (λ u x c r e h. at-kind kinds.rightRound (refl, refl, refl) x c e)))
       (tells-on _ _ _ (λ x e. tells-conditional (λ c i h. behind-kind kinds.ifWord (refl, refl, refl) (eqb-true _ _ e) h))
-      (tells-refuseBy ten (λ c r x h. begins-ten (h .0 .0 .0) x (rw (h .0 .0 .1, h .0 .1, h .1))))))
+      (tells-refuseBy noText (λ c r x h. begins-text (h .0 .0 .0) x (rw (h .0 .0 .1, h .0 .1, h .1))))))
     where
       bracket : {x : Lexeme} {c i : List Lexeme} → x .kind ≡ kinds.leftRound → Stepped x (λ c i. AtCondition c × Without (is kinds.bang) i) c i → AtCondition c
       bracket e (stepped h) = begins-round _ e (h .0)
@@ -318,7 +321,7 @@ tells-type : (types : List (List ℕ)) → Tells (At (Behind kinds.isWord)) (rea
 unfolding read-type lastPasses afterLeft
 tells-type types = tells-on _ _ _ (λ x t. tells-took _ (λ c i h. go (eqb-true _ _ (and-left _ _ t)) h)) (tells-refuseBy noType (λ c r x h. type-number (place (h .0)) x))
   where
-    place : {c : List Lexeme} → Behind kinds.isWord c → TestsAt false false true false false false c
+    place : {c : List Lexeme} → Behind kinds.isWord c → TestsAt false false true false false false false c
     place (after e) = at-kind kinds.isWord (refl, refl, refl) _ _ e
 
     go : {x : Lexeme} {c i : List Lexeme} → x .kind ≡ kinds.name → Stepped x (At (Behind kinds.isWord)) c i → BehindPart c
@@ -332,21 +335,18 @@ tells-action : Tells (At (Behind kinds.actionWord)) read-action (Ends BehindPart
 unfolding read-action actionIn
 tells-action =
     tells-on _ _ _ (λ w e. tells-need kinds.leftSquare _ (record { at = λ c i h x. quiet-ten (behind-kind kinds.inWord (refl, refl, refl) (eqb-true _ _ e) h) x }) (λ s k.
-    tells-mapped _ _ (tells-weaker (tells-list (is kinds.string) strings) (λ c i h. list (eqb-true _ _ e) k h) (λ ls c i h. h))))
+    tells-mapped _ _ (tells-weaker (tells-list (is kinds.string) string-literal (λ x e. e)) (λ c i h. list (eqb-true _ _ e) k h) (λ ls c i h. h))))
     (tells-took _ (λ c i h. after-part kinds.actionWord refl (at-kind kinds.actionWord (refl, refl, refl)) (h .0)))
   where
-    strings : (x : Lexeme) → is kinds.string x ≡ true → isLiteral x ≡ true
-    strings x e = rw e
-
     list : {w s : Lexeme} {c i : List Lexeme} → w .kind ≡ kinds.inWord → s .kind ≡ kinds.leftSquare → Stepped s (Stepped w (At (Behind kinds.actionWord))) c i → InList (is kinds.string) 0 c
     list {w = w} e k (stepped (stepped (after {x = x} {c = c} q))) = opened {c = w ∷ x ∷ c} k (λ y. rw (e, q))
 
 tells-resource : Tells (At Quiet) read-resource (Ends Quiet)
-unfolding read-resource
+unfolding read-resource isTextOf
 tells-resource =
     tells-on _ _ _ (λ x e. tells-weaker (tells-type resourceTypes) (λ c i h. stepped-after (eqb-true _ _ e) h) (λ p c i h. h .0))
     (tells-on _ _ _
-    (λ x e. tells-on _ _ _ (λ s t. tells-took _ (λ c i h. behind-kind kinds.string (refl, refl, refl) (eqb-true _ _ t) h)) (tells-ten (record { at = λ c i h x. quiet-ten (behind-kind kinds.equal (refl, refl, refl) (eqb-true _ _ e) (h .0)) x })))
+    (λ x e. tells-on _ _ _ (λ s t. tells-took _ (λ c i h. behind-kind kinds.string (refl, refl, refl) (eqb-true _ _ (and-left _ _ t)) h)) (tells-refuseBy noText (λ c r x h. text-at (behind-kind kinds.equal (refl, refl, refl) (eqb-true _ _ e) (h .0)) x)))
     (tells-took _ (λ c i h. h .0 .0)))
 
 tells-when : Tells (At Quiet) read-when (Ends Quiet)
@@ -364,7 +364,7 @@ data Effect : List Lexeme → Type 0 where
 
 -- behind a policy
 abbrev Policed : List Lexeme → Type 0
-Policed = TestsAt false false false false false true
+Policed = TestsAt false false false false false true false
 
 tells-policy : (permits : Bool) → Tells (At Effect) (read-policy permits) (Ends Policed)
 unfolding read-policy lastPasses
@@ -414,7 +414,7 @@ tells-policies = record { at = λ c i h. rw (policies-step [] i) (first .at c i 
         (tells-took [] (λ c i h. rw (h .0) (none (h .1))))
 
 no-policy-first : (x : Lexeme) → mayBegin [] x ≡ false → numbered noPolicy x ≡ numberOfToken [] x
-unfolding numbered noPolicy numberOfToken mayBegin lastPasses afterLeft atCondition oneMore
+unfolding numbered noPolicy numberOfToken mayBegin lastPasses afterLeft atCondition atLiteral oneMore
 no-policy-first x f = rw (rw (and-true (isEffect x)) at f)
 
 tells-end : (ps : List Policy) → Tells (Between ps) (atEnd ps) (λ qs c i. Unit {0})

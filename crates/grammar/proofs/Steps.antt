@@ -11,7 +11,7 @@ use Rattle.reading.specs.Reader.{took, Reader, ten, bind, on, mapped, onwards}
 use Rattle.reading.proofs.Readers.{Goes, good, goes-took, goes-on, goes-refuseBy, Shrinks, shrinks-onto, Takes, takes, onwards-step}
 use Rattle.grammar.specs.Policies.{Root, Literal, Tree, both, either, Policy}
 use Rattle.grammar.specs.Grammar.{sizes}
-use Rattle.grammar.specs.Parser.{Way, uncalled, calling, noName, tooMany, goesOn, read-next-name, read-element, read-conjunction, read-condition, mayBegin, read-next-policy}
+use Rattle.grammar.specs.Parser.{Way, uncalled, calling, noName, noElement, goesOn, read-next-name, read-element, read-conjunction, read-condition, mayBegin, read-next-policy}
 use Rattle.grammar.proofs.Begun.{Family, Viable, viable-mapped}
 use Rattle.grammar.proofs.Framing.{shrinks-conjunction, shrinks-condition, shrinks-policy, framed-condition}
 use Rattle.grammar.proofs.Viable.{viable-condition, viable-conjunction, viable-policy}
@@ -32,7 +32,7 @@ unfolding read-element
 element-takes sort ls = record { at = λ i r a e. goes-took (rw e at (go i)) }
   where
     go : (i : List Lexeme) → Goes (λ a r. length r < length i) (λ n r. Unit {0}) (read-element sort ls i)
-    go i = goes-on _ _ _ _ _ i (λ x r e t. rw e (good {r = r} (omega arith))) (goes-refuseBy (tooMany sort) i (λ e. tt) (λ x r e. tt))
+    go i = goes-on _ _ _ _ _ i (λ x r e t. rw e (good {r = r} (omega arith))) (goes-refuseBy (noElement sort ls) i (λ e. tt) (λ x r e. tt))
 
 takes-mapped : {A B : Type 0} (f : A → B) {p : Reader A} {R : Family A} → Viable 0 p R → Shrinks (R sizes) → Takes (mapped f p)
 takes-mapped f v s = takes (viable-mapped v f .at) (shrinks-onto s)

@@ -1,16 +1,17 @@
 -- What the reader of rule texts takes is in the grammar, and what stands before what it refuses begins a text of the grammar; where a limit refused it, with the refused token. Assumes nothing.
-use mathlib.Core.Path.{_≡_, refl, sym}
-use mathlib.Core.Bool.{Bool, true, false}
+use mathlib.Core.Path.{_≡_, refl, sym, _∙_}
+use mathlib.Core.Bool.{Bool, true, false, cond, _&&_}
 use mathlib.Core.List.{List, [], _∷_, _++_}
 use mathlib.Core.Logic.{inl, inr}
 use mathlib.Core.Option.{Option, some}
-use Prim.Native.Nat.{ℕ, zero, suc, _+_, _<_}
+use Prim.Native.Nat.{ℕ, zero, suc, _+_, _≤_, _<_}
 use native.Mathlib.Omega.{arith}
 use lib.Dec.{ltb}
 use lib.ListN.{length}
 use borrow.Author.Tests.{eqb-true}
 use Rattle.slices.specs.Ascii.{bytes}
 use Rattle.slices.specs.Same.{same}
+use Rattle.utf8.specs.Reading.{utf8, utf8After}
 use Rattle.tokens.specs.Kinds as kinds
 use Rattle.tokens.proofs.TokenLaws.{never, and-left, and-right}
 use Rattle.tokens.specs.Sizes.{mostLiterals, mostPolicies}
@@ -19,13 +20,14 @@ use Rattle.reading.specs.Reads.{Reading, Chain, Chain.alone, Chain.more, Onto, 
 use Rattle.reading.specs.Reader.{Answer, Reader, refuseBy, mapped, chain}
 use Rattle.reading.proofs.Readers.{Goes, good, goes-weaker, goes-below, goes-ten, goes-bind, goes-on, goes-need, goes-need-bind, goes-onwards}
 use Rattle.grammar.specs.Policies.{Span, Root, Literal, Operand, attribute, literal, Tree, compare, among, within, contains, has, choice, both, either, Part, Actions, oneOf, Policy}
-use Rattle.grammar.specs.Rules.{inside, isEffect, isRoot, rootOf, isLiteral, literalOf, isComparator, comparatorOf, isContains, whichOf, deepens, principalTypes, resourceTypes, typeAmong, isType, admitted, isPattern}
-use Rattle.grammar.specs.Grammar.{a-policy, Limits, pathNumber, Path, firstPath, spanned, first, NextName, next, APath, Attribute, rooted, AnOperand, given, Element, element, Literals, Listing, Simple, comparison, likeness, listed, held, call, having, Conjunction, Disjunction, ConditionOver, simple, negation, bracketed, conditional, Condition, Typed, ResourceRest, ActionRest, When, PolicyRest, Policies, policy, RuleText}
+use Rattle.grammar.specs.Rules.{inside, isEffect, isRoot, rootOf, isLiteral, literalOf, isComparator, comparatorOf, isContains, whichOf, deepens, principalTypes, resourceTypes, typeAmong, isType, admitted, isPattern, isText}
+use Rattle.grammar.specs.Lowest.{rank}
+use Rattle.grammar.specs.Grammar.{a-string, a-policy, Limits, pathNumber, Path, firstPath, spanned, first, NextName, next, APath, Attribute, rooted, AnOperand, given, Element, element, Literals, Listing, Simple, comparison, likeness, listed, held, call, having, Conjunction, Disjunction, ConditionOver, simple, negation, bracketed, conditional, Condition, Typed, ResourceRest, ActionRest, When, PolicyRest, Policies, policy, RuleText}
 use Rattle.grammar.specs.Grammar as grammar
-use Rattle.grammar.specs.Parser.{Way, calling, noName, noOperator, noType, noLevel, noPattern, tooMany, noPolicy, nameFits, read-first-name, goesOn, read-next-name, read-way, noExit, spannedBy, read-path, read-attribute, read-operand, isElement, read-element, read-list, read-bare, read-in, isLike, read-pattern, read-operator, read-call, read-rest, read-rooted, read-simple, read-joined, read-conjunction, read-disjunction, read-negated, read-bracketed, read-conditional, read-deeper, read-condition, read-conditions, read-type, read-principal, read-action, read-resource, read-when, read-policy, mayBegin, read-next-policy, atEnd, read-text}
+use Rattle.grammar.specs.Parser.{Way, calling, noName, noOperator, noType, noText, noLevel, noPattern, noElement, noPolicy, nameFits, read-first-name, goesOn, read-next-name, read-way, noExit, spannedBy, read-path, read-attribute, read-operand, isTextOf, isElement, read-element, read-list, read-bare, read-in, isLike, read-pattern, read-operator, read-call, read-rest, read-rooted, read-simple, read-joined, read-conjunction, read-disjunction, read-negated, read-bracketed, read-conditional, read-deeper, read-condition, read-conditions, read-type, read-principal, read-action, read-resource, read-when, read-policy, mayBegin, read-next-policy, atEnd, read-text}
 use Rattle.grammar.specs.Parser as parser
 use Rattle.grammar.proofs.Begun.{Family, made, Swap, here, Moved, Eases, taken, Exempt, beyond, Kept, eased, few, beyond-few, Framed, framed-onto, framed-before, framed-chain, Then, followed, Possible, possible-onto, possible-before, possible-after, possible-then, possible-chain, Begun, begun-weaker, begun-first, begun-start, begun-more, begun-next, begun-inside, begun-left, begun-right, Viable, viable-mapped, viable-before, viable-after, viable-onwards, viable-chain}
-use Rattle.grammar.proofs.Limits.{name-number, string-number, literal-number, effect-number, level-number, bare-below, type-below, name-below, pattern-below, literal-below, effect-below, level-below, Chosen, chosen-beyond, goes-limit}
+use Rattle.grammar.proofs.Limits.{name-number, string-number, text-number, literal-number, effect-number, levelOrText, level-or-text, bare-below, type-below, name-below, pattern-below, text-below, literal-below, effect-below, level-below, Chosen, chosen-beyond, goes-limit}
 use Rattle.grammar.proofs.Framing.{same-depth, framed-names, framed-attribute, framed-operand, framed-element, framed-list, framed-conjunction, framed-disjunction, framed-condition, framed-typed, framed-resource, framed-action, framed-when, framed-principals, framed-actions, framed-resources, framed-policy}
 
 -- ---- what readers take that the grammar has no name for
@@ -86,19 +88,19 @@ module _ (extra : ℕ) where
 
     -- a name that the limit of paths refuses, or any other
     abbrev AName : ℕ → List Lexeme → Type 0
-    AName n i = Chosen extra (is kinds.name) (pathNumber root) n i
+    AName n i = Chosen extra (is kinds.name) (λ x. pathNumber root) n i
 
     next-name : (p : Path) (m : List Lexeme) (n : ℕ) → AName n m → Begun extra (λ L. NextName L root p) m n m
-    next-name p m n c = begun-first [] (λ w. (c .token ∷ w, _, c .kept w, next (eqb-true _ _ (c .passes)) (inr (chosen-beyond c w))))
+    next-name p m n c = begun-first [] (λ w. (c .token ∷ w, _, c .kept w, next (eqb-true _ _ (c .passes)) (inr (chosen-beyond c (pathNumber root) (omega arith) w))))
 
     goes-name : {A : Type 0} {P : A → List Lexeme → Type 0} {Q : ℕ → List Lexeme → Type 0} (i : List Lexeme) → ((n : ℕ) → AName n i → Q n i) → Goes P Q (refuseBy (noName root) i)
-    goes-name i f = goes-limit (noName root) (is kinds.name) (pathNumber root) (made kinds.name) refl (λ x t. name-number root x (eqb-true _ _ t)) (name-below root) i f
+    goes-name i f = goes-limit (noName root) (is kinds.name) (λ x. pathNumber root) (made kinds.name) refl (λ x t. name-number root x (eqb-true _ _ t)) (name-below root) i f
 
     viable-first : (exit : Lexeme → Bool) (i : List Lexeme) → Goes (λ w r. AWay (taken extra) exit root i r w) (Begun extra (λ L. APath L root) i) (read-first-name root i)
     unfolding read-first-name nameFits
     viable-first exit i =
         goes-on _ _ _ _ _ i (λ x r e t. rw e (good (path (alone (first (eqb-true _ _ (and-left _ _ t)) (and-right (is kinds.name x) (admitted root 0 x) t))))))
-        (goes-name i (λ n c. begun-first [] (λ w. (c .token ∷ w, _, c .kept w, alone (first (eqb-true _ _ (c .passes)) (inr (chosen-beyond c w)))))))
+        (goes-name i (λ n c. begun-first [] (λ w. (c .token ∷ w, _, c .kept w, alone (first (eqb-true _ _ (c .passes)) (inr (chosen-beyond c (pathNumber root) (omega arith) w)))))))
 
     viable-next : (exit : Lexeme → Bool) (i m : List Lexeme) (w : Way) (d : Lexeme) → AWay (taken extra) exit root i (d ∷ m) w → goesOn w d ≡ true
         → Goes (λ v r. AWay (taken extra) exit root i r v) (Begun extra (λ L. APath L root) i) (read-next-name exit root w m)
@@ -137,29 +139,50 @@ module _ (extra : ℕ) where
       go k (onto j) = via (rooted t k j)
 
   some-operand : Possible extra AnOperand
-  some-operand = record { text = λ w. made kinds.trueWord ∷ w; tree = _; reads = λ n s w. grammar.AnOperand.literally refl }
+  some-operand = record { text = λ w. made kinds.trueWord ∷ w; tree = _; reads = λ n s w. grammar.AnOperand.literally refl (inl refl) }
+
+  -- a string that the limit of strings refuses, or any other
+  abbrev AString : ℕ → List Lexeme → Type 0
+  AString n i = Chosen extra (is kinds.string) (λ x. 17) n i
+
+  goes-text : {A : Type 0} {P : A → List Lexeme → Type 0} {Q : ℕ → List Lexeme → Type 0} (i : List Lexeme) → ((n : ℕ) → AString n i → Q n i) → Goes P Q (refuseBy noText i)
+  goes-text i f = goes-limit noText (is kinds.string) (λ x. 17) (made kinds.string) refl text-number text-below i f
+
+  string-literal : (x : Lexeme) → is kinds.string x ≡ true → isLiteral x ≡ true
+  string-literal x t = rw t
+
+  chosen-string : {n : ℕ} {test : Lexeme → Bool} {m : Lexeme → ℕ} {i : List Lexeme} (c : Chosen extra test m n i) → is kinds.string (c .token) ≡ true → rank (m (c .token)) ≤ 17 → (w : List Lexeme)
+      → AnOperand (beyond extra n (c .token ∷ w)) (c .token ∷ w) w (literal (literalOf (c .token)))
+  chosen-string c t l w = grammar.AnOperand.literally (string-literal (c .token) t) (inr (chosen-beyond c 17 l w))
 
   viable-operand : Viable extra read-operand AnOperand
-  unfolding read-operand
+  unfolding read-operand isTextOf
   viable-operand = record {
     at = λ i.
-        goes-on _ _ _ _ _ i (λ x r e t. rw e (good (grammar.AnOperand.literally t)))
+        goes-on _ _ _ _ _ i (λ x r e t. rw e (good (grammar.AnOperand.literally (and-left _ _ t) (and-right (isLiteral x) (isText x) t))))
         (goes-on _ _ _ _ _ i
         (λ x r e t. rw e (goes-weaker (viable-attribute x attribute t .at r) (λ a m h. go h) (λ num m b. begun-more (x ∷ []) (λ w. w) b (λ s j w a h. (_, go h)))))
-        (goes-ten i (λ n l. begun-start some-operand l)));
+        (goes-text i (λ n c. begun-first [] (λ w. (c .token ∷ w, _, c .kept w, chosen-string c (c .passes) (omega arith) w)))));
   }
     where
       go : {L : Limits} {x : Lexeme} {i r : List Lexeme} {a : Operand} → Via x attribute L i r a → AnOperand L (x ∷ i) r a
       go (via h) = given h
 
-  module _ (sort : Lexeme → Bool) (sorts : (x : Lexeme) → sort x ≡ true → isLiteral x ≡ true) (y : Lexeme) (fit : sort y ≡ true) where
+  module _ (sort : Lexeme → Bool) (sorts : (x : Lexeme) → sort x ≡ true → isLiteral x ≡ true) (y : Lexeme) (fit : sort y ≡ true) (fine : isText y ≡ true) where
     pub viable-element : (ls : List Literal) → Viable extra (read-element sort ls) (λ L. Element L sort ls)
-    unfolding read-element isElement
+    unfolding read-element isElement isTextOf
     viable-element ls = record {
       at = λ i.
-          goes-on _ _ _ _ _ i (λ x r e t. rw e (good (element (and-left _ _ t) (and-right (sort x) (ltb (length ls) mostLiterals) t))))
-          (goes-limit (tooMany sort) sort 14 y fit (λ x t. literal-number sort x (sorts x t) t) (literal-below sort) i (λ n c. begun-first [] (λ w. (c .token ∷ w, _, c .kept w, element (c .passes) (inr (chosen-beyond c w))))));
+          goes-on _ _ _ _ _ i
+          (λ x r e t. let u = and-right (ltb (length ls) mostLiterals) (sort x && isText x) t in rw e (good (element (and-left _ _ u) (and-left _ _ t) (and-right (sort x) (isText x) u))))
+          (goes-limit (noElement sort ls) sort (λ x. cond (ltb (length ls) mostLiterals) 17 14) y fit (λ x t. literal-number sort ls x (sorts x t) t) (literal-below sort ls) i (λ n c.
+          begun-first [] (λ w. (c .token ∷ w, _, c .kept w, go n c w (ltb (length ls) mostLiterals) refl))));
     }
+      where
+        go : {i : List Lexeme} (n : ℕ) (c : Chosen extra sort (λ x. cond (ltb (length ls) mostLiterals) 17 14) n i) (w : List Lexeme) (b : Bool) → ltb (length ls) mostLiterals ≡ b
+            → Element (beyond extra n (c .token ∷ w)) sort ls (c .token ∷ w) w (ls ++ literalOf (c .token) ∷ [])
+        go n c w true e = element (c .passes) (inl e) (inr (chosen-beyond c 17 (rw e (omega arith)) w))
+        go n c w false e = element (c .passes) (inr (chosen-beyond c 14 (rw e (omega arith)) w)) (inr (chosen-beyond c 17 (rw e (omega arith)) w))
 
     viable-list : Viable extra (read-list sort) (λ L. Literals L sort)
     unfolding read-list
@@ -168,7 +191,7 @@ module _ (extra : ℕ) where
         (framed-chain (framed-element sort []) (λ ls x. framed-element sort ls)) kinds.rightSquare
 
     some-element : Possible extra (λ L. Element L sort [])
-    some-element = record { text = λ w. y ∷ w; tree = _; reads = λ n s w. element fit (inl refl) }
+    some-element = record { text = λ w. y ∷ w; tree = _; reads = λ n s w. element fit (inl refl) (inl fine) }
 
     some-list : Possible extra (λ L. Literals L sort)
     some-list = possible-before (possible-chain some-element) kinds.rightSquare
@@ -176,20 +199,20 @@ module _ (extra : ℕ) where
   -- ---- conditions that hold no other
 
   a-list : Possible extra (λ L. Listing L isLiteral)
-  a-list = possible-after (some-list isLiteral (λ x e. e) (made kinds.trueWord) refl) kinds.leftSquare
+  a-list = possible-after (some-list isLiteral (λ x e. e) (made kinds.trueWord) refl refl) kinds.leftSquare
 
   -- An operand can be gone on with by `== true`.
   begun-operand : {i m : List Lexeme} {a : Operand} → AnOperand (taken extra) i m a → (n : ℕ) → n < 11 → Begun extra Simple i n m
-  begun-operand h n l = begun-next [] (λ w. made kinds.equal ∷ made kinds.trueWord ∷ w) framed-operand h (λ w. few l) (λ j w k. (_, comparison k refl (grammar.AnOperand.literally refl)))
+  begun-operand h n l = begun-next [] (λ w. made kinds.equal ∷ made kinds.trueWord ∷ w) framed-operand h (λ w. few l) (λ j w k. (_, comparison k refl (grammar.AnOperand.literally refl (inl refl))))
 
   -- the token x is a left operand that no operator follows
-  viable-bare : (x : Lexeme) (m : List Lexeme) → isLiteral x ≡ true → Goes (λ t r. Simple (taken extra) (x ∷ m) r t) (Begun extra Simple (x ∷ m)) (read-bare (literal (literalOf x)) m)
+  viable-bare : (x : Lexeme) (m : List Lexeme) → isLiteral x ≡ true → isText x ≡ true → Goes (λ t r. Simple (taken extra) (x ∷ m) r t) (Begun extra Simple (x ∷ m)) (read-bare (literal (literalOf x)) m)
   unfolding read-bare literalOf
-  viable-bare x m t = go (is kinds.string x) (is kinds.number x) refl refl
+  viable-bare x m t l = go (is kinds.string x) (is kinds.number x) refl refl
     where
       go : (s n : Bool) → is kinds.string x ≡ s → is kinds.number x ≡ n → Goes (λ t r. Simple (taken extra) (x ∷ m) r t) (Begun extra Simple (x ∷ m)) (read-bare (literal (literalOf x)) m)
-      go true n e f = rw e (goes-ten m (begun-operand (grammar.AnOperand.literally t)))
-      go false true e f = rw (e, f) (goes-ten m (begun-operand (grammar.AnOperand.literally t)))
+      go true n e f = rw e (goes-ten m (begun-operand (grammar.AnOperand.literally t l)))
+      go false true e f = rw (e, f) (goes-ten m (begun-operand (grammar.AnOperand.literally t l)))
       go false false e f = rw (e, f) (good (grammar.Simple.bare (rw (e, f) at t)))
 
   -- a left operand a was read, and a comparator, `like` or `in`
@@ -200,12 +223,21 @@ module _ (extra : ℕ) where
         goes-bind _ (viable-operand .at r) (λ num s b. begun-inside (x ∷ []) framed-operand h b (λ s j n w v h′ k. (_, comparison h′ t k))) (λ v s k. good (comparison h t k))
 
     viable-pattern : x .kind ≡ kinds.likeWord → Goes (λ t s. Simple (taken extra) i s t) (Begun extra Simple i) (read-pattern a r)
-    unfolding read-pattern isLike
+    unfolding read-pattern isLike isTextOf
     viable-pattern t =
         goes-on _ _ _ _ _ r
-        (λ y s e u. good (likeness (rw e at h) t (eqb-true _ _ (and-left _ _ u)) (and-right (is kinds.string y) (isPattern (inside y)) u)))
-        (goes-limit noPattern (is kinds.string) 13 (made kinds.string) refl (λ y u. string-number y (eqb-true _ _ u)) pattern-below r (λ n c.
-        begun-next (x ∷ []) (λ w. c .token ∷ w) framed-operand h (c .kept) (λ j w h′. (_, likeness h′ t (eqb-true _ _ (c .passes)) (inr (chosen-beyond c w))))))
+        (λ y s e u. let v = and-left (is kinds.string y && isText y) (isPattern (inside y)) u in
+        good (likeness (rw e at h) t (eqb-true _ _ (and-left _ _ v)) (and-right (is kinds.string y) (isText y) v) (and-right (is kinds.string y && isText y) (isPattern (inside y)) u)))
+        (goes-limit noPattern (is kinds.string) (λ y. cond (isText y) 13 17) (made kinds.string) refl string-number pattern-below r (λ n c.
+        begun-next (x ∷ []) (λ w. c .token ∷ w) framed-operand h (c .kept) (λ j w h′. (_, likeness h′ t (eqb-true _ _ (c .passes)) (text-asked n c w (isText (c .token)) refl) (inr (chosen-beyond c 13 (last (isText (c .token))) w))))))
+      where
+        last : (b : Bool) → rank (cond b 13 17) ≤ rank 13
+        last true = omega arith
+        last false = omega arith
+
+        text-asked : (n : ℕ) (c : Chosen extra (is kinds.string) (λ y. cond (isText y) 13 17) n r) (w : List Lexeme) (b : Bool) → isText (c .token) ≡ b → beyond extra n (c .token ∷ w) .Asks (a-string (c .token)) w
+        text-asked n c w true e = inl e
+        text-asked n c w false e = inr (chosen-beyond c 17 (rw e (omega arith)) w)
 
     viable-in : x .kind ≡ kinds.inWord → Goes (λ t s. Simple (taken extra) i s t) (Begun extra Simple i) (read-in a r)
     unfolding read-in mapped
@@ -216,7 +248,7 @@ module _ (extra : ℕ) where
       where
         in-list : (y : Lexeme) (s : List Lexeme) → AnOperand (taken extra) i (x ∷ y ∷ s) a → y .kind ≡ kinds.leftSquare → Goes (λ t r. Simple (taken extra) i r t) (Begun extra Simple i) (mapped (among a) (read-list isLiteral) s)
         in-list y s g e =
-            goes-bind _ (viable-list isLiteral (λ x e. e) (made kinds.trueWord) refl .at s) (λ num u b. begun-inside (x ∷ y ∷ []) framed-operand g b (λ s j n w ls h′ k. (_, listed h′ t (begun e k))))
+            goes-bind _ (viable-list isLiteral (λ x e. e) (made kinds.trueWord) refl refl .at s) (λ num u b. begun-inside (x ∷ y ∷ []) framed-operand g b (λ s j n w ls h′ k. (_, listed h′ t (begun e k))))
             (λ ls u k. good (listed g t (begun e k)))
 
         within-it : {L : Limits} {y : Lexeme} {j s u : List Lexeme} {v : Tree} → AnOperand L j (x ∷ y ∷ s) a → Via y (within a) L s u v → Simple L j u v
@@ -244,7 +276,7 @@ module _ (extra : ℕ) where
       goes-need _ _ _ _ n
       (λ num l. begun-next (d ∷ x ∷ o ∷ []) (inner .text) framed-attribute (rw e′ at h) (λ w. few l) (λ j w h′. (_, call h′ e t k (inner .reads num (inner .text w) w)))) (λ l s e″ k′.
       goes-weaker
-      (viable-before (viable-mapped (viable-list isLiteral (λ x e. e) (made kinds.trueWord) refl) (contains (whichOf x) root p)) (framed-onto (framed-list isLiteral) (contains (whichOf x) root p)) kinds.rightRound .at s)
+      (viable-before (viable-mapped (viable-list isLiteral (λ x e. e) (made kinds.trueWord) refl refl) (contains (whichOf x) root p)) (framed-onto (framed-list isLiteral) (contains (whichOf x) root p)) kinds.rightRound .at s)
       (λ v w j. go (rw (e′, e″) at h) k k′ j)
       (λ num u c. begun-inside (d ∷ x ∷ o ∷ l ∷ []) framed-attribute (rw (e′, e″) at h) c (λ s j n w v h′ j′. (_, go h′ k k′ j′)))))
     where
@@ -261,7 +293,7 @@ module _ (extra : ℕ) where
   viable-rooted x i t =
       goes-on _ _ _ _ _ i
       (λ d m e k. rw e (goes-bind _ (viable-way (rootOf x) isContains m)
-      (λ num r b. begun-more (x ∷ d ∷ []) (λ w. made kinds.equal ∷ made kinds.trueWord ∷ w) b (λ s j w p h. (_, comparison (given (rooted t (eqb-true _ _ k) h)) refl (grammar.AnOperand.literally refl))))
+      (λ num r b. begun-more (x ∷ d ∷ []) (λ w. made kinds.equal ∷ made kinds.trueWord ∷ w) b (λ s j w p h. (_, comparison (given (rooted t (eqb-true _ _ k) h)) refl (grammar.AnOperand.literally refl (inl refl)))))
       (λ w r h. go d m (eqb-true _ _ k) w r h)))
       (goes-need _ _ _ _ i
       (λ num l. begun-first (x ∷ []) (λ w. (made kinds.hasWord ∷ made kinds.name ∷ w, _, few l, having t refl (one-name (rootOf x) num (made kinds.hasWord ∷ made kinds.name ∷ w) w (beyond-few l (omega arith)))))) (λ h m e k.
@@ -284,11 +316,18 @@ module _ (extra : ℕ) where
   some-condition zero = some-form (λ L. grammar.Nothing)
   some-condition (suc d) = some-form (λ L. Condition L d)
 
+  -- A condition can begin with a string, and be gone on with by `== true`.
+  begun-string : (R : Family Tree) {n : ℕ} {test : Lexeme → Bool} {m : Lexeme → ℕ} {i : List Lexeme} (c : Chosen extra test m n i) → is kinds.string (c .token) ≡ true → rank (m (c .token)) ≤ 17
+      → Begun extra (λ L. ConditionOver L (R L)) i n i
+  begun-string R c t l = begun-first [] (λ w.
+      let on = made kinds.equal ∷ made kinds.trueWord ∷ w in (c .token ∷ on, _, c .kept on, simple (comparison (chosen-string c t l on) refl (grammar.AnOperand.literally refl (inl refl)))))
+
   viable-simple : {R : Family Tree} (deeper : Reader Tree) → Viable extra deeper (λ L. ConditionOver L (R L)) → Viable extra (read-simple deeper) (λ L. ConditionOver L (R L))
-  unfolding read-simple
+  unfolding read-simple isTextOf
   viable-simple {R = R} deeper v = record {
     at = λ i.
-        goes-on _ _ _ _ _ i (λ x r e t. rw e (up (viable-operator _ _ r (grammar.AnOperand.literally t) (viable-bare x r t))))
+        goes-on _ _ _ _ _ i
+        (λ x r e t. let l = and-right (isLiteral x) (isText x) t in rw e (up (viable-operator _ _ r (grammar.AnOperand.literally (and-left _ _ t) l) (viable-bare x r (and-left _ _ t) l))))
         (goes-on _ _ _ _ _ i (λ x r e t. rw e (up (viable-rooted x r t)))
         (v .at i));
   }
@@ -338,7 +377,7 @@ module _ (extra : ℕ) where
           (λ x r e t. rw e (goes-bind _ (viable-before viable-disjunction (framed-disjunction f) kinds.rightRound .at r)
           (λ num s b. begun-more (x ∷ []) (λ w. w) b (λ s j w u h. (_, bracketed (eqb-true _ _ t) h))) (λ u m h. good (bracketed (eqb-true _ _ t) h))))
           (goes-on _ _ _ _ _ i (λ x r e t. rw e (viable-conditional q x (eqb-true _ _ t) r))
-          (goes-ten i (λ num l. begun-start (some-form R) l))));
+          (goes-text i (λ n c. begun-string R c (c .passes) (omega arith)))));
     }
 
   -- a condition that the token x puts one level deeper than the reader goes
@@ -364,16 +403,29 @@ module _ (extra : ℕ) where
       go false true p q = record { text = within-brackets .text w; tree = _; reads = λ s. bracketed (eqb-true _ _ q) (within-brackets .reads n s w) }
       go false false p q = record { text = three .text w; tree = _; reads = λ s. whole-if (eqb-true _ _ (rw (p, q) at t)) (three .reads n s w) }
 
-  goes-deeper : (e : ℕ) {i : List Lexeme} (n : ℕ) → Chosen extra deepens 12 n i → Begun extra (λ L. ConditionOver L (Condition L e)) i n i
-  goes-deeper e n c = begun-first [] (λ w. let d = deeper-by e n w (c .token) (c .passes) in (c .token ∷ d .text, d .tree, c .kept (d .text), d .reads (c .token ∷ d .text)))
+  -- what the reader refuses where it has no level left: what goes deeper, or a string
+  abbrev ALevel : ℕ → List Lexeme → Type 0
+  ALevel n i = Chosen extra levelOrText (λ x. cond (deepens x) 12 17) n i
+
+  goes-level : {A : Type 0} {P : A → List Lexeme → Type 0} {Q : ℕ → List Lexeme → Type 0} (i : List Lexeme)
+      → ((n : ℕ) (c : ALevel n i) → deepens (c .token) ≡ true → Q n i) → ((n : ℕ) (c : ALevel n i) → is kinds.string (c .token) ≡ true → rank (cond (deepens (c .token)) 12 17) ≤ 17 → Q n i)
+      → Goes P Q (refuseBy noLevel i)
+  goes-level {Q = Q} i f g = goes-limit noLevel levelOrText (λ x. cond (deepens x) 12 17) (made kinds.bang) refl level-or-text level-below i (λ n c. go n c (deepens (c .token)) refl)
+    where
+      go : (n : ℕ) (c : ALevel n i) (d : Bool) → deepens (c .token) ≡ d → Q n i
+      go n c true e = f n c e
+      go n c false e = g n c (rw e at (c .passes)) (rw e (omega arith))
+
+  goes-deeper : (e : ℕ) {i : List Lexeme} (n : ℕ) (c : ALevel n i) → deepens (c .token) ≡ true → Begun extra (λ L. ConditionOver L (Condition L e)) i n i
+  goes-deeper e n c t = begun-first [] (λ w. let d = deeper-by e n w (c .token) t in (c .token ∷ d .text, d .tree, c .kept (d .text), d .reads (c .token ∷ d .text)))
 
   -- where the reader has no level left inside, and the grammar e
   viable-last : (e : ℕ) → e ≡ extra → Viable extra (read-simple (refuseBy noLevel)) (λ L. Condition L e)
   viable-last zero q = viable-simple _ (record {
-    at = λ i. goes-limit {k = extra} noLevel deepens 12 (made kinds.bang) refl level-number level-below i (λ n c. begun-first [] (λ w.
-        (made kinds.trueWord ∷ w, _, λ h z. absurd (c .only (λ d. let y = z (sym d) in omega arith) h), simple (grammar.Simple.bare refl))));
+    at = λ i. goes-level i (λ n c t. begun-first [] (λ w.
+        (made kinds.trueWord ∷ w, _, λ h z. absurd (c .only (λ d. let y = z (sym d ∙ rw t) in omega arith) h), simple (grammar.Simple.bare refl)))) (λ n c t l. begun-string (λ L. grammar.Nothing) c t l);
   })
-  viable-last (suc e) q = viable-simple _ (record { at = λ i. goes-limit noLevel deepens 12 (made kinds.bang) refl level-number level-below i (goes-deeper e) })
+  viable-last (suc e) q = viable-simple _ (record { at = λ i. goes-level i (goes-deeper e) (λ n c t l. begun-string (λ L. Condition L e) c t l) })
 
   -- where the reader has d levels left inside, and the grammar e
   pub viable-condition : (d e : ℕ) → e ≡ d + extra → Viable extra (read-condition d) (λ L. Condition L e)
@@ -401,31 +453,31 @@ module _ (extra : ℕ) where
         goes-on _ _ _ _ _ i (λ x r e t. rw e (viable-type principalTypes (type-name (bytes "tool")) refl x (eqb-true _ _ t) r)) (good grammar.Typed.bare);
   }
 
-  viable-resource : Viable extra read-resource (λ L. ResourceRest)
-  unfolding read-resource type-name resourceTypes typeAmong same
+  viable-resource : Viable extra read-resource ResourceRest
+  unfolding read-resource isTextOf type-name resourceTypes typeAmong same
   viable-resource = record {
     at = λ i.
         goes-on _ _ _ _ _ i
         (λ x r e t. rw e (goes-weaker (viable-type resourceTypes (type-name (bytes "shaft")) refl x (eqb-true _ _ t) r) (λ p m h. grammar.ResourceRest.sort h)
         (λ num m b. begun-weaker b (λ s j w p h. grammar.ResourceRest.sort h))))
         (goes-on _ _ _ _ _ i
-        (λ x r e t. rw e (goes-on _ _ _ _ _ r (λ s m e′ t′. rw e′ (good (grammar.ResourceRest.string (eqb-true _ _ t) (eqb-true _ _ t′))))
-        (goes-ten r (λ num l. begun-first (x ∷ []) (λ w. (made kinds.string ∷ w, _, few l, grammar.ResourceRest.string (eqb-true _ _ t) refl))))))
+        (λ x r e t. rw e (goes-on _ _ _ _ _ r (λ s m e′ t′. rw e′ (good (grammar.ResourceRest.string (eqb-true _ _ t) (eqb-true _ _ (and-left _ _ t′)) (and-right (is kinds.string s) (isText s) t′))))
+        (goes-text r (λ n c. begun-first (x ∷ []) (λ w. (c .token ∷ w, _, c .kept w, grammar.ResourceRest.string (eqb-true _ _ t) (eqb-true _ _ (c .passes)) (inr (chosen-beyond c 17 (omega arith) w))))))))
         (good (grammar.ResourceRest.sort grammar.Typed.bare)));
   }
 
   viable-action : Viable extra read-action ActionRest
-  unfolding read-action
+  unfolding read-action utf8 utf8After
   viable-action = record {
     at = λ i.
         goes-on _ _ _ _ _ i
-        (λ x r e t. rw e (goes-weaker (viable-after (viable-mapped list oneOf) (possible-onto (some-list (is kinds.string) (λ x e. rw e) (made kinds.string) refl) oneOf) kinds.leftSquare .at r)
+        (λ x r e t. rw e (goes-weaker (viable-after (viable-mapped list oneOf) (possible-onto (some-list (is kinds.string) (λ x e. rw e) (made kinds.string) refl refl) oneOf) kinds.leftSquare .at r)
         (λ a m h. go (eqb-true _ _ t) h) (λ num m b. begun-more (x ∷ []) (λ w. w) b (λ s j w a h. (_, go (eqb-true _ _ t) h)))))
         (good grammar.ActionRest.bare);
   }
     where
       list : Viable extra (read-list (is kinds.string)) (λ L. Literals L (is kinds.string))
-      list = viable-list (is kinds.string) (λ x e. rw e) (made kinds.string) refl
+      list = viable-list (is kinds.string) (λ x e. rw e) (made kinds.string) refl refl
 
       go : {L : Limits} {x : Lexeme} {i r : List Lexeme} {a : Actions} → x .kind ≡ kinds.inWord
           → After kinds.leftSquare (Onto oneOf (Literals L (is kinds.string))) i r a → ActionRest L (x ∷ i) r a
@@ -454,7 +506,7 @@ module _ (extra : ℕ) where
   ActionsPart L = After kinds.actionWord (Before kinds.comma (ActionRest L))
 
   abbrev Resources : Family Part
-  Resources L = After kinds.resourceWord (Before kinds.rightRound ResourceRest)
+  Resources L = After kinds.resourceWord (Before kinds.rightRound (ResourceRest L))
 
   abbrev Ending : Family (Option Tree)
   Ending L = Before kinds.semicolon (When L)
@@ -477,8 +529,8 @@ module _ (extra : ℕ) where
   some-action : Possible extra (λ L. Before kinds.comma (ActionRest L))
   some-action = possible-before {R = ActionRest} (record { text = λ w. w; tree = _; reads = λ n s w. grammar.ActionRest.bare }) kinds.comma
 
-  some-resource : Possible extra (λ L. Before kinds.rightRound ResourceRest)
-  some-resource = possible-before {R = λ L. ResourceRest} (record { text = λ w. w; tree = _; reads = λ n s w. grammar.ResourceRest.sort grammar.Typed.bare }) kinds.rightRound
+  some-resource : Possible extra (λ L. Before kinds.rightRound (ResourceRest L))
+  some-resource = possible-before {R = ResourceRest} (record { text = λ w. w; tree = _; reads = λ n s w. grammar.ResourceRest.sort grammar.Typed.bare }) kinds.rightRound
 
   some-ending : Possible extra Ending
   some-ending = possible-before {R = When} (record { text = λ w. w; tree = _; reads = λ n s w. grammar.When.bare }) kinds.semicolon
@@ -540,7 +592,7 @@ module _ (extra : ℕ) where
     where
       go : (ps : List Policy) (r : List Lexeme) → Upto (taken extra) i r ps → Goes (λ ps r. (r ≡ []) × RuleText (taken extra) i ps) (Opened extra i) (atEnd ps r)
       go ps [] h = good (refl, whole-text h grammar.Policies.end)
-      go ps (x ∷ r) h = goes-limit noPolicy isEffect 15 (made kinds.permitWord) refl effect-number effect-below (x ∷ r) (λ n c.
+      go ps (x ∷ r) h = goes-limit noPolicy isEffect (λ x. 15) (made kinds.permitWord) refl effect-number effect-below (x ∷ r) (λ n c.
           let p = some-policy (is kinds.permitWord (c .token)) in let on = c .token ∷ p .text [] in let q = framed-chain framed-start framed-next .at (eased extra n on) h here in
           record {
             on = on;
@@ -548,5 +600,5 @@ module _ (extra : ℕ) where
             policies = _;
             swapped = q .1;
             kept = c .kept (p .text []);
-            belongs = whole-text (q .2) (policy (c .passes) (inr (chosen-beyond c (p .text []))) (p .reads n on []) grammar.Policies.end);
+            belongs = whole-text (q .2) (policy (c .passes) (inr (chosen-beyond c 15 (omega arith) (p .text []))) (p .reads n on []) grammar.Policies.end);
           })

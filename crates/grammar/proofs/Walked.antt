@@ -131,9 +131,9 @@ walk-typed : (types : List (List ℕ)) → ((n : Lexeme) → isType types n ≡ 
 walk-typed types g grammar.Typed.bare f c = f c
 walk-typed types g (grammar.Typed.one {n = n} e t) f c = typed e (eqb-true _ _ (and-left _ _ t)) (g n t) (f _)
 
-walk-resource : {i r : List Lexeme} {p : Part} → ResourceRest i r p → Ends r → Ends i
+walk-resource : {L : Limits} {i r : List Lexeme} {p : Part} → ResourceRest L i r p → Ends r → Ends i
 walk-resource (grammar.ResourceRest.sort h) f = walk-typed resourceTypes (λ n t. rw t (or-true (isType principalTypes n))) h f
-walk-resource (grammar.ResourceRest.string e e′) f = past kinds.equal (refl, refl, refl) e (past kinds.string (refl, refl, refl) e′ f)
+walk-resource (grammar.ResourceRest.string e e′ l) f = past kinds.equal (refl, refl, refl) e (past kinds.string (refl, refl, refl) e′ f)
 
 module _ (L : Limits) where
   walk-names : (root : Root) {i r : List Lexeme} {p : Path} → APath L root i r p → Ends r → (c : List Lexeme) → atName c ≡ true → Walks c i
@@ -146,11 +146,11 @@ module _ (L : Limits) where
 
   walk-operand : {i r : List Lexeme} {a : Operand} → AnOperand L i r a → Ends r → Ends i
   walk-operand (given h) f c = walk-attribute h f c
-  walk-operand (grammar.AnOperand.literally {x = x} t) f c = step (literal x t) (f _)
+  walk-operand (grammar.AnOperand.literally {x = x} t l) f c = step (literal x t) (f _)
 
   module _ (sort : Lexeme → Bool) (sorts : (x : Lexeme) → sort x ≡ true → isLiteral x ≡ true) where
     walk-element : {ls ks : List Literal} {i r : List Lexeme} → Element L sort ls i r ks → Ends r → Ends i
-    walk-element (element {x = x} t l) f c = step (literal x (sorts x t)) (f _)
+    walk-element (element {x = x} t l k) f c = step (literal x (sorts x t)) (f _)
 
     walk-elements : {ls : List Literal} {i r : List Lexeme} → Chain (λ ls. is kinds.comma) (Element L sort []) (λ ls comma. Element L sort ls) i r ls → Ends r → Ends i
     walk-elements (alone h) f c = walk-element h f c
@@ -162,7 +162,7 @@ module _ (L : Limits) where
   walk-simple : {i r : List Lexeme} {t : Tree} → Simple L i r t → Ends r → Ends i
   walk-simple (grammar.Simple.bare {x = x} t) f = λ c. step (by-test (λ k. isTruth (made k)) (refl, refl, refl) x t) (f _)
   walk-simple (comparison {x = x} h t k) f = walk-operand h (λ d. step (by-test (λ k. isComparator (made k)) (refl, refl, refl) x t) (walk-operand k f _))
-  walk-simple (likeness h e e′ l) f = walk-operand h (past kinds.likeWord (refl, refl, refl) e (past kinds.string (refl, refl, refl) e′ f))
+  walk-simple (likeness h e e′ l k) f = walk-operand h (past kinds.likeWord (refl, refl, refl) e (past kinds.string (refl, refl, refl) e′ f))
   walk-simple (listed h e k) f = walk-operand h (past kinds.inWord (refl, refl, refl) e (walk-listing isLiteral (λ x t. t) k f))
   walk-simple (held h e k) f = walk-operand h (past kinds.inWord (refl, refl, refl) e (walk-attribute k f))
   walk-simple (call {w = w} h e t e′ (ended k e″)) f =

@@ -15,15 +15,15 @@ use Rattle.grammar.specs.Policies.{Span, span, Root, Root.Principal, Roo
 use Rattle.grammar.specs.Policies.{constant, compare, like, among, within, contains, has, not, brackets, both, either, choice, Part, any, typed, pinned}
 use Rattle.grammar.specs.Policies.{Actions, every, oneOf, Policy}
 use Rattle.grammar.specs.Rules.{inside, spanOf, isEffect, isRoot, rootOf, isTruth, isLiteral, literalOf, isComparator, comparatorOf, isContains, whichOf}
-use Rattle.grammar.specs.Rules.{principalTypes, resourceTypes, typeOf, isType, admitted, isPattern}
+use Rattle.grammar.specs.Rules.{principalTypes, resourceTypes, typeOf, isType, admitted, isPattern, isText}
 
 -- ---- limits
 
--- What has a limit: a name on a path after the root, of which so many bytes are used; a pattern; a literal with so many before it in its list;
+-- What has a limit: a name on a path after the root, of which so many bytes are used; a pattern; a string; a literal with so many before it in its list;
 -- a policy with so many before it in its text.
 pub data Limit : Type 0 where
   a-name : Root → ℕ → Lexeme → Limit
-  a-pattern : Lexeme → Limit
+  a-pattern a-string : Lexeme → Limit
   a-literal a-policy : ℕ → Limit
 
 -- the number of the limit of a path after the root
@@ -37,6 +37,7 @@ pathNumber Action = 11
 abbrev pub limitNumber : Limit → ℕ
 limitNumber (a-name root used x) = pathNumber root
 limitNumber (a-pattern x) = 13
+limitNumber (a-string x) = 17
 limitNumber (a-literal k) = 14
 limitNumber (a-policy k) = 15
 
@@ -44,6 +45,7 @@ limitNumber (a-policy k) = 15
 abbrev pub kept : Limit → Bool
 kept (a-name root used x) = admitted root used x
 kept (a-pattern x) = isPattern (inside x)
+kept (a-string x) = isText x
 kept (a-literal k) = ltb k mostLiterals
 kept (a-policy k) = ltb k mostPolicies
 
@@ -118,13 +120,14 @@ pub data Attribute (L : Limits) : List Lexeme → List Lexeme → Operand → Ty
 -- an operand: an attribute or a literal
 pub data AnOperand (L : Limits) : List Lexeme → List Lexeme → Operand → Type 0 where
   given : {i r : List Lexeme} {a : Operand} → Attribute L i r a → AnOperand L i r a
-  literally : {x : Lexeme} {r : List Lexeme} → isLiteral x ≡ true → AnOperand L (x ∷ r) r (literal (literalOf x))
+  literally : {x : Lexeme} {r : List Lexeme} → isLiteral x ≡ true → L .Asks (a-string x) r → AnOperand L (x ∷ r) r (literal (literalOf x))
 
 -- ---- lists: at least one literal, with commas between them, in square brackets
 
 -- one literal more after ls, of the sort that the test says
 pub data Element (L : Limits) (sort : Lexeme → Bool) (ls : List Literal) : List Lexeme → List Lexeme → List Literal → Type 0 where
-  element : {x : Lexeme} {r : List Lexeme} → sort x ≡ true → L .Asks (a-literal (length ls)) r → Element L sort ls (x ∷ r) r (ls ++ literalOf x ∷ [])
+  element : {x : Lexeme} {r : List Lexeme}
+    → sort x ≡ true → L .Asks (a-literal (length ls)) r → L .Asks (a-string x) r → Element L sort ls (x ∷ r) r (ls ++ literalOf x ∷ [])
 
 -- a list's literals of a sort, and its `]`
 abbrev pub Literals : Limits → (Lexeme → Bool) → Reading (List Literal)
@@ -142,7 +145,8 @@ pub data Simple (L : Limits) : List Lexeme → List Lexeme → Tree → Type 0 w
   comparison : {x : Lexeme} {i m r : List Lexeme} {a b : Operand}
     → AnOperand L i (x ∷ m) a → isComparator x ≡ true → AnOperand L m r b → Simple L i r (compare (comparatorOf x) a b)
   likeness : {x s : Lexeme} {i r : List Lexeme} {a : Operand}
-    → AnOperand L i (x ∷ s ∷ r) a → x .kind ≡ kinds.likeWord → s .kind ≡ kinds.string → L .Asks (a-pattern s) r → Simple L i r (like a (spanOf s))
+    → AnOperand L i (x ∷ s ∷ r) a → x .kind ≡ kinds.likeWord → s .kind ≡ kinds.string → L .Asks (a-string s) r → L .Asks (a-pattern s) r
+    → Simple L i r (like a (spanOf s))
   listed : {x : Lexeme} {i m r : List Lexeme} {a : Operand} {ls : List Literal}
     → AnOperand L i (x ∷ m) a → x .kind ≡ kinds.inWord → Listing L isLiteral m r ls → Simple L i r (among a ls)
   held : {x : Lexeme} {i m r : List Lexeme} {a : Operand} {root : Root} {p : Span}
@@ -197,9 +201,10 @@ pub data Typed (types : List (List ℕ)) : List Lexeme → List Lexeme → Part 
   one : {x n : Lexeme} {r : List Lexeme} → x .kind ≡ kinds.isWord → isType types n ≡ true → Typed types (x ∷ n ∷ r) r (typed (typeOf types n))
 
 -- the resource part: bare, `is` one of its types, or `==` a string
-pub data ResourceRest : List Lexeme → List Lexeme → Part → Type 0 where
-  sort : {i r : List Lexeme} {p : Part} → Typed resourceTypes i r p → ResourceRest i r p
-  string : {x s : Lexeme} {r : List Lexeme} → x .kind ≡ kinds.equal → s .kind ≡ kinds.string → ResourceRest (x ∷ s ∷ r) r (pinned (spanOf s))
+pub data ResourceRest (L : Limits) : List Lexeme → List Lexeme → Part → Type 0 where
+  sort : {i r : List Lexeme} {p : Part} → Typed resourceTypes i r p → ResourceRest L i r p
+  string : {x s : Lexeme} {r : List Lexeme}
+    → x .kind ≡ kinds.equal → s .kind ≡ kinds.string → L .Asks (a-string s) r → ResourceRest L (x ∷ s ∷ r) r (pinned (spanOf s))
 
 -- the action part: bare, or `in` a list of strings
 pub data ActionRest (L : Limits) : List Lexeme → List Lexeme → Actions → Type 0 where
@@ -217,7 +222,7 @@ pub data PolicyRest (L : Limits) (permits : Bool) : List Lexeme → List Lexeme 
   rest : {i j k l r : List Lexeme} {p : Part} {a : Actions} {s : Part} {c : Option Tree}
     → After kinds.leftRound (After kinds.principalWord (Before kinds.comma (Typed principalTypes))) i j p
     → After kinds.actionWord (Before kinds.comma (ActionRest L)) j k a
-    → After kinds.resourceWord (Before kinds.rightRound ResourceRest) k l s
+    → After kinds.resourceWord (Before kinds.rightRound (ResourceRest L)) k l s
     → Before kinds.semicolon (When L) l r c
     → PolicyRest L permits i r (record { permits = permits; principal = p; action = a; resource = s; condition = c })
 

@@ -2,9 +2,10 @@
 -- Definitions only.
 use mathlib.Core.Path.{_≡_}
 use mathlib.Core.Logic.{_⊎_, _↔_}
-use mathlib.Core.Bool.{true}
+use mathlib.Core.Bool.{true, cond}
 use mathlib.Core.List.{List, [], _∷_, _++_}
 use Prim.Native.Nat.{ℕ, _≤_, _<_}
+use lib.Dec.{eqb}
 use Rattle.tokens.specs.Kinds as kinds
 use Rattle.tokens.specs.Sizes.{mostInside}
 use Rattle.reading.specs.Listed.{Lexeme}
@@ -69,17 +70,19 @@ pub data Applies (b : List Lexeme) (x : Lexeme) : ℕ → Type 0 where
   no-type : ¬ Admitted b x → SomeAdmitted kinds.name b → x .kind ≡ kinds.name → Applies b x 9
   -- any token not admitted
   not-admitted : ¬ Admitted b x → Applies b x 10
-  -- admitted, but over a limit: 11 the path after action, 12 levels, 13 the pattern, 14 literals, 15 policies, 16 any other path (after action 11 is lower)
-  limit : {n : ℕ} → 11 ≤ n → n ≤ 16 → Admitted b x → ¬ Keeps n b x → Applies b x n
+  -- admitted, but over a limit: 11 the path after action, 12 levels, 13 the pattern, 14 literals, 15 policies, 16 any other path (after action 11 is lower),
+  -- 17 the string
+  limit : {n : ℕ} → 11 ≤ n → n ≤ 17 → Admitted b x → ¬ Keeps n b x → Applies b x n
 
 -- the same of the first of the tokens r behind b; at the end of the text it is 10
 pub data AppliesAt (b : List Lexeme) : List Lexeme → ℕ → Type 0 where
   token : {x : Lexeme} {r : List Lexeme} {n : ℕ} → Applies b x n → AppliesAt b (x ∷ r) n
   end : AppliesAt b [] 10
 
--- The order in which the numbers go: of those that apply the one with the least rank is told. Document 01's is the order of the numbers themselves.
+-- The order in which the numbers go: of those that apply the one with the least rank is told. Document 01's is the order of the numbers themselves; by document
+-- 02, request 5, 17 goes before 13. So 13 goes last: what is a pattern is no literal of a list, no policy and no name, so 13 meets none of 14 to 16.
 abbrev pub rank : ℕ → ℕ
-rank n = n
+rank n = cond (eqb n 13) 18 n
 
 -- the lowest number that applies there
 pub record LowestNumber (b r : List Lexeme) (n : ℕ) : Type 0 where

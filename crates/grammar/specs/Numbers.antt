@@ -9,7 +9,7 @@ use Rattle.tokens.specs.Kinds as kinds
 use Rattle.tokens.specs.Sizes.{mostLiterals}
 use Rattle.reading.specs.Listed.{Lexeme, is}
 use Rattle.reading.specs.Reader.{refuse}
-use Rattle.grammar.specs.Rules.{isEffect, isReserved, isRoot, isLiteral, isContains, endsBare, deepens}
+use Rattle.grammar.specs.Rules.{isEffect, isReserved, isRoot, isLiteral, isComparator, isContains, endsBare, deepens, isText}
 use Rattle.grammar.specs.Parser.{read-text}
 
 -- ---- places
@@ -72,7 +72,16 @@ oneMore (suc k) [] x = false
 oneMore (suc k) (y ∷ []) x = false
 oneMore (suc k) (y ∷ l ∷ c) x = is kinds.comma y && isLiteral l && oneMore k c x
 
--- ---- the table, the lowest number first
+-- in a list, where a literal may stand
+unfoldable pub atLiteral : List Lexeme → Bool
+atLiteral [] = false
+atLiteral (y ∷ c) = is kinds.leftSquare y || (is kinds.comma y && lastPasses isLiteral c)
+
+-- where a string may stand that begins no condition and is no pattern: behind a comparator, in a list
+abbrev pub atText : List Lexeme → Bool
+atText c = lastPasses isComparator c || atLiteral c
+
+-- ---- the table, the lowest number first; of strings where a pattern must stand, 13 only those that are UTF-8
 
 -- the number of the token x behind the tokens c
 unfoldable pub numberOfToken : List Lexeme → Lexeme → ℕ
@@ -83,10 +92,11 @@ numberOfToken c x =
     (cond (atType c && is kinds.name x) 9
     (cond (atName c && is kinds.name x && afterAction c) 11
     (cond (atCondition c && deepens x) 12
-    (cond (atPattern c && is kinds.string x) 13
     (cond (oneMore mostLiterals c x) 14
     (cond (afterPolicy c && isEffect x) 15
-    (cond (atName c && is kinds.name x) 16 10)))))))))
+    (cond (atName c && is kinds.name x) 16
+    (cond (atPattern c && is kinds.string x && isText x) 13
+    (cond ((atCondition c || atPattern c || atText c) && is kinds.string x) 17 10))))))))))
 
 -- the refusal of the first token of r, or of the end of the text
 unfoldable pub numberOfFirst : List Lexeme → List Lexeme → ℕ

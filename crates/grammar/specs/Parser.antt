@@ -13,7 +13,7 @@ use Rattle.grammar.specs.Policies.{Span, Root, Literal, text, number, tr
 use Rattle.grammar.specs.Policies.{within, contains, has, not, brackets, both, either, choice, Part, any, typed, pinned, Actions, every, oneOf, Policy}
 use Rattle.grammar.specs.Rules.{inside, spanOf, isEffect, isReserved, isRoot, rootOf, isLiteral, literalOf, isComparator, comparatorOf, isContains}
 use Rattle.grammar.specs.Rules.{whichOf, endsBare, deepens, principalTypes, resourceTypes, typeOf, isType, admitted}
-use Rattle.grammar.specs.Rules.{isPattern}
+use Rattle.grammar.specs.Rules.{isPattern, isText}
 use Rattle.grammar.specs.Grammar.{pathNumber, Path, firstPath, longerPath, spanned}
 
 -- ---- which number a token gets that is not admitted
@@ -30,17 +30,21 @@ noOperator x = cond (endsBare x) 8 10
 unfoldable pub noType : Lexeme → ℕ
 noType x = cond (is kinds.name x) 9 10
 
--- where a condition must stand with no level left: 12 what would go one deeper
+-- where a string may stand: 17 one that is not UTF-8
+unfoldable pub noText : Lexeme → ℕ
+noText x = cond (is kinds.string x) 17 10
+
+-- where a condition must stand with no level left: 12 what would go one deeper, 17 a string
 unfoldable pub noLevel : Lexeme → ℕ
-noLevel x = cond (deepens x) 12 10
+noLevel x = cond (deepens x) 12 (noText x)
 
--- where a pattern must stand: 13 a string that is none
+-- where a pattern must stand: 17 a string that is not UTF-8, 13 any other string that is none
 unfoldable pub noPattern : Lexeme → ℕ
-noPattern x = cond (is kinds.string x) 13 10
+noPattern x = cond (is kinds.string x) (cond (isText x) 13 17) 10
 
--- where a literal of some sort must stand: 14 one too many
-unfoldable pub tooMany : (Lexeme → Bool) → Lexeme → ℕ
-tooMany sort x = cond (sort x) 14 10
+-- where a literal of some sort must stand behind ls: 14 one too many, 17 a string that is not UTF-8
+unfoldable pub noElement : (Lexeme → Bool) → List Literal → Lexeme → ℕ
+noElement sort ls x = cond (sort x) (cond (ltb (length ls) mostLiterals) 17 14) 10
 
 -- where a policy may begin: 15 one too many
 unfoldable pub noPolicy : Lexeme → ℕ
@@ -95,17 +99,22 @@ read-path root i = bind (read-way noExit root i) (λ w. took (spannedBy w))
 unfoldable pub read-attribute : {A : Type 0} → Root → (Root → Span → A) → Reader A
 read-attribute root f = need kinds.dot (λ i. bind (read-path root i) (λ p. took (f root p)))
 
+-- a token of the sort that is UTF-8 where it is a string
+unfoldable pub isTextOf : (Lexeme → Bool) → Lexeme → Bool
+isTextOf sort x = sort x && isText x
+
 -- an operand that is no left operand
 unfoldable pub read-operand : Reader Operand
-read-operand = on isLiteral (λ x. took (literal (literalOf x))) (on isRoot (λ x. read-attribute (rootOf x) attribute) (refuseBy ten))
+read-operand =
+    on (isTextOf isLiteral) (λ x. took (literal (literalOf x))) (on isRoot (λ x. read-attribute (rootOf x) attribute) (refuseBy noText))
 
--- a literal of the sort, where ls has room for one more
+-- such a token, where ls has room for one more
 unfoldable pub isElement : (Lexeme → Bool) → List Literal → Lexeme → Bool
-isElement sort ls x = sort x && ltb (length ls) mostLiterals
+isElement sort ls x = ltb (length ls) mostLiterals && isTextOf sort x
 
 -- one literal more after ls
 unfoldable pub read-element : (Lexeme → Bool) → List Literal → Reader (List Literal)
-read-element sort ls = on (isElement sort ls) (λ x. took (ls ++ literalOf x ∷ [])) (refuseBy (tooMany sort))
+read-element sort ls = on (isElement sort ls) (λ x. took (ls ++ literalOf x ∷ [])) (refuseBy (noElement sort ls))
 
 -- after `[`
 unfoldable pub read-list : (Lexeme → Bool) → Reader (List Literal)
@@ -126,9 +135,9 @@ read-in a =
     on (is kinds.leftSquare) (λ _. mapped (among a) (read-list isLiteral))
     (on isRoot (λ x. read-attribute (rootOf x) (within a)) (refuseBy ten))
 
--- a string that is a pattern
+-- a string that is UTF-8 and a pattern
 unfoldable pub isLike : Lexeme → Bool
-isLike x = is kinds.string x && isPattern (inside x)
+isLike x = isTextOf (is kinds.string) x && isPattern (inside x)
 
 -- after `like`
 unfoldable pub read-pattern : Operand → Reader Tree
@@ -157,7 +166,7 @@ read-rooted root =
 
 -- a condition that holds no other, or else what `deeper` reads
 unfoldable pub read-simple : Reader Tree → Reader Tree
-read-simple deeper = on isLiteral (λ x. read-operator (literal (literalOf x))) (on isRoot (λ x. read-rooted (rootOf x)) deeper)
+read-simple deeper = on (isTextOf isLiteral) (λ x. read-operator (literal (literalOf x))) (on isRoot (λ x. read-rooted (rootOf x)) deeper)
 
 -- ---- conditions
 
@@ -188,7 +197,7 @@ unfoldable pub read-deeper : Reader Tree → Reader Tree
 read-deeper inner =
     on (is kinds.bang) (λ _. read-negated inner)
     (on (is kinds.leftRound) (λ _. read-bracketed inner)
-    (on (is kinds.ifWord) (λ _. read-conditional inner) (refuseBy ten)))
+    (on (is kinds.ifWord) (λ _. read-conditional inner) (refuseBy noText)))
 
 -- a condition with at most d levels inside it
 unfoldable pub read-condition : ℕ → Reader Tree
@@ -217,7 +226,7 @@ read-action = on (is kinds.inWord) (λ _. need kinds.leftSquare (mapped oneOf (r
 unfoldable pub read-resource : Reader Part
 read-resource =
     on (is kinds.isWord) (λ _. read-type resourceTypes)
-    (on (is kinds.equal) (λ _. on (is kinds.string) (λ x. took (pinned (spanOf x))) (refuseBy ten)) (took any))
+    (on (is kinds.equal) (λ _. on (isTextOf (is kinds.string)) (λ x. took (pinned (spanOf x))) (refuseBy noText)) (took any))
 
 -- after the target's `)`
 unfoldable pub read-when : Reader (Option Tree)

@@ -8,8 +8,9 @@ use lib.Dec.{eqb, leb}
 use lib.ListN.{length, take, drop}
 use Rattle.slices.specs.Ascii.{bytes}
 use Rattle.slices.specs.Same.{same}
+use Rattle.utf8.specs.Reading.{utf8, points}
 use Rattle.tokens.specs.Kinds as kinds
-use Rattle.tokens.specs.Sizes.{mostPathBytes, mostPatternBytes, mostWildcards}
+use Rattle.tokens.specs.Sizes.{mostPathBytes, mostPatternCharacters, mostWildcards}
 use Rattle.reading.specs.Listed.{Lexeme, is, size}
 use Rattle.grammar.specs.Policies.{Span, span, Root, Root.Principal, Root.Resource, Root.Env, Root.Action, Comparator, Comparator.Equal}
 use Rattle.grammar.specs.Policies.{Comparator.NotEqual, Comparator.More, Comparator.AtLeast, Comparator.Less, Comparator.AtMost, Literal, text, number}
@@ -83,6 +84,12 @@ endsBare x = is kinds.and x || is kinds.or x || is kinds.rightRound x || is kind
 abbrev pub deepens : Lexeme → Bool
 deepens x = is kinds.bang x || is kinds.leftRound x || is kinds.ifWord x
 
+-- ---- strings
+
+-- what stands between a string's quotes is UTF-8; any other token passes
+abbrev pub isText : Lexeme → Bool
+isText x = not (is kinds.string x) || utf8 (inside x)
+
 -- ---- types
 
 -- a type's number is its place among the types of its part, from 1 on
@@ -130,6 +137,6 @@ unfoldable pub plainPattern : Bool → List ℕ → Bool
 plainPattern star [] = true
 plainPattern star (b ∷ rest) = not (eqb b (code "[")) && not (eqb b (code "{")) && not (star && eqb b (code "*")) && plainPattern (eqb b (code "*")) rest
 
--- at most so many bytes and so many wildcards, without `[`, `{` or `**`
+-- at most so many characters and so many wildcards, without `[`, `{` or `**`
 unfoldable pub isPattern : List ℕ → Bool
-isPattern s = leb (length s) mostPatternBytes && leb (wildcards s) mostWildcards && plainPattern false s
+isPattern s = leb (length (points s)) mostPatternCharacters && leb (wildcards s) mostWildcards && plainPattern false s

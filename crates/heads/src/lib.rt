@@ -13,6 +13,7 @@ ghost use Rattle.parts.specs.Names.{typesOf};
 use parts::answers::Answer;
 use parts::answers::counted;
 use parts::answers::turned_away;
+use parts::lists::is_text;
 use parts::lists::read_list;
 use parts::refusals;
 use slices::same as equal;
@@ -189,6 +190,9 @@ pub fn read_resource(
         let s = next_token(classes, text, t.end);
         if s.kind != kinds::STRING {
             return Answer::Refused(turned_away(text, s, refusals::NOT_ADMITTED));
+        }
+        if !is_text(text, s) {
+            return Answer::Refused(turned_away(text, s, refusals::NOT_UTF8));
         }
         let next = next_token(classes, text, s.end);
         let ok = append(

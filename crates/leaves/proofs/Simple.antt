@@ -7,11 +7,12 @@ use native.Mathlib.Omega.{arith}
 use borrow.Author.Tests.{eq-eqb, ne-eqb}
 use Rattle.tokens.specs.Kinds as kinds
 use Rattle.tokens.specs.declared.reader.Token.{Token}
-use Rattle.reading.specs.Lexemes.{Lexeme, lexeme}
+use Rattle.reading.specs.Lexemes.{Lexeme, lexeme, is}
 use Rattle.reading.specs.Reader.{took, refuseBy, ten}
 use Rattle.grammar.specs.Policies.{Span, Root, Comparator, text, number, truth, Operand, attribute, literal, Which, constant}
-use Rattle.grammar.specs.Rules.{isComparator, comparatorOf, isPattern, inside}
+use Rattle.grammar.specs.Rules.{isComparator, comparatorOf, isPattern, isText, inside}
 use Rattle.grammar.specs.Parser.{Way, uncalled, calling, spannedBy, noOperator, noPattern, isLike, read-bare, read-operator, read-call, read-rest}
+use Rattle.grammar.proofs.Completeness.{text-of, no-text-of, no-sort-of}
 use Rattle.table.specs.declared.Entry.{Entry}
 use Rattle.table.specs.Entries.{comparatorKind, whichKind, literalEntry, operandEntry, treeEntries}
 use Rattle.parts.specs.Names.{ofKind, comparing}
@@ -54,19 +55,33 @@ module _ (x : Lexeme) where
 module _ (s : List ℕ) (t : Token) where
   pub no-string : (t .kind ≡ kinds.string → ⊥) → isLike (lexeme s t) ≡ false
   unfolding isLike
-  no-string n = rw (ne-eqb _ _ n)
+  no-string n = rw (no-sort-of (is kinds.string) (lexeme s t) (ne-eqb _ _ n))
 
-  pub string-like : t .kind ≡ kinds.string → isLike (lexeme s t) ≡ isPattern (inside (lexeme s t))
+  pub no-text : isText (lexeme s t) ≡ false → isLike (lexeme s t) ≡ false
   unfolding isLike
-  string-like e = rw (eq-eqb _ _ e)
+  no-text u = rw (no-text-of (is kinds.string) (lexeme s t) u)
+
+  pub string-like : t .kind ≡ kinds.string → isText (lexeme s t) ≡ true → isLike (lexeme s t) ≡ isPattern (inside (lexeme s t))
+  unfolding isLike
+  string-like e u = rw (text-of (is kinds.string) (lexeme s t) (eq-eqb _ _ e) u)
 
   pub ten-for : (t .kind ≡ kinds.string → ⊥) → noPattern (lexeme s t) ≡ 10
   unfolding noPattern
   ten-for n = rw (ne-eqb _ _ n)
 
-  pub thirteen-for : t .kind ≡ kinds.string → noPattern (lexeme s t) ≡ 13
+  pub seventeen-for : t .kind ≡ kinds.string → isText (lexeme s t) ≡ false → noPattern (lexeme s t) ≡ 17
   unfolding noPattern
-  thirteen-for e = rw (eq-eqb _ _ e)
+  seventeen-for e u = string-number (is kinds.string (lexeme s t)) (isText (lexeme s t)) 17 (eq-eqb _ _ e) u
+    where
+      string-number : (b u : Bool) (n : ℕ) → b ≡ true → u ≡ false → cond b (cond u 13 n) 10 ≡ n
+      string-number b u n e f = rw (e, f)
+
+  pub thirteen-for : t .kind ≡ kinds.string → isText (lexeme s t) ≡ true → noPattern (lexeme s t) ≡ 13
+  unfolding noPattern
+  thirteen-for e u = string-number (is kinds.string (lexeme s t)) (isText (lexeme s t)) 13 (eq-eqb _ _ e) u
+    where
+      string-number : (b u : Bool) (n : ℕ) → b ≡ true → u ≡ true → cond b (cond u n 17) 10 ≡ n
+      string-number b u n e f = rw (e, f)
 
 -- ---- left operands, by the kinds of their entries
 

@@ -6,40 +6,24 @@ use Prim.Native.Nat.{ℕ, zero, suc, _+_, _-_, _≤_, _<_}
 use native.Mathlib.Omega.{arith}
 use native.Mathlib.Nat.{zero-add}
 use native.Mathlib.Numerals.{add-one}
-use lib.Dec.{eqb, leb}
-use lib.ListN.{length, take, drop, getD, length-drop}
-use lib.Seq.{drop-cons, drop-drop, take-take, take-nil, length-take-le}
-use borrow.Author.Tests.{lt-leb, le-leb}
+use lib.Dec.{eqb, leb, ltb}
+use lib.ListN.{length, take, drop, getD}
+use lib.Seq.{drop-cons}
+use borrow.Author.Tests.{lt-leb, le-leb, ltb-true, ltb-false}
 use mir.Val.{boolByte}
-use Rattle.tokens.specs.declared.reader.Token.{Token}
 use Rattle.tokens.proofs.TokenLaws.{never}
-use Rattle.reading.specs.Lexemes.{lexeme}
-use Rattle.grammar.specs.Rules.{inside, isWildcard, wildcards, plainPattern, isPattern}
+use Rattle.utf8.specs.Reading.{points}
+use Rattle.grammar.specs.Rules.{isWildcard, wildcards, plainPattern, isPattern}
 use Rattle.table.proofs.Holding.{and-true, and-false}
+use Rattle.parts.proofs.Texts.{between}
 
--- the bytes from a place up to the last before `end`, which is a quote
-abbrev pub between : List ℕ → ℕ → ℕ → List ℕ
-between text end i = take (end - 1 - i) (drop i text)
-
-between-byte : (text : List ℕ) (end i : ℕ) → i + 1 < end → end ≤ length text → between text end i ≡ getD text i 0 ∷ between text end (i + 1)
+pub between-byte : (text : List ℕ) (end i : ℕ) → i + 1 < end → end ≤ length text → between text end i ≡ getD text i 0 ∷ between text end (i + 1)
 between-byte text end i h l =
     let n : end - 1 - i ≡ suc (end - 1 - (i + 1)) = omega arith in
     rw (n, drop-cons text i 0 (omega arith), add-one i)
 
-between-none : (text : List ℕ) (end i : ℕ) → end ≤ i + 1 → between text end i ≡ []
+pub between-none : (text : List ℕ) (end i : ℕ) → end ≤ i + 1 → between text end i ≡ []
 between-none text end i h = let n : end - 1 - i ≡ 0 = omega arith in rw n
-
-rest-of-take : (n : ℕ) (l : List ℕ) → drop 1 (take n l) ≡ take (n - 1) (drop 1 l)
-rest-of-take zero [] = refl
-rest-of-take zero (x ∷ l) = refl
-rest-of-take (suc n) [] = sym (take-nil (suc n - 1))
-rest-of-take (suc n) (x ∷ l) = let e : suc n - 1 ≡ n = omega arith in rw e
-
-pub inside-is : (text : List ℕ) (t : Token) → inside (lexeme text t) ≡ between text (t .end) (t .start + 1)
-inside-is text t =
-    let n : t .end - t .start - 2 ≡ t .end - 1 - (t .start + 1) = omega arith in
-    rw (rest-of-take (t .end - t .start) (drop (t .start) text), drop-drop 1 (t .start) text, n)
-    (take-take (t .end - 1 - (t .start + 1)) (t .end - t .start - 1) (drop (t .start + 1) text) (omega arith))
 
 -- what was seen of a pattern that starts at `start`, up to i
 pub record Seen (text : List ℕ) (end start : ℕ) (many : ℕ) (star : Bool) (i : ℕ) : Type 0 where
@@ -86,7 +70,7 @@ module _ {text : List ℕ} {end start many : ℕ} {star : Bool} {i : ℕ} (s : S
   unfolding isPattern plainPattern
   seen-bad h e =
       rw (s .plainly, between-byte text end i h (s .fits), stops (eqb (getD text i 0) 91) (eqb (getD text i 0) 123) (star && eqb (getD text i 0) 42) (plainPattern (eqb (getD text i 0) 42) (between text end (i + 1))) e)
-      (sym (and-false (leb (length (between text end start)) 100 && leb (wildcards (between text end start)) 5)))
+      (sym (and-false (leb (length (points (between text end start))) 100 && leb (wildcards (between text end start)) 5)))
     where
       stops : (a b d f : Bool) → (a || b || d) ≡ true → not a && not b && not d && f ≡ false
       stops true b d f e = refl
@@ -95,15 +79,12 @@ module _ {text : List ℕ} {end start many : ℕ} {star : Bool} {i : ℕ} (s : S
       stops false false false f e = absurd (never e)
 
   -- all bytes were seen
-  pub seen-all : end ≤ i + 1 → end - start ≤ 101 → leb many 5 ≡ isPattern (between text end start)
+  pub seen-all : end ≤ i + 1 → ltb 100 (length (points (between text end start))) ≡ false → leb many 5 ≡ isPattern (between text end start)
   unfolding isPattern plainPattern wildcards
   seen-all h l =
-      let short : length (between text end start) ≤ 100 = rw (length-take-le (end - 1 - start) (drop start text) (rw (length-drop start text) (let x = s .fits in omega arith))) (omega arith) in
       let many-is : many + 0 ≡ many = omega arith in
-      sym (rw (s .plainly, s .wild, between-none text end i h, le-leb _ _ short, many-is) (and-true (leb many 5)))
+      sym (rw (s .plainly, s .wild, between-none text end i h, le-leb _ _ (ltb-false 100 (length (points (between text end start))) l), many-is) (and-true (leb many 5)))
 
-pub too-long : (text : List ℕ) (end start : ℕ) → end ≤ length text → 101 < end - start → false ≡ isPattern (between text end start)
+pub too-long : (s : List ℕ) → ltb 100 (length (points s)) ≡ true → false ≡ isPattern s
 unfolding isPattern
-too-long text end start l h =
-    let long : 100 < length (between text end start) = rw (length-take-le (end - 1 - start) (drop start text) (rw (length-drop start text) (omega arith))) (omega arith) in
-    rw (lt-leb _ _ long)
+too-long s h = rw (lt-leb _ _ (ltb-true 100 (length (points s)) h))

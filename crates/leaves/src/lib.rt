@@ -20,6 +20,7 @@ use parts::answers::closed;
 use parts::answers::counted;
 use parts::answers::expected;
 use parts::answers::turned_away;
+use parts::lists::is_text;
 use parts::lists::read_list;
 use parts::operands::read_attribute;
 use parts::operands::read_operand;
@@ -119,6 +120,9 @@ fn read_pattern(
 {
     if t.kind != kinds::STRING {
         return Answer::Refused(turned_away(text, t, refusals::NOT_ADMITTED));
+    }
+    if !is_text(text, t) {
+        return Answer::Refused(turned_away(text, t, refusals::NOT_UTF8));
     }
     if !is_pattern(text, t) {
         return Answer::Refused(turned_away(text, t, refusals::NO_PATTERN));

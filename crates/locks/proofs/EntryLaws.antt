@@ -11,7 +11,11 @@ use borrow.Author.Tests.{le-ltb, lt-ltb, le-leb, lt-leb, eq-eqb, ne-eqb, eqb-tru
 use Rattle.slices.specs.Decides.{Decides}
 use Rattle.slices.specs.Parts.{part}
 use Rattle.slices.specs.Same.{same}
+use Rattle.slices.proofs.Decided.{one-answer}
 use Rattle.slices.proofs.Equal.{same-is}
+use Rattle.utf8.specs.Characters.{Utf8}
+use Rattle.utf8.specs.Reading.{utf8}
+use Rattle.utf8.proofs.Readings.{utf8-decides}
 use Rattle.tokens.specs.Bytes.{classOf}
 use Rattle.tokens.specs.Runs.{isOf, run, runEnd}
 use Rattle.tokens.specs.declared.classes.Sort.{Sort}
@@ -126,9 +130,9 @@ pub short-is : (w : Word) (a : Bool) (end : ℕ) → length w ≤ 64 → a ≡ i
 unfolding isShortWord
 short-is w a end h p q = rw (p, run-all WordBytes w end q, le-leb _ _ h)
 
-pub string-is : (s : List ℕ) (end : ℕ) → end ≡ runEnd StringBytes s 0 → (leb (length s) 127 && eqb end (length s)) ≡ isRuleString s
+pub string-is : (s : List ℕ) (end : ℕ) (u : Bool) → end ≡ runEnd StringBytes s 0 → Decides (Utf8 s) u → (leb (length s) 127 && eqb end (length s) && u) ≡ isRuleString s
 unfolding isRuleString
-string-is s end q = rw (run-all StringBytes s end q)
+string-is s end u q d = rw (run-all StringBytes s end q, one-answer u (utf8 s) d (utf8-decides s))
 
 -- ---- a vocabulary
 
@@ -161,7 +165,7 @@ pub short-string : (s : List ℕ) → isRuleString s ≡ true → length s ≤ 1
 unfolding isRuleString
 short-string s h = go (leb (length s) 127) refl h
   where
-    go : (t : Bool) → leb (length s) 127 ≡ t → (t && every (isOf StringBytes) s) ≡ true → length s ≤ 127
+    go : (t : Bool) → leb (length s) 127 ≡ t → (t && every (isOf StringBytes) s && utf8 s) ≡ true → length s ≤ 127
     go true e w = leb-true _ _ e
     go false e w = absurd (let z : _≡_ {A = ℕ} 0 1 = cc in omega arith)
 

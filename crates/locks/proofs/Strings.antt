@@ -7,6 +7,8 @@ use native.Mathlib.Omega.{arith}
 use lib.Dec.{leb}
 use lib.ListN.{length}
 use borrow.Author.Tests.{le-leb, leb-true}
+use Rattle.utf8.specs.Reading.{utf8}
+use Rattle.utf8.proofs.Readings.{utf8-decides}
 use Rattle.tokens.specs.Bytes.{classOf}
 use Rattle.tokens.specs.Forms.{All, empty, next}
 use Rattle.tokens.specs.Runs.{isOf}
@@ -56,10 +58,11 @@ short-word (b ∷ rest) h =
 
 pub string-test : {s : Word} → AString s → isRuleString s ≡ true
 unfolding isRuleString
-string-test a = rw (le-leb _ _ (a .size), all-every (a .all))
+string-test {s} a = rw (le-leb _ _ (a .size), all-every (a .all), utf8-decides s .complete (a .text))
 
 pub test-string : (s : Word) → isRuleString s ≡ true → AString s
 unfolding isRuleString
 test-string s h =
-    let t = and-eq-true-iff (leb (length s) 127) (every (isOf StringBytes) s) .0 h in
-    record { all = every-all StringBytes s (t .1); size = leb-true _ _ (t .0) }
+    let u = and-eq-true-iff (leb (length s) 127 && every (isOf StringBytes) s) (utf8 s) .0 h in
+    let t = and-eq-true-iff (leb (length s) 127) (every (isOf StringBytes) s) .0 (u .0) in
+    record { all = every-all StringBytes s (t .1); size = leb-true _ _ (t .0); text = utf8-decides s .sound (u .1) }

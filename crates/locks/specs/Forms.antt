@@ -113,7 +113,7 @@ pub record LockSays (v l a r : List ℕ) (actions : List Word) (tests : List Tes
   pub few-tests : length written ≤ 16
   -- each of its words is in the vocabulary and is used by its sort
   pub meant : AllMeant entries written tests
-  -- actions and resource are strings of 01; the list has 1 to 16
+  -- actions and resource are strings of 01, which are UTF-8; the list has 1 to 16
   pub actions-say : InTurn ActionBytes a actions
   pub some-actions : 1 ≤ length actions
   pub few-actions : length actions ≤ 16

@@ -11,6 +11,7 @@ use lib.ListN.{length, getD}
 use Rattle.slices.specs.Ascii.{bytes}
 use Rattle.slices.specs.Parts.{part}
 use Rattle.slices.specs.Same.{same}
+use Rattle.utf8.specs.Reading.{utf8}
 use Rattle.tokens.specs.Kinds as kinds
 use Rattle.tokens.specs.Runs.{isOf, runEnd}
 use Rattle.tokens.specs.Tokens.{tokenAt}
@@ -233,9 +234,9 @@ testIn v l t = testBy (t .sort) (t .mark) (part v (t .path) (t .stop - t .path))
 
 -- ---- an action
 
--- a string of document 01
+-- a string of document 01, which is UTF-8
 unfoldable pub isRuleString : List ℕ → Bool
-isRuleString s = leb (length s) 127 && every (isOf StringBytes) s
+isRuleString s = leb (length s) 127 && every (isOf StringBytes) s && utf8 s
 
 -- the string behind the length byte at a place
 unfoldable pub actionAt : List ℕ → ℕ → Piece

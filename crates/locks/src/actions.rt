@@ -7,16 +7,17 @@ use crate::Piece;
 use crate::Size;
 use tokens::classes::Sort;
 use tokens::runs::run_end;
+use utf8::is_utf8;
 
 // The most actions of a list.
 pub const ACTIONS: usize = 16;
 
-// Whether bytes are a string of document 01.
+// Whether bytes are a string of document 01, which is UTF-8.
 pub fn is_string(classes: &[u8; 256], s: &[u8]) -> bool
     requires { ⌜ now classes ≡ classTable ⌝ }
     ensures { λ r. ⌜ r ≡ isRuleString (now (s .entry)) ⌝ }
 {
-    (s.len() <= 127) & (run_end(classes, s, 0, Sort::StringBytes) == s.len())
+    (s.len() <= 127) & (run_end(classes, s, 0, Sort::StringBytes) == s.len()) & is_utf8(s)
 }
 
 fn no_piece() -> Piece

@@ -3,7 +3,7 @@ use mathlib.Core.Bool.{Bool, true, false, cond, _&&_, _||_}
 use mathlib.Core.List.{List, [], _∷_}
 use Prim.Native.Nat.{ℕ}
 use Rattle.slices.specs.Same.{same}
-use Rattle.patterns.specs.Likes.{likes}
+use Rattle.patterns.specs.Likes.{likesText}
 use Rattle.grammar.specs.Policies.{Comparator, Comparator.Equal, LiteralOf, Which, Which.All, Which.Any, TreeOf, constant, compare, like, among, within, contains, has, not, brackets, both, either, choice}
 use Rattle.placing.specs.Said.{Word}
 use Rattle.views.specs.Meaning.{Datum, text, number, flag, texts, absent, present, View}
@@ -87,9 +87,9 @@ amongStrings l x = some (same x) l
 abbrev pub compared : Comparator → Datum → Datum → Verdict
 compared c d e = settled (givenBoth d e (compares c d e))
 
--- `like` matches the whole string
+-- `like` matches the whole string, character by character; a string that is no UTF-8 matches no pattern
 abbrev pub likened : Datum → List ℕ → Verdict
-likened d pattern = settled (given d (ifText d (likes pattern)))
+likened d pattern = settled (given d (ifText d (likesText pattern)))
 
 -- `in` a list: equal to some literal of the same kind
 abbrev pub inList : Datum → List (LiteralOf Word) → Verdict

@@ -12,7 +12,7 @@ use lib.ListN.{length, getD, drop, drop-of-length-le}
 use lib.IntN.{pos}
 use lib.Ieee.{binary64, ofInt, div}
 use Rattle.slices.proofs.Rest.{rest-at}
-use Rattle.numbers.specs.Literals.{Digits, none, more, decimalAfter, NumberLiteral, WellFormed, minus, pointed, written, allDigits, places, IsNumber, magnitudeIn}
+use Rattle.numbers.specs.Literals.{Digits, none, more, decimalAfter, NumberLiteral, WellFormed, minus, pointed, literalBytes, allDigits, places, IsNumber, magnitudeIn}
 use Rattle.numbers.proofs.Rounded.{power-small, rounded-once}
 use Rattle.numbers.proofs.Spelled.{digits-small, magnitude-is}
 
@@ -68,7 +68,7 @@ decimal-join : (n : ℕ) (a b : List ℕ) → decimalAfter n (a ++ b) ≡ decima
 decimal-join n [] b = refl
 decimal-join n (d ∷ a) b = decimal-join (n * 10 + (d - 48)) a b
 
-read-written : (l : NumberLiteral) → WellFormed l → read 0 1 1 (written l) ≡ (allDigits l, 10 ^ places l)
+read-written : (l : NumberLiteral) → WellFormed l → read 0 1 1 (literalBytes l) ≡ (allDigits l, 10 ^ places l)
 read-written l h =
     read-minus (l .negative) (l .whole ++ pointed (l .fraction))
     ∙ read-digits 0 1 1 (pointed (l .fraction)) (h .whole-digits)

@@ -10,7 +10,7 @@ use lib.Dec.{T, eqb}
 use lib.ListN.{length, getD, length-append}
 use lib.Ieee.{Float}
 use lib.Ieee.Scale.{finite}
-use Rattle.numbers.specs.Literals.{Digits, none, more, decimalAfter, quotient, NumberLiteral, WellFormed, minus, pointed, written, allDigits, places, valueOf, IsNumber, digitsOf, afterPoint, magnitudeIn, numberIn}
+use Rattle.numbers.specs.Literals.{Digits, none, more, decimalAfter, quotient, NumberLiteral, WellFormed, minus, pointed, literalBytes, allDigits, places, valueOf, IsNumber, digitsOf, afterPoint, magnitudeIn, numberIn}
 use Rattle.numbers.proofs.Rounded.{power-small, quotient-finite, signed-finite}
 
 -- digits, with or without a minus before them and a point and digits after them, at most 15 in all, are a number
@@ -84,7 +84,7 @@ module _ (l : NumberLiteral) (h : WellFormed l) where
         power-small (length (l .whole) + length (l .fraction)) (h .few),
       )
 
-  magnitude-written : magnitudeIn (written l) ≡ quotient (allDigits l) (places l)
+  magnitude-written : magnitudeIn (literalBytes l) ≡ quotient (allDigits l) (places l)
   unfolding magnitudeIn
   magnitude-written =
       rw (
@@ -97,7 +97,7 @@ module _ (l : NumberLiteral) (h : WellFormed l) where
       )
 
   -- the bytes of a literal give its value
-  pub written-value : numberIn (written l) ≡ valueOf l
+  pub written-value : numberIn (literalBytes l) ≡ valueOf l
   unfolding numberIn
   written-value = rw (minus-first (l .negative) (pointed (l .fraction)) (h .whole-digits) (h .some), magnitude-written)
 

@@ -55,8 +55,8 @@ pointed [] = []
 pointed (d ∷ ds) = code "." ∷ d ∷ ds
 
 -- the bytes of a literal
-abbrev pub written : NumberLiteral → List ℕ
-written l = minus (l .negative) ++ (l .whole ++ pointed (l .fraction))
+abbrev pub literalBytes : NumberLiteral → List ℕ
+literalBytes l = minus (l .negative) ++ (l .whole ++ pointed (l .fraction))
 
 -- N, which all the digits spell
 abbrev pub allDigits : NumberLiteral → ℕ
@@ -74,7 +74,7 @@ valueOf l = signed (l .negative) (quotient (allDigits l) (places l))
 pub record IsNumber (text : List ℕ) : Type 0 where
   pub literal : NumberLiteral
   pub well-formed : WellFormed literal
-  pub spelled : text ≡ written literal
+  pub spelled : text ≡ literalBytes literal
 
 -- ---- the same number, from the bytes of the text
 

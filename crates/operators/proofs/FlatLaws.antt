@@ -6,7 +6,7 @@ use mathlib.Core.Path.{_≡_, refl, sym, _∙_, ap, subst}
 use borrow.Author.Tests.{eqb-true, eqb-false, ne-eqb, le-leb, lt-leb, leb-true, leb-false}
 use native.Mathlib.Omega.{arith}
 use lib.Dec.{eqb, leb}
-use Rattle.patterns.specs.Likes.{likes}
+use Rattle.patterns.specs.Likes.{likesText}
 use Rattle.views.specs.Meaning.{View, present}
 use Rattle.grammar.specs.Policies.{Span, Root, Comparator, Comparator.Equal, Literal, Operand, Which, Tree, constant, compare, like, among, within, contains, has}
 use Rattle.placing.specs.Placed.{quotedAt, StringPlaced, PathPlaced, Each, LiteralPlaced, OperandPlaced, TreePlaced, a-comparison, a-likeness, in-list, in-attribute, a-call, a-presence, unblankedAt}
@@ -144,7 +144,7 @@ module _ (t : List ℕ) (view : View) (r : Verdict) (h : Bool) (e : r ≡ told h
         verdict-is _ _ _ (as-compare (treeBy at) at end x (omega arith) k) (compare-told t view (comparatorOfKind (x .kind)) (operandOfEntry (at (end - 3))) (operandOfEntry (at (end - 2))))
         (q ∙ rw (i, j))
 
-    pub flat-like : (a : Entry) → x .kind ≡ 19 → a ≡ at (end - 2) → h ≡ ifText (operandValue view (operandWords t (operandOfEntry a))) (likes (quotedAt t (spanOfEntry x)))
+    pub flat-like : (a : Entry) → x .kind ≡ 19 → a ≡ at (end - 2) → h ≡ ifText (operandValue view (operandWords t (operandOfEntry a))) (likesText (quotedAt t (spanOfEntry x)))
         → r ≡ verdict view (treeWords t (treeFrom (treeBy at) at end x))
     flat-like a k i q = verdict-is _ _ _ (as-like (treeBy at) at end x k) (like-told t view (operandOfEntry (at (end - 2))) (spanOfEntry x)) (q ∙ rw i)
 

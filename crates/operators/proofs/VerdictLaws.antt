@@ -3,7 +3,7 @@ use Prim.Native.Nat.{ℕ}
 use mathlib.Core.List.{List, [], _∷_}
 use mathlib.Core.Bool.{Bool, true, false}
 use mathlib.Core.Path.{_≡_, refl, _∙_, ap}
-use Rattle.patterns.specs.Likes.{likes}
+use Rattle.patterns.specs.Likes.{likesText}
 use Rattle.grammar.specs.Policies.{Span, Root, Comparator, Comparator.Equal, LiteralOf, Literal, Operand, Which, constant, compare, like, among, within, contains, has}
 use Rattle.placing.specs.Placed.{quotedAt, unblankedAt}
 use Rattle.placing.specs.Said.{Word, literalWords, listWords, operandWords, treeWords}
@@ -80,9 +80,9 @@ module _ (t : List ℕ) (view : View) where
       settled-both (operandValue view (operandWords t a)) (operandValue view (operandWords t b)) (compares c (operandValue view (operandWords t a)) (operandValue view (operandWords t b)))
       (λ e. rw e) (λ e. rw e (compares-absent c (operandValue view (operandWords t a))))
 
-  pub like-told : (a : Operand) (s : Span) → verdict view (treeWords t (like a s)) ≡ told (ifText (operandValue view (operandWords t a)) (likes (quotedAt t s)))
+  pub like-told : (a : Operand) (s : Span) → verdict view (treeWords t (like a s)) ≡ told (ifText (operandValue view (operandWords t a)) (likesText (quotedAt t s)))
   unfolding verdict treeWords
-  like-told a s = settled-given (operandValue view (operandWords t a)) (ifText (operandValue view (operandWords t a)) (likes (quotedAt t s))) (λ e. rw e)
+  like-told a s = settled-given (operandValue view (operandWords t a)) (ifText (operandValue view (operandWords t a)) (likesText (quotedAt t s))) (λ e. rw e)
 
   pub among-told : (a : Operand) (ls : List Literal) → verdict view (treeWords t (among a ls)) ≡ told (some (λ l. compares Equal (operandValue view (operandWords t a)) (literalValue (literalWords t l))) ls)
   unfolding verdict treeWords

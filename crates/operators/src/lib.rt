@@ -4,7 +4,7 @@ ghost use mathlib.Core.List.{List};
 ghost use Prim.Native.Nat.{ℕ, _+_, _<_, _≤_};
 ghost use Rattle.views.specs.Meaning.{present};
 ghost use Rattle.views.specs.Rows.{RowStands};
-ghost use Rattle.patterns.specs.Likes.{likes};
+ghost use Rattle.patterns.specs.Likes.{likesText};
 ghost use Rattle.placing.specs.Placed.{quotedAt, Each, StringPlaced, PathPlaced, LiteralPlaced, OperandPlaced};
 ghost use Rattle.table.specs.Kinds.{falseKind, inAttributeKind, containsAnyKind};
 ghost use Rattle.table.specs.Layout.{entriesIn, entryAt};
@@ -116,7 +116,7 @@ fn like_operand<'a>(
     requires { ⌜ RowStands (now s) p n (now heads) (now values) ⌝ }
     requires { ⌜ v ≡ operandRead (now text) (now s) p n (now heads) (now values) a ⌝ }
     ensures { λ r. ⌜ r ≡ ifText (meant (now (text .entry)) (now (s .entry)) p n (now (heads .entry)) (now (values .entry)) (now (action .entry)) a)
-        (likes (quotedAt (now (text .entry)) (spanOfEntry o))) ⌝ }
+        (likesText (quotedAt (now (text .entry)) (spanOfEntry o))) ⌝ }
 {
     let kind = v.kind;
     if kind != bags::values::STRING {

@@ -1,5 +1,5 @@
--- The tally: how many rows have each outcome, and how many each policy decides (document 02, request 1). All is said over `d`, any function that gives each row
--- its decision. Definitions only.
+-- The tally: how many rows have each outcome, and how many each policy decides (document 02, request 1). What it counts is said of combinations (`SoMany`),
+-- and computed over `d`, any function that gives each row its decision. Definitions only.
 use mathlib.Core.Path.{_≡_}
 use mathlib.Core.Logic.{_↔_}
 use Prim.Native.Nat.{ℕ, zero, suc, _+_, _-_, _≤_}

@@ -3,4 +3,5 @@ pub mod Writing
 pub mod Sorts
 pub mod Roots
 pub mod Ways
+pub mod Texts
 pub mod Literals

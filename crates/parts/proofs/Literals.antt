@@ -1,9 +1,10 @@
 -- A list's literals, step by step. Assumes nothing.
 use mathlib.Core.Path.{_≡_, refl, _∙_, ap}
-use mathlib.Core.Bool.{Bool, true, false, _&&_}
+use mathlib.Core.Bool.{Bool, true, false, _&&_, and-false}
 use mathlib.Core.List.{List, [], _∷_, _++_, map-append}
 use Prim.Native.Nat.{ℕ, _+_, _-_, _≤_, _<_}
 use native.Mathlib.Omega.{arith}
+use lib.Dec.{ltb}
 use lib.ListN.{length, length-map}
 use borrow.Author.Tests.{eq-eqb, ne-eqb, lt-ltb, le-ltb}
 use Rattle.tokens.specs.Kinds as kinds
@@ -14,8 +15,9 @@ use Rattle.reading.specs.Reader as reader
 use Rattle.reading.specs.Reader.{took, bind, need, before, chain, onwards}
 use Rattle.reading.proofs.Stream.{next-on, next-off}
 use Rattle.grammar.specs.Policies.{Literal}
-use Rattle.grammar.specs.Rules.{literalOf}
-use Rattle.grammar.specs.Parser.{tooMany, isElement, read-element, read-list}
+use Rattle.grammar.specs.Rules.{literalOf, isText}
+use Rattle.grammar.specs.Parser.{noElement, isTextOf, isElement, read-element, read-list}
+use Rattle.grammar.proofs.Completeness.{text-of, no-text-of, no-sort-of}
 use Rattle.grammar.proofs.Steps.{list-step}
 use Rattle.table.specs.declared.Entry.{Entry}
 use Rattle.table.specs.Entries.{entry, literalEntry, literalEntries}
@@ -61,26 +63,30 @@ module _ (sort : Lexeme → Bool) where
     pub free-past : first ≤ free
     free-past = let x = count in omega arith
 
-    refuses : isElement sort (l .ls) (lexeme text at) ≡ false → {f : Refusal} → f ≡ turnedAway (length text) (tooMany sort (lexeme text at)) at → TurnedAway text total f
+    refuses : isElement sort (l .ls) (lexeme text at) ≡ false → {f : Refusal} → f ≡ turnedAway (length text) (noElement sort (l .ls) (lexeme text at)) at → TurnedAway text total f
     unfolding read-element
-    refuses e p = turned-as (l .rest) (turned-bind _ (turned-bind _ (turned-as (next-off text at (isElement sort (l .ls)) _ _ e) (turned text at (tooMany sort) p))))
+    refuses e p = turned-as (l .rest) (turned-bind _ (turned-bind _ (turned-as (next-off text at (isElement sort (l .ls)) _ _ e) (turned text at (noElement sort (l .ls)) p))))
 
     pub listing-off : sort (lexeme text at) ≡ false → {f : Refusal} → f ≡ turnedAway (length text) 10 at → TurnedAway text total f
-    unfolding isElement tooMany
-    listing-off e p = refuses (rw e) (p ∙ rw e)
+    unfolding isElement noElement
+    listing-off e p = refuses (rw (no-sort-of sort (lexeme text at) e) (and-false (ltb (length (l .ls)) 16))) (p ∙ rw e)
 
     pub listing-full : sort (lexeme text at) ≡ true → 16 ≤ free - first → {f : Refusal} → f ≡ turnedAway (length text) 14 at → TurnedAway text total f
-    unfolding isElement tooMany
-    listing-full e h p = let c = count in refuses (rw (e, le-ltb (length (l .ls)) 16 (omega arith))) (p ∙ rw e)
+    unfolding isElement noElement
+    listing-full e h p = let c = count in let k = le-ltb (length (l .ls)) 16 (omega arith) in refuses (rw k) (p ∙ rw (e, k))
 
-    module _ (e : sort (lexeme text at) ≡ true) (some : at .kind ≡ 0 → ⊥) (h : free - first < 16) (x : Entry) (x-is : x ≡ literalEntry (literalOf (lexeme text at)))
+    pub listing-odd : sort (lexeme text at) ≡ true → free - first < 16 → isText (lexeme text at) ≡ false → {f : Refusal} → f ≡ turnedAway (length text) 17 at → TurnedAway text total f
+    unfolding isElement noElement
+    listing-odd e h u p = let c = count in let k = lt-ltb (length (l .ls)) 16 (omega arith) in refuses (rw (k, no-text-of sort (lexeme text at) u)) (p ∙ rw (e, k))
+
+    module _ (e : sort (lexeme text at) ≡ true) (some : at .kind ≡ 0 → ⊥) (h : free - first < 16) (u : isText (lexeme text at) ≡ true) (x : Entry) (x-is : x ≡ literalEntry (literalOf (lexeme text at)))
         {ok₂ : Bool} {T₂ : List ℕ} (put : (ok₂ ≡ ok && entryIs seen free x) × (T₂ ≡ putAt T free x)) (comma : Token) (q : comma ≡ tokenAt text (at .end)) (s : Reads text (at .end) comma) where
       abbrev more : List Literal
       more = l .ls ++ literalOf (lexeme text at) ∷ []
 
       taken : read-element sort (l .ls) (stream text at) ≡ took more (stream text comma)
       unfolding read-element isElement
-      taken = let c = count in next-on text at (isElement sort (l .ls)) _ _ comma some (l .lies .high) q (rw (e, lt-ltb (length (l .ls)) 16 (omega arith)))
+      taken = let c = count in next-on text at (isElement sort (l .ls)) _ _ comma some (l .lies .high) q (rw (lt-ltb (length (l .ls)) 16 (omega arith)) (text-of sort (lexeme text at) e u))
 
       kept-now : Kept seen T₀ first same (literalEntries more) (free + 1) ok₂ T₂
       kept-now = rw (map-append literalEntry (l .ls) (literalOf (lexeme text at) ∷ []), ← x-is) (kept-more x (l .kept) put)

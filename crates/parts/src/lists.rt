@@ -1,9 +1,10 @@
 // Literals, and lists of them.
 ghost use mathlib.Core.Path.{_≡_};
 ghost use mathlib.Core.List.{[]};
+ghost use Rattle.tokens.specs.Tokens.{Reads};
 ghost use Rattle.reading.specs.Lexemes.{lexeme, stream};
-ghost use Rattle.grammar.specs.Rules.{isLiteral, literalOf};
-ghost use Rattle.grammar.specs.Parser.{read-list};
+ghost use Rattle.grammar.specs.Rules.{isLiteral, isText, literalOf};
+ghost use Rattle.grammar.specs.Parser.{isTextOf, noText, read-list};
 ghost use Rattle.table.specs.Entries.{literalEntry, literalEntries};
 ghost use Rattle.parts.specs.Answers.{ReadyToRead, Done};
 ghost use Rattle.parts.specs.Names.{sortOf};
@@ -18,6 +19,8 @@ use tokens::kinds;
 use tokens::reader::Token;
 use tokens::reader::next_token;
 use tokens::sizes::MOST_LITERALS;
+use utf8::is_ascii;
+use utf8::is_utf8;
 
 // Whether a token is a literal.
 pub fn is_literal(t: Token) -> bool
@@ -25,6 +28,48 @@ pub fn is_literal(t: Token) -> bool
 {
     let k = t.kind;
     (k == kinds::STRING) | (k == kinds::NUMBER) | ((k == kinds::TRUE) | (k == kinds::FALSE))
+}
+
+// Whether what a string has between its quotes is UTF-8; any other token passes. Most strings are ASCII, which is asked with fewer instructions.
+pub fn is_text(text: &[u8], t: Token) -> bool
+    requires { ⌜ Reads (now text) 0 t ⌝ }
+    ensures { λ r. ⌜ r ≡ isText (lexeme (now (text .entry)) t) ⌝ }
+{
+    if t.kind != kinds::STRING {
+        return true;
+    }
+    if t.end - t.start <= 2 {
+        return true;
+    }
+    let start = t.start + 1;
+    let end = t.end - 1;
+    if is_ascii(&text[start..end]) {
+        return true;
+    }
+    is_utf8(&text[start..end])
+}
+
+// Whether a token is a literal, and UTF-8 where it is a string.
+pub fn is_text_literal(text: &[u8], t: Token) -> bool
+    requires { ⌜ Reads (now text) 0 t ⌝ }
+    ensures { λ r. ⌜ r ≡ isTextOf isLiteral (lexeme (now (text .entry)) t) ⌝ }
+{
+    if is_literal(t) {
+        is_text(text, t)
+    } else {
+        false
+    }
+}
+
+// The number by which a token is refused where a string may stand.
+pub fn no_text(t: Token) -> u8
+    ensures { λ r. ⌜ r ≡ noText (lexeme [] t) ⌝ }
+{
+    if t.kind == kinds::STRING {
+        refusals::NOT_UTF8
+    } else {
+        refusals::NOT_ADMITTED
+    }
 }
 
 // The entry of a literal.
@@ -95,6 +140,9 @@ pub fn read_list(
         }
         if MOST_LITERALS <= free - number {
             return Answer::Refused(turned_away(text, at, refusals::TOO_MANY_LITERALS));
+        }
+        if !is_text(text, at) {
+            return Answer::Refused(turned_away(text, at, refusals::NOT_UTF8));
         }
         ok = append(table, seen, free, ok, literal_entry(at));
         free += 1;

@@ -8,8 +8,9 @@ ghost use Rattle.parts.specs.Answers.{ReadyToRead, Done};
 ghost use Rattle.parts.specs.Names.{rootFrom};
 use crate::answers::Answer;
 use crate::answers::turned_away;
-use crate::lists::is_literal;
+use crate::lists::is_text_literal;
 use crate::lists::literal_entry;
+use crate::lists::no_text;
 use crate::paths::is_root;
 use crate::paths::read_placed;
 use crate::paths::root_kind;
@@ -64,7 +65,7 @@ pub fn read_operand(
     ensures { λ r. ⌜ Done (λ e a. operandEntry a ∷ []) (now (text .entry)) (now (seen .entry)) (t .start) number same
         (now (table .entry)) (now (table .exit)) (read-operand (stream (now (text .entry)) t)) r ⌝ }
 {
-    if is_literal(t) {
+    if is_text_literal(text, t) {
         let next = next_token(classes, text, t.end);
         let ok = append(table, seen, number, same, literal_entry(t));
         return Answer::Read(next, number + 1, ok);
@@ -73,5 +74,5 @@ pub fn read_operand(
         let next = next_token(classes, text, t.end);
         return read_attribute(classes, text, table, seen, t.kind, next, number, same);
     }
-    Answer::Refused(turned_away(text, t, refusals::NOT_ADMITTED))
+    Answer::Refused(turned_away(text, t, no_text(t)))
 }

@@ -28,3 +28,6 @@ pub const TOO_MANY_POLICIES: u8 = 15;
 
 // A name that makes a path too long.
 pub const PATH_TOO_LONG: u8 = 16;
+
+// A string that is not UTF-8.
+pub const NOT_UTF8: u8 = 17;

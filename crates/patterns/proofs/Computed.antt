@@ -1,4 +1,4 @@
--- The test `likes` decides the relation `Matches`. Assumes nothing.
+-- The test `likes` decides the relation `Matches`, and `likesText` what `like` asks of bytes. Assumes nothing.
 use mathlib.Core.Path.{_≡_, refl}
 use mathlib.Core.Logic.{_≢_}
 use mathlib.Core.Bool.{Bool, true, false, not, _&&_, _||_, cond}
@@ -8,8 +8,11 @@ use lib.Dec.{eqb}
 use borrow.Author.Tests.{eqb-true, eqb-false}
 use Rattle.slices.specs.Decides.{Decides}
 use Rattle.slices.proofs.Decided.{one-answer, yes-to, no-to, refuted, both}
+use Rattle.utf8.specs.Characters.{Utf8}
+use Rattle.utf8.specs.Reading.{utf8, points}
+use Rattle.utf8.proofs.Readings.{utf8-decides}
 use Rattle.patterns.specs.Like.{star, questionMark, colon, Admits, Matches, ends, one, none, more}
-use Rattle.patterns.specs.Likes.{stands, steps, runs, likes}
+use Rattle.patterns.specs.Likes.{stands, steps, runs, likes, likesText}
 use Rattle.patterns.proofs.Laws.{mark-admits, itself-admits, head-admits, tails-match, nothing-left, star-ends, star-takes}
 
 stands-decides : (x c : ℕ) → x ≢ star → Decides (Admits x c) (stands x c)
@@ -55,6 +58,10 @@ likes-decides (x ∷ p) s = go (likes-decides p) (eqb x star) refl
     go d true e = rw (eqb-true x star e) (runs-decide p (likes p) d s)
     go d false e = steps-decide p (likes p) d x (eqb-false x star e) s
 
+pub text-decides : (p s : List ℕ) → Decides (Utf8 s × Matches (points p) (points s)) (likesText p s)
+unfolding likesText
+text-decides p s = both (utf8 s) (likes (points p) (points s)) (utf8-decides s) (likes-decides (points p) (points s))
+
 -- an answer that decides the relation is that of the test
-pub like-is : {r : Bool} (p s : List ℕ) → Decides (Matches p s) r → r ≡ likes p s
-like-is {r} p s d = one-answer r (likes p s) d (likes-decides p s)
+pub like-is : {r : Bool} (p s : List ℕ) → Decides (Utf8 s × Matches (points p) (points s)) r → r ≡ likesText p s
+like-is {r} p s d = one-answer r (likesText p s) d (text-decides p s)

@@ -1,16 +1,13 @@
 -- Why it is enough to go back to the last star. Where the characters between two stars match at a place, a later place at which they match too
 -- lies past no further colon: each of those characters matches a colon at both places or at neither. So the second star can run from the first place
 -- to the second. Assumes nothing.
-use mathlib.Core.Path.{_≡_}
-use mathlib.Core.Logic.{_≢_, _↔_, Iff·trans}
+use mathlib.Core.Logic.{_≢_}
 use mathlib.Core.List.{List, _∷_}
 use Prim.Native.Nat.{ℕ, _+_, _*_, _<_, _≤_}
 use native.Mathlib.Nat.{suc-mul, mul-le-mul-right}
 use native.Mathlib.Omega.{arith}
-use lib.ListN.{length, getD, drop, drop-of-length-le}
-use Rattle.slices.proofs.Rest.{rest-at}
-use Rattle.patterns.specs.Like.{star, colon, Admits, itself, any, Matches, ends, one, none, more}
-use Rattle.patterns.proofs.Laws.{no-star-admits, never-star, mark-not, tails-match, star-at, star-on, star-stops, star-ends, nothing-left}
+use Rattle.patterns.specs.Like.{star, colon, Admits, itself, any, Matches, one, none, more}
+use Rattle.patterns.proofs.Laws.{no-star-admits, never-star, mark-not, tails-match}
 
 -- p and s lose one character after another, each of p's matching that of s, and become q and t
 pub data Walk : List ℕ → List ℕ → List ℕ → List ℕ → Type 0 where
@@ -25,10 +22,6 @@ data Run : List ℕ → List ℕ → Type 0 where
 pub walked-more : {p s q t : List ℕ} {x c : ℕ} → Admits x c → Walk p s (x ∷ q) (c ∷ t) → Walk p s q t
 walked-more a here = on a here
 walked-more a (on b w) = on b (walked-more a w)
-
-pub walk-more : {p s : List ℕ} (q t : List ℕ) (i j : ℕ) → i < length q → j < length t → Admits (getD q i 0) (getD t j 0)
-    → Walk p s (drop i q) (drop j t) → Walk p s (drop (i + 1) q) (drop (j + 1) t)
-walk-more q t i j hi hj a w = walked-more a (rw (rest-at q i, rest-at t j) at w)
 
 pub walk-back : {p s q t : List ℕ} → Walk p s q t → Matches q t → Matches p s
 walk-back here m = m
@@ -76,63 +69,6 @@ pub one-star : {q t : List ℕ} → Matches (star ∷ star ∷ q) t → Matches 
 one-star (one a m) = absurd (no-star-admits a)
 one-star (none m) = m
 one-star (more n m) = more n (one-star m)
-
--- ---- how far the loop is: the last star met stands before `from`, its run ends at `run`, and from there the two went on to p and s
-
-pub record Tried (rest string : List ℕ) (from run p s : ℕ) : Type 0 where
-  pub from-in : from ≤ p
-  pub run-in : run ≤ s
-  pub p-in : p ≤ length rest
-  pub s-in : s ≤ length string
-  pub left : Matches (star ∷ rest) string ↔ Matches (star ∷ drop from rest) (drop run string)
-  pub walked : Walk (drop from rest) (drop run string) (drop p rest) (drop s string)
-
-module _ {rest string : List ℕ} {from run p s : ℕ} (h : Tried rest string from run p s) where
-  pub tried-star : p < length rest → getD rest p 0 ≡ star → Tried rest string (p + 1) s (p + 1) s
-  tried-star hp e =
-      let w = rw (star-at rest p hp e) at (h .walked) in
-      record {
-        from-in = omega arith;
-        run-in = omega arith;
-        p-in = omega arith;
-        s-in = h .s-in;
-        left = Iff·trans (h .left) ((λ m. one-star (last-star-enough w m)), (λ m. none (walk-back w m)));
-        walked = here;
-      }
-
-  pub tried-one : p < length rest → s < length string → Admits (getD rest p 0) (getD string s 0) → Tried rest string from run (p + 1) (s + 1)
-  tried-one hp hs a = record {
-    from-in = omega arith;
-    run-in = omega arith;
-    p-in = omega arith;
-    s-in = omega arith;
-    left = h .left;
-    walked = walk-more rest string p s hp hs a (h .walked);
-  }
-
-  pub tried-all : length rest ≤ p → s ≡ length string → Matches (star ∷ rest) string
-  tried-all hp hs =
-      let past : length string ≤ s = omega arith in
-      h .left .1 (none (walk-back (h .walked) (rw (drop-of-length-le rest, drop-of-length-le string) ends)))
-
-  -- the string ends where the pattern wants one character more: after a longer run it ends no later
-  pub tried-past : p < length rest → getD rest p 0 ≢ star → length string ≤ s → Matches (star ∷ rest) string → ⊥
-  tried-past hp n hs m = nothing-left n (star-ends (last-star-enough (rw (rest-at rest p, drop-of-length-le string hs) at (h .walked)) (h .left .0 m)))
-
-  -- what is left of the pattern does not match what is left of the string: only a longer run can help
-  module _ (stuck : Matches (drop p rest) (drop s string) → ⊥) where
-    pub tried-longer : run < length string → getD string run 0 ≢ colon → Tried rest string from (run + 1) from (run + 1)
-    tried-longer hr n = record {
-      from-in = omega arith;
-      run-in = omega arith;
-      p-in = omega arith;
-      s-in = omega arith;
-      left = Iff·trans (h .left) (star-on _ string run hr (λ m. stuck (walk-on (h .walked) m)) n);
-      walked = here;
-    }
-
-    pub tried-at-colon : run < length string → getD string run 0 ≡ colon → Matches (star ∷ rest) string → ⊥
-    tried-at-colon hr e m = star-stops _ string run hr (λ m. stuck (walk-on (h .walked) m)) e (h .left .0 m)
 
 -- ---- a number of two digits, the lower of them below k, falls where the higher falls, and where the lower falls and the higher does not rise
 

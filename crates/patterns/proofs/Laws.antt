@@ -1,17 +1,15 @@
--- Laws of `Matches`, and of a match from an index on. Assumes nothing.
+-- Laws of `Matches`. Assumes nothing.
 use mathlib.Core.Path.{_≡_, refl, ap}
-use mathlib.Core.Logic.{_↔_, _≢_}
+use mathlib.Core.Logic.{_≢_}
 use mathlib.Core.List.{List, [], _∷_}
-use Prim.Native.Nat.{ℕ, _+_, _<_, _≤_}
+use Prim.Native.Nat.{ℕ}
 use native.Mathlib.Omega.{arith}
 use mathlib.Core.Bool.{Bool, true, false, not}
 use lib.Dec.{eqb}
-use lib.ListN.{length, getD, drop, length-drop, drop-of-length-le}
 use borrow.Author.Tests.{eqb-true, eqb-false, eq-eqb, ne-eqb, not-true}
 use Rattle.slices.specs.Decides.{Decides}
 use Rattle.slices.proofs.Decided.{yes-to}
-use Rattle.slices.proofs.Rest.{rest-at}
-use Rattle.patterns.specs.Like.{star, questionMark, colon, Admits, itself, any, Matches, ends, one, none, more}
+use Rattle.patterns.specs.Like.{star, questionMark, colon, Admits, itself, any, Matches, one, none, more}
 
 -- ---- Admits
 
@@ -74,36 +72,3 @@ pub star-takes : {c : ℕ} {p s : List ℕ} → (Matches p (c ∷ s) → ⊥) �
 star-takes f (one a m) = absurd (no-star-admits a)
 star-takes f (none m) = absurd (f m)
 star-takes f (more n m) = (n, m)
-
--- ---- a match of what is left of a pattern p from the index i on with what is left of a string s from j on
-
-empty-matches : {s : List ℕ} → Matches [] s → length s ≡ 0
-empty-matches ends = refl
-
-pub star-at : (p : List ℕ) (i : ℕ) → i < length p → getD p i 0 ≡ star → drop i p ≡ star ∷ drop (i + 1) p
-star-at p i h e = rw (rest-at p i, e)
-
-pub match-end : (p s : List ℕ) (i j : ℕ) → length p ≤ i → j ≤ length s → Decides (Matches (drop i p) (drop j s)) (eqb j (length s))
-match-end p s i j hi hj = record {
-  sound = λ t. let e = eqb-true j (length s) t in let past : length s ≤ j = omega arith in rw (drop-of-length-le p, drop-of-length-le s) ends;
-  complete = λ m. eq-eqb j (length s) (omega (arith, simp length-drop at (empty-matches (rw (drop-of-length-le p) at m))));
-}
-
-module _ (p s : List ℕ) (i j : ℕ) (hi : i < length p) where
-  pub no-match-past : getD p i 0 ≢ star → length s ≤ j → Matches (drop i p) (drop j s) → ⊥
-  no-match-past n hj = rw (rest-at p i, drop-of-length-le s) (nothing-left n)
-
-  pub no-match-here : getD p i 0 ≢ star → j < length s → (Admits (getD p i 0) (getD s j 0) → ⊥) → Matches (drop i p) (drop j s) → ⊥
-  no-match-here n hj f = rw (rest-at p i, rest-at s j) (λ m. f (head-admits n m))
-
-  pub match-on : getD p i 0 ≢ star → j < length s → Admits (getD p i 0) (getD s j 0) → Matches (drop i p) (drop j s) ↔ Matches (drop (i + 1) p) (drop (j + 1) s)
-  match-on n hj a = rw (rest-at p i, rest-at s j) (tails-match n, one a)
-
--- ---- a match of a star and the pattern p with what is left of a string s from j on, where p alone does not match that
-
-module _ (p s : List ℕ) (j : ℕ) (hj : j < length s) (f : Matches p (drop j s) → ⊥) where
-  pub star-stops : getD s j 0 ≡ colon → Matches (star ∷ p) (drop j s) → ⊥
-  star-stops e = rw (rest-at s j) (λ m. star-takes (rw (rest-at s j) at f) m .0 e)
-
-  pub star-on : getD s j 0 ≢ colon → Matches (star ∷ p) (drop j s) ↔ Matches (star ∷ p) (drop (j + 1) s)
-  star-on n = rw (rest-at s j) ((λ m. star-takes (rw (rest-at s j) at f) m .1), more n)

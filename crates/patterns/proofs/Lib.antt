@@ -3,3 +3,5 @@ pub mod LastStar
 pub mod Computed
 pub mod Cases
 pub mod Opened
+pub mod Texts
+pub mod Trials

@@ -1,5 +1,5 @@
--- What a `like` pattern matches, as document 01 has it: the whole string, `*` any run without `:`, maybe empty, `?` one character but `:`,
--- any other character itself. A character is a byte. Definitions only.
+-- What a `like` pattern matches, as document 01 has it with request 5: the whole string, `*` any run without `:`, maybe empty, `?` one character
+-- but `:`, any other character itself. A character is its number (utf8/specs/Characters). Definitions only.
 use mathlib.Core.Logic.{_≢_}
 use mathlib.Core.List.{List, [], _∷_}
 use Prim.Native.Nat.{ℕ}

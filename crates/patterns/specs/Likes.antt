@@ -3,6 +3,7 @@ use mathlib.Core.Bool.{Bool, true, false, not, _&&_, _||_, cond}
 use mathlib.Core.List.{List, [], _∷_}
 use Prim.Native.Nat.{ℕ}
 use lib.Dec.{eqb}
+use Rattle.utf8.specs.Reading.{utf8, points}
 use Rattle.patterns.specs.Like.{star, questionMark, colon}
 
 -- whether a pattern's character that is no star stands for a character
@@ -24,3 +25,7 @@ unfoldable pub likes : List ℕ → List ℕ → Bool
 likes [] [] = true
 likes [] (c ∷ s) = false
 likes (x ∷ p) s = cond (eqb x star) (runs (likes p) s) (steps x (likes p) s)
+
+-- whether a string's bytes are UTF-8 and its characters matched by a pattern's: other bytes match no pattern, not even `*`
+unfoldable pub likesText : List ℕ → List ℕ → Bool
+likesText p s = utf8 s && likes (points p) (points s)

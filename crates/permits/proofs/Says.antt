@@ -8,6 +8,7 @@ use native.Mathlib.Nat.{suc-mul}
 use native.Mathlib.Omega.{arith}
 use lib.ListN.{length, getD, length-append, length-map}
 use Rattle.slices.specs.Ascii.{bytes}
+use Rattle.utf8.proofs.Readings.{utf8-decides}
 use Rattle.tokens.specs.Kinds as kinds
 use Rattle.tokens.specs.Forms.{empty, next, quote, a-string}
 use Rattle.reading.specs.Lexemes.{is}
@@ -52,7 +53,7 @@ first-action {a} s = record {
   tokens = written [] kinds.string (quoted a) ∷ [];
   laid = append-nil (quoted a);
   well = λ q h. well-calm none empty (a-string (s .all)) h;
-  prints = printing.PrintsList.first (prints-string a (s .size));
+  prints = printing.PrintsList.first (prints-string a (s .size) (utf8-decides a .complete (s .text)));
 }
 
 next-action : {l : List ℕ} {ls : List (LiteralOf Word)} {a : Word} → ListLaid l ls → AString a
@@ -64,7 +65,7 @@ next-action {a = a} j s =
       tokens = j .tokens ++ ys;
       laid = laid-append (j .tokens) ys ∙ rw (j .laid, append-nil (a ++ quote ∷ []));
       well = λ q h. well-append (j .well (laidOut ys ++ q) refl) (well-fixed (well-calm none (next refl empty) (a-string (s .all)) h) refl);
-      prints = printing.PrintsList.more (j .prints) (record { read-as = refl }) (prints-string a (s .size));
+      prints = printing.PrintsList.more (j .prints) (record { read-as = refl }) (prints-string a (s .size) (utf8-decides a .complete (s .text)));
     }
 
 -- the same text and the same strings
@@ -132,10 +133,10 @@ module _ (resource : Word) (s : AString resource) where
   unfolding resourceTokens written-opened
   resource-well q = well-fixed (well-fixed (well-calm (well-fixed none refl) (next refl empty) (a-string (s .all)) refl) refl) refl
 
-  resource-prints : Prints (After kinds.resourceWord (Before kinds.rightRound ResourceRest)) partWords resourceTokens (pinned resource)
+  resource-prints : Prints (After kinds.resourceWord (Before kinds.rightRound (ResourceRest sizes))) partWords resourceTokens (pinned resource)
   unfolding resourceTokens written-opened
   resource-prints =
-      prints-after (prints-before (prints-pinned resource (record { read-as = refl }) (s .size)) (record { read-as = refl })) (record { read-as = refl })
+      prints-after (prints-before (prints-pinned resource (record { read-as = refl }) (s .size) (utf8-decides resource .complete (s .text))) (record { read-as = refl })) (record { read-as = refl })
 
 -- ` when {.. };`
 module _ {l : List ℕ} {c : TreeOf Word} {F : Type 0} (j : JoinedLaid l c F) where

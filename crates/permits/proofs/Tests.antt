@@ -32,7 +32,7 @@ use Rattle.spelling.proofs.Productions.{prints-string, prints-number, string-li
 use Rattle.spelling.proofs.Productions.{comparator-kind, prints-comparison, prints-within, prints-simple, prints-alone, prints-both}
 use Rattle.permits.specs.Permits.{Test, equal, member, order, quoted, signOf, between, testText, testTree, joinedTo}
 use Rattle.permits.specs.Meaning.{Formed, equality, membership, comparison, Fits, equal-fits, member-fits, order-fits}
-use Rattle.permits.proofs.Values.{words-string}
+use Rattle.permits.proofs.Values.{words-string, words-text}
 
 -- a blank
 abbrev pub space : List ℕ
@@ -145,7 +145,7 @@ test-laid (equality {path} {value} i v) =
           (well-fixed (well-calm none (next refl empty) (a-string (words-string (v .all))) h) (comparator-fixed Equal));
       prints = λ f.
           prints-comparison (prints-given (attribute-prints path i)) (comparator-kind Equal)
-          (prints-literal (string-literal (prints-string value (equal-few f))));
+          (prints-literal (string-literal (prints-string value (equal-few f) (words-text (v .all)))));
       fits = λ e. equal-fits (string-few value (each-first (each-rest (each-right (attributeTokens path i) ys e))));
     }
   where
@@ -159,7 +159,7 @@ test-laid (membership {path} {value} i v) =
       well = λ q h.
           well-calm (well-fixed (attribute-well path i q (calm-word (getD q 0 0) h)) (in-fixed path i q)) (next refl empty)
           (a-string (words-string (v .all))) refl;
-      prints = λ f. prints-within (prints-literal (string-literal (prints-string value (member-few f)))) (record { read-as = refl }) (attribute-prints path i);
+      prints = λ f. prints-within (prints-literal (string-literal (prints-string value (member-few f) (words-text (v .all))))) (record { read-as = refl }) (attribute-prints path i);
       fits = λ e. member-fits (string-few value (each-first e));
     }
   where

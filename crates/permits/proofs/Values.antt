@@ -9,6 +9,9 @@ use lib.Dec.{eqb, leb, ltb}
 use lib.ListN.{length, length-append}
 use borrow.Author.Tests.{eqb-true, ne-eqb, leb-true, le-leb}
 use Rattle.slices.specs.Ascii.{bytes}
+use Rattle.utf8.specs.Characters.{OnlyAscii, no-byte, and-byte}
+use Rattle.utf8.specs.Reading.{utf8}
+use Rattle.utf8.proofs.Counting.{ascii-utf8}
 use Rattle.tokens.specs.Bytes.{classOf, within, oneOf, letter, digit, mark, blank, textOnly}
 use Rattle.tokens.specs.Runs.{isOf}
 use Rattle.tokens.specs.Forms.{All, empty, next, SomeDigits, digits-from, Unsigned, whole, pointed, Number, signless, minus, digits}
@@ -54,6 +57,14 @@ word-string : (b : ℕ) → isOf WordBytes b ≡ true → isOf StringBytes b ≡
 word-string b e =
     let r = word-range b e in
     rw (le-leb 32 b (omega arith), ne-eqb b 127 (λ z. omega arith), ne-eqb b 34 (λ z. omega arith))
+
+-- bytes of words are ASCII
+pub words-text : {v : List ℕ} → All WordBytes v → utf8 v ≡ true
+words-text a = ascii-utf8 (plain a)
+  where
+    plain : {v : List ℕ} → All WordBytes v → OnlyAscii v
+    plain empty = no-byte
+    plain (next {b} e a) = let r = word-range b e in and-byte {x = b} (omega arith) (plain a)
 
 pub words-string : {v : List ℕ} → All WordBytes v → All StringBytes v
 words-string empty = empty

@@ -5,6 +5,7 @@ use mathlib.Core.List.{List, List·Memᴰ}
 use Prim.Native.Nat.{ℕ, _≤_}
 use lib.Ieee.{Float}
 use lib.ListN.{length}
+use Rattle.utf8.specs.Characters.{Utf8}
 use Rattle.tokens.specs.Forms.{All, Number, digits}
 use Rattle.tokens.specs.declared.classes.Sort.the-variants.{StringBytes, WordBytes}
 use Rattle.numbers.specs.Literals.{numberIn}
@@ -48,10 +49,11 @@ pub record AValue (v : Word) : Type 0 where
   pub some : 1 ≤ length v
   pub all : All WordBytes v
 
--- a string of document 01
+-- a string of document 01, which is UTF-8 (document 02, request 5)
 pub record AString (s : Word) : Type 0 where
   pub all : All StringBytes s
   pub size : length s ≤ 127
+  pub text : Utf8 s
 
 -- a test of a path as in document 01, with a value or a number of the form that a lock gives it, of any size
 pub data Formed : Test → Type 0 where

@@ -11,6 +11,7 @@ use lib.Seq.{take-append-seam, drop-drop, length-take-le, take-take, getD-take, 
 use borrow.Author.Tests.{eqb-false, not-true}
 use Rattle.slices.specs.Same.{same}
 use Rattle.slices.proofs.Equal.{same-decides}
+use Rattle.utf8.specs.Reading.{utf8}
 use Rattle.tokens.specs.Kinds as kinds
 use Rattle.tokens.specs.Tokens.{tokenAt}
 use Rattle.tokens.specs.Forms.{All, marks, Among, Form, sizeOf, mostOf, quote}
@@ -24,7 +25,7 @@ use Rattle.tokens.proofs.Told.{token-told}
 use Rattle.numbers.proofs.NumberTokens.{token-is-number}
 use Rattle.reading.specs.Lexemes.{Lexeme, lexeme, choose, tokensAfter, tokensUpTo, tokensFrom, tokensOf}
 use Rattle.grammar.specs.Policies.{span}
-use Rattle.grammar.specs.Rules.{spanOf}
+use Rattle.grammar.specs.Rules.{inside, spanOf, isText}
 use Rattle.placing.specs.Placed.{bytesAt, quotedAt, IsName, a-name, StringPlaced, NumberPlaced}
 
 -- the bytes of a text from one place up to another
@@ -158,8 +159,8 @@ inside-text text start end h =
     within-front (end - start) (end - start - 2) (drop start text) (omega arith) ∙ ap (take (end - start - 2)) (drop-drop 1 start text)
 
 string-placed : (text : List ℕ) (start end : ℕ) {l : List ℕ} → start < end → end ≤ length text → between text start end ≡ l → Quoted l → length l - 2 ≤ 127
-    → StringPlaced text (span start end)
-string-placed text start end o h e (quoted {inside} a) few =
+    → (start + 2 ≤ end → utf8 (quotedAt text (span start end)) ≡ true) → StringPlaced text (span start end)
+string-placed text start end o h e (quoted {inside} a) few u =
     let size : length inside + 2 ≡ end - start = omega (arith, ap length e, length-between text start end h, length-append inside (quote ∷ [])) in
     let last : end - 1 ≡ start + suc (length inside) = omega arith in
     let all : end - start - 2 ≡ length inside = omega arith in
@@ -169,9 +170,15 @@ string-placed text start end o h e (quoted {inside} a) few =
       few = omega (arith, length-append inside (quote ∷ []));
       opened = rw (add-zero start) at (byte-at text start end 0 (omega arith)) ∙ rw e;
       inside = rw (← inside-text text start end (omega arith), e, all, take-append-seam inside (quote ∷ [])) a;
+      characters = u (omega arith);
       closed = rw (last, byte-at text start end (suc (length inside)) (omega arith), e) (getD-append-seam inside quote [] 0);
     }
 
-pub string-of : {text : List ℕ} {at : ℕ} {x : Lexeme} → Lexed text at x → x .kind ≡ kinds.string → StringPlaced text (spanOf x)
-string-of {text} {at} {x} l k =
+-- a string's bytes that are UTF-8, where the token keeps that limit
+string-text : (x : Lexeme) → x .kind ≡ kinds.string → isText x ≡ true → utf8 (inside x) ≡ true
+string-text x k e = rw k at e
+
+pub string-of : {text : List ℕ} {at : ℕ} {x : Lexeme} → Lexed text at x → x .kind ≡ kinds.string → isText x ≡ true → StringPlaced text (spanOf x)
+string-of {text} {at} {x} l k u =
     string-placed text (x .start) (x .end) (l .some) (l .high) (sym (l .bytes)) (string-form (l .form (omega arith)) k) (rw k at (l .few (omega arith)))
+    (λ two. rw (← inside-text text (x .start) (x .end) two, ← l .bytes) (string-text x k u))

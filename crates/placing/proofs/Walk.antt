@@ -9,13 +9,14 @@ use native.Mathlib.Omega.{arith}
 use lib.ListN.{length, length-append}
 use borrow.Author.Tests.{eqb-true, eqb-false, ltb-true, not-true}
 use Rattle.slices.specs.Same.{same}
+use Rattle.utf8.specs.Reading.{utf8}
 use Rattle.tokens.specs.Kinds as kinds
 use Rattle.tokens.proofs.TokenLaws.{and-right}
 use Rattle.tokens.specs.Sizes.{mostLiterals, mostPolicies}
 use Rattle.reading.specs.Lexemes.{Lexeme, is}
 use Rattle.reading.specs.Reads.{Reading, Chain, Chain.alone, Chain.more, Onto, Onto.onto, Before, Before.ended, After, After.begun}
 use Rattle.grammar.specs.Policies.{Span, Root, Literal, text, number, truth, Operand, attribute, Tree, both, either, Part, any, typed, Actions, Policy}
-use Rattle.grammar.specs.Rules.{inside, spanOf, isLiteral, literalOf, typeAmong, typeOf, isType, principalTypes, resourceTypes, isPattern}
+use Rattle.grammar.specs.Rules.{inside, spanOf, isLiteral, literalOf, typeAmong, typeOf, isType, principalTypes, resourceTypes, isPattern, isText}
 use Rattle.grammar.specs.Grammar.{sizes, spanned, APath, Attribute, rooted, AnOperand, given, Element, element, Listing, Simple, comparison, likeness, listed, held, call, having, Conjunction, Disjunction, ConditionOver, simple, negation, bracketed, conditional, Condition, Typed, ResourceRest, ActionRest, When, PolicyRest, Policies}
 use Rattle.grammar.specs.Grammar as grammar
 use Rattle.placing.specs.Placed.{quotedAt, StringPlaced, NumberPlaced, PathPlaced, Each, none-left, and-each, LiteralPlaced, a-string, a-number, a-truth, ActionPlaced, an-action, OperandPlaced, an-attribute, a-literal, Listed, TreePlaced, a-constant, a-comparison, a-likeness, in-list, in-attribute, a-call, a-presence, a-negation, in-brackets, a-conjunction, a-disjunction, a-choice, depth, PrincipalPlaced, any-principal, principal-type, ResourcePlaced, any-resource, resource-type, one-resource, ActionsPlaced, any-action, one-of, ConditionPlaced, no-condition, a-condition, PolicyPlaced, PoliciesPlaced}
@@ -92,9 +93,9 @@ record Nested (t : List ℕ) (d : ℕ) (c : Tree) : Type 0 where
 -- ---- literals, operands, lists
 
 module _ {t : List ℕ} where
-  literal-placed : {at : ℕ} {x : Lexeme} → Lexed t at x → LiteralPlaced t (literalOf x)
+  literal-placed : {at : ℕ} {x : Lexeme} → isText x ≡ true → Lexed t at x → LiteralPlaced t (literalOf x)
   unfolding literalOf
-  literal-placed {at} {x} l = go (is kinds.string x) (is kinds.number x) (λ e. string-of l (eqb-true _ _ e)) (λ e. l .number (eqb-true _ _ e))
+  literal-placed {at} {x} u l = go (is kinds.string x) (is kinds.number x) (λ e. string-of l (eqb-true _ _ e) u) (λ e. l .number (eqb-true _ _ e))
     where
       go : (b c : Bool) → (b ≡ true → StringPlaced t (spanOf x)) → (c ≡ true → NumberPlaced t (spanOf x))
           → LiteralPlaced t (cond b (text (spanOf x)) (cond c (number (spanOf x)) (truth (is kinds.trueWord x))))
@@ -102,9 +103,9 @@ module _ {t : List ℕ} where
       go false true f g = a-number (g refl)
       go false false f g = a-truth
 
-  action-placed : {at : ℕ} {x : Lexeme} → is kinds.string x ≡ true → Lexed t at x → ActionPlaced t (literalOf x)
+  action-placed : {at : ℕ} {x : Lexeme} → is kinds.string x ≡ true → isText x ≡ true → Lexed t at x → ActionPlaced t (literalOf x)
   unfolding literalOf
-  action-placed e l = rw e (an-action (string-of l (eqb-true _ _ e)))
+  action-placed e u l = rw e (an-action (string-of l (eqb-true _ _ e) u))
 
   gives-names : (root : Root) → Gives t (APath sizes root) (λ p. PathPlaced t root (spanned p))
   gives-names root = record { at = λ h f. let y = walked h (f .running) in (y .0 .placed, record { at = _; running = y .1 }) }
@@ -123,27 +124,27 @@ module _ {t : List ℕ} where
     where
       go : {i r : List Lexeme} {a : Operand} → AnOperand sizes i r a → FromText t i → OperandPlaced t a × FromText t r
       go (given h) f = gives-attribute .at h f
-      go (grammar.AnOperand.literally e) f = (a-literal (literal-placed (head-of f)), tail-of f)
+      go (grammar.AnOperand.literally e u) f = (a-literal (literal-placed u (head-of f)), tail-of f)
 
-  module _ (sort : Lexeme → Bool) (P : Literal → Type 0) (one : (at : ℕ) (x : Lexeme) → sort x ≡ true → Lexed t at x → P (literalOf x)) where
+  module _ (sort : Lexeme → Bool) (P : Literal → Type 0) (one : (at : ℕ) (x : Lexeme) → sort x ≡ true → isText x ≡ true → Lexed t at x → P (literalOf x)) where
     gives-element : (ls : List Literal) → Each P ls → Gives t (Element sizes sort ls) (Listed P)
     gives-element ls e = record { at = go }
       where
         go : {i r : List Lexeme} {ks : List Literal} → Element sizes sort ls i r ks → FromText t i → Listed P ks × FromText t r
-        go (element {x} s c) f =
+        go (element {x} s c u) f =
             let n = length-append ls (literalOf x ∷ []) in let m = ltb-true (length ls) mostLiterals c in
-            (record { some = omega arith; few = omega arith; each = each-more e (one _ _ s (head-of f)) }, tail-of f)
+            (record { some = omega arith; few = omega arith; each = each-more e (one _ _ s u (head-of f)) }, tail-of f)
 
     gives-listing : Gives t (Listing sizes sort) (Listed P)
     gives-listing = gives-after (gives-before (gives-chain (gives-element [] none-left) (λ ls x h. gives-element ls (h .each))))
 
   literals : Gives t (Listing sizes isLiteral) (Listed (LiteralPlaced t))
-  literals = gives-listing isLiteral (LiteralPlaced t) (λ at x e l. literal-placed l)
+  literals = gives-listing isLiteral (LiteralPlaced t) (λ at x e u l. literal-placed u l)
 
   -- ---- conditions
 
-  pattern-placed : {at : ℕ} {x : Lexeme} → Lexed t at x → StringPlaced t (spanOf x) → isPattern (inside x) ≡ true → isPattern (quotedAt t (spanOf x)) ≡ true
-  pattern-placed {at} {x} l s e = rw (← inside-text t (x .start) (x .end) (s .two), ← l .bytes) e
+  inside-passes : (test : List ℕ → Bool) {at : ℕ} {x : Lexeme} → Lexed t at x → StringPlaced t (spanOf x) → test (inside x) ≡ true → test (quotedAt t (spanOf x)) ≡ true
+  inside-passes test {at} {x} l s e = rw (← inside-text t (x .start) (x .end) (s .two), ← l .bytes) e
 
   gives-simple : Gives t (Simple sizes) (Nested t 1)
   unfolding depth
@@ -155,11 +156,11 @@ module _ {t : List ℕ} where
           let y = gives-operand .at h f in
           let z = gives-operand .at k (tail-of (y .1)) in
           (record { placed = a-comparison (y .0) (z .0); levels = omega arith }, z .1)
-      go (likeness h e s p) f =
+      go (likeness h e s u p) f =
           let y = gives-operand .at h f in
           let l = head-of (tail-of (y .1)) in
-          let q = string-of l s in
-          (record { placed = a-likeness (y .0) q (pattern-placed l q p); levels = omega arith }, tail-of (tail-of (y .1)))
+          let q = string-of l s u in
+          (record { placed = a-likeness (y .0) q (inside-passes isPattern l q p); levels = omega arith }, tail-of (tail-of (y .1)))
       go (listed h e k) f =
           let y = gives-operand .at h f in
           let z = literals .at k (tail-of (y .1)) in
@@ -225,13 +226,13 @@ module _ {t : List ℕ} where
   unfolding principalTypes
   gives-principal = gives-typed principalTypes PrincipalPlaced any-principal (λ n l h. principal-type l h)
 
-  gives-resource : Gives t ResourceRest (ResourcePlaced t)
+  gives-resource : Gives t (ResourceRest sizes) (ResourcePlaced t)
   unfolding resourceTypes
   gives-resource = record { at = go }
     where
-      go : {i r : List Lexeme} {p : Part} → ResourceRest i r p → FromText t i → ResourcePlaced t p × FromText t r
+      go : {i r : List Lexeme} {p : Part} → ResourceRest sizes i r p → FromText t i → ResourcePlaced t p × FromText t r
       go (grammar.ResourceRest.sort h) f = gives-typed resourceTypes (ResourcePlaced t) any-resource (λ n l h. resource-type l h) .at h f
-      go (grammar.ResourceRest.string k e) f = (one-resource (string-of (head-of (tail-of f)) e), tail-of (tail-of f))
+      go (grammar.ResourceRest.string k e u) f = (one-resource (string-of (head-of (tail-of f)) e u), tail-of (tail-of f))
 
   gives-actions : Gives t (ActionRest sizes) (ActionsPlaced t)
   gives-actions = record { at = go }
@@ -239,7 +240,7 @@ module _ {t : List ℕ} where
       go : {i r : List Lexeme} {a : Actions} → ActionRest sizes i r a → FromText t i → ActionsPlaced t a × FromText t r
       go grammar.ActionRest.bare f = (any-action, f)
       go (grammar.ActionRest.list k h) f =
-          let y = gives-listing (is kinds.string) (ActionPlaced t) (λ at x e l. action-placed e l) .at h (tail-of f) in (one-of (y .0), y .1)
+          let y = gives-listing (is kinds.string) (ActionPlaced t) (λ at x e u l. action-placed e u l) .at h (tail-of f) in (one-of (y .0), y .1)
 
   gives-when : Gives t (When sizes) (ConditionPlaced t)
   gives-when = record { at = go }

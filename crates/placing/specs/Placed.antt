@@ -6,6 +6,7 @@ use mathlib.Core.Option.{Option, none, some}
 use Prim.Native.Nat.{ℕ, suc, _+_, _-_, _≤_, _<_, max}
 use lib.ListN.{length, getD, take, drop}
 use Rattle.slices.specs.Ascii.{bytes}
+use Rattle.utf8.specs.Reading.{utf8}
 use Rattle.tokens.specs.Blanks.{unblanked}
 use Rattle.tokens.specs.Kinds as kinds
 use Rattle.tokens.specs.Runs.{isOf}
@@ -47,13 +48,14 @@ pub record Lies (t : List ℕ) (s : Span) : Type 0 where
   pub some : s .start < s .end
   pub high : s .end ≤ length t
 
--- a string with its quotes, at most 127 bytes inside them
+-- a string with its quotes, at most 127 bytes inside them, which are UTF-8
 pub record StringPlaced (t : List ℕ) (s : Span) : Type 0 where
   pub lies : Lies t s
   pub two : s .start + 2 ≤ s .end
   pub few : s .end ≤ s .start + (mostStringBytes + 2)
   pub opened : getD t (s .start) 0 ≡ quote
   pub inside : All StringBytes (quotedAt t s)
+  pub characters : utf8 (quotedAt t s) ≡ true
   pub closed : getD t (s .end - 1) 0 ≡ quote
 
 -- a number

@@ -27,8 +27,8 @@ use Rattle.lookups.specs.Values.{Valued}
 use Rattle.questions.specs.Distinct.{among, distinct}
 use Rattle.questions.specs.Columns.{candidateEnd, columnPath, countAt, nameOf, candidatesEnd, headOk, columnEnd, columnsEnd, endOf, NameEnd}
 use Rattle.questions.specs.Questions.{fourthEnd, follows, isQuestion, Question}
-use Rattle.questions.specs.declared.elements.Element.{Element}
-use Rattle.questions.specs.declared.elements.Element.the-variants.{Candidate, Column}
+use Rattle.questions.specs.declared.elements.Unrepeated.{Unrepeated}
+use Rattle.questions.specs.declared.elements.Unrepeated.the-variants.{Candidate, Column}
 use Rattle.questions.proofs.DifferLaws.{none-ends}
 
 -- ---- a candidate
@@ -141,7 +141,7 @@ module _ (n : ℕ) (s : List ℕ) (at : ℕ) where
 
 -- ---- an element by its sort
 
-module _ (which : Element) (s : List ℕ) (at : ℕ) where
+module _ (which : Unrepeated) (s : List ℕ) (at : ℕ) where
   pub as-candidate : which ≡ Candidate → endOf which s at ≡ candidateEnd s at
   unfolding endOf
   as-candidate h = rw h
@@ -163,7 +163,7 @@ column-name s at e h =
     let size : countAt s at - at ≡ 2 + byte s (at + 1) = omega arith in
     record { low = omega arith; high = omega (arith, c .counted); is = rw size }
 
-module _ (which : Element) (s : List ℕ) (at e : ℕ) (h : endOf which s at ≡ At e) where
+module _ (which : Unrepeated) (s : List ℕ) (at e : ℕ) (h : endOf which s at ≡ At e) where
   pub candidate-named : which ≡ Candidate → NameEnd which s at e e
   candidate-named k = rw k (candidate-name s at e (sym (as-candidate which s at k) ∙ h))
 
@@ -174,7 +174,7 @@ module _ (which : Element) (s : List ℕ) (at e : ℕ) (h : endOf which s at ≡
   column-counted k = column-at s at e (sym (as-column which s at k) ∙ h) .counted
 
 -- a name by its bytes, as code lends them
-module _ (which : Element) (s : List ℕ) (at e end : ℕ) (r : Bool) (w : NameEnd which s at e end) where
+module _ (which : Unrepeated) (s : List ℕ) (at e end : ℕ) (r : Bool) (w : NameEnd which s at e end) where
   pub name-same : (x : List ℕ) → Decides (x ≡ take (end - at) (drop at s)) r → same x (nameOf which s at e) ≡ r
   unfolding part
   name-same x d = rw (w .is) (sym (same-is x (take (end - at) (drop at s)) d))

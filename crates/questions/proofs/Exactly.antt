@@ -31,7 +31,7 @@ use Rattle.questions.specs.Columns.{candidateEnd, columnPath, countAt, n
 use Rattle.questions.specs.Questions.{fourthEnd, follows, isQuestion}
 use Rattle.questions.specs.Forms.{Distinct, Choice, ChoiceBytes, nothing, something, Named, Column, ColumnBytes, column}
 use Rattle.questions.specs.Forms.{ColumnsBytes, columns, Parts, parts, QuestionBytes, NoQuestion}
-use Rattle.questions.specs.declared.elements.Element.the-variants as elements
+use Rattle.questions.specs.declared.elements.Unrepeated.the-variants as elements
 use Rattle.questions.proofs.ColumnLaws.{candidate-absent, candidate-value, candidate-starts, candidate-whole, column-whole, column-at, fourth-whole}
 use Rattle.questions.proofs.DistinctLaws.{distinct-decides, distinct-mapped, distinct-before}
 

@@ -12,8 +12,8 @@ use Rattle.bags.specs.Values.{valueEnd}
 use Rattle.bags.specs.declared.After.{After}
 use Rattle.bags.specs.declared.After.the-variants.{At}
 use Rattle.questions.specs.Distinct.{distinct}
-use Rattle.questions.specs.declared.elements.Element.{Element}
-use Rattle.questions.specs.declared.elements.Element.the-variants.{Candidate, Column}
+use Rattle.questions.specs.declared.elements.Unrepeated.{Unrepeated}
+use Rattle.questions.specs.declared.elements.Unrepeated.the-variants.{Candidate, Column}
 use Rattle.questions.specs.Sizes.{mostCandidates}
 
 -- a candidate: a kind byte and a value; kind 0 has no value
@@ -28,7 +28,7 @@ abbrev pub countAt : List ℕ → ℕ → ℕ
 countAt s at = at + 2 + byte s (at + 1)
 
 -- what tells an element from the others: a candidate's bytes; a column's root byte, path length and path
-unfoldable pub nameOf : Element → List ℕ → ℕ → ℕ → List ℕ
+unfoldable pub nameOf : Unrepeated → List ℕ → ℕ → ℕ → List ℕ
 nameOf Candidate s at e = part s at (e - at)
 nameOf Column s at e = part s at (2 + byte s (at + 1))
 
@@ -51,12 +51,12 @@ unfoldable pub columnsEnd : ℕ → List ℕ → ℕ → After
 columnsEnd n s at = only (distinct (each n (columnEnd s) (nameOf Column s) at)) (many n (columnEnd s) at)
 
 -- how an element is read
-unfoldable pub endOf : Element → List ℕ → ℕ → After
+unfoldable pub endOf : Unrepeated → List ℕ → ℕ → After
 endOf Candidate s = candidateEnd s
 endOf Column s = columnEnd s
 
 -- r is where the name of the element from `at` to `e` ends
-pub record NameEnd (which : Element) (s : List ℕ) (at e r : ℕ) : Type 0 where
+pub record NameEnd (which : Unrepeated) (s : List ℕ) (at e r : ℕ) : Type 0 where
   pub low : at ≤ r
   pub high : r ≤ length s
   pub is : nameOf which s at e ≡ part s at (r - at)

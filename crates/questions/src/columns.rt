@@ -4,7 +4,7 @@ ghost use Rattle.tokens.specs.Table.{classTable};
 ghost use Rattle.bags.specs.Reading.{many};
 ghost use Rattle.questions.specs.Columns.{candidateEnd, candidatesEnd, headOk, columnEnd, columnsEnd};
 ghost use Rattle.questions.specs.Questions.{fourthEnd};
-use crate::elements::Element;
+use crate::elements::Unrepeated;
 use crate::elements::all_differ;
 use crate::sizes::MOST_CANDIDATES;
 use crate::sizes::MOST_COLUMNS;
@@ -51,7 +51,7 @@ fn candidates_end(n: usize, s: &[u8], at: usize) -> After
     match many_candidates(n, s, at) {
         After::Bad => After::Bad,
         After::At(e) => {
-            if all_differ(Element::Candidate, n, s, at) {
+            if all_differ(Unrepeated::Candidate, n, s, at) {
                 After::At(e)
             } else {
                 After::Bad
@@ -119,7 +119,7 @@ fn columns_end(classes: &[u8; 256], n: usize, s: &[u8], at: usize) -> After
     match many_columns(classes, n, s, at) {
         After::Bad => After::Bad,
         After::At(e) => {
-            if all_differ(Element::Column, n, s, at) {
+            if all_differ(Unrepeated::Column, n, s, at) {
                 After::At(e)
             } else {
                 After::Bad

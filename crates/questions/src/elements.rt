@@ -10,7 +10,7 @@ use lookups::steps::value_next;
 use slices::same;
 
 // What may not occur twice: a candidate in its column, a column in the question.
-pub enum Element {
+pub enum Unrepeated {
     Candidate,
     Column,
 }
@@ -50,29 +50,29 @@ pub fn column_next(s: &[u8], at: usize) -> usize
     candidates_next(s[count_at] as usize, s, count_at + 1)
 }
 
-fn element_next(which: Element, s: &[u8], at: usize) -> usize
+fn element_next(which: Unrepeated, s: &[u8], at: usize) -> usize
     requires { ⌜ ((e : ℕ) × (endOf which (now s) at ≡ At e)) ⌝ }
     ensures { λ r. ⌜ endOf which (now (s .entry)) at ≡ At r ⌝ }
 {
     match which {
-        Element::Candidate => candidate_next(s, at),
-        Element::Column => column_next(s, at),
+        Unrepeated::Candidate => candidate_next(s, at),
+        Unrepeated::Column => column_next(s, at),
     }
 }
 
 // Where the bytes end that tell an element from the others.
-fn name_end(which: Element, s: &[u8], at: usize, e: usize) -> usize
+fn name_end(which: Unrepeated, s: &[u8], at: usize, e: usize) -> usize
     requires { ⌜ endOf which (now s) at ≡ At e ⌝ }
     ensures { λ r. ⌜ NameEnd which (now (s .entry)) at e r ⌝ }
 {
     match which {
-        Element::Candidate => e,
-        Element::Column => at + 2 + s[at + 1] as usize,
+        Unrepeated::Candidate => e,
+        Unrepeated::Column => at + 2 + s[at + 1] as usize,
     }
 }
 
 // Whether one of the `n` elements from `from` has the name `x`.
-fn occurs(which: Element, n: usize, s: &[u8], from: usize, x: &[u8]) -> bool
+fn occurs(which: Unrepeated, n: usize, s: &[u8], from: usize, x: &[u8]) -> bool
     requires { ⌜ ((e : ℕ) × (many n (endOf which (now s)) from ≡ At e)) ⌝ }
     ensures { λ r. ⌜ r ≡ among (now (x .entry)) (each n (endOf which (now (s .entry))) (nameOf which (now (s .entry))) from) ⌝ }
 {
@@ -91,7 +91,7 @@ fn occurs(which: Element, n: usize, s: &[u8], from: usize, x: &[u8]) -> bool
 }
 
 // Whether the `n` elements from `at` have different names.
-pub fn all_differ(which: Element, n: usize, s: &[u8], at: usize) -> bool
+pub fn all_differ(which: Unrepeated, n: usize, s: &[u8], at: usize) -> bool
     requires { ⌜ ((e : ℕ) × (many n (endOf which (now s)) at ≡ At e)) ⌝ }
     ensures { λ r. ⌜ r ≡ distinct (each n (endOf which (now (s .entry))) (nameOf which (now (s .entry))) at) ⌝ }
 {

@@ -8,6 +8,7 @@ use native.Mathlib.Nat.{min-le-left}
 use native.Mathlib.Omega.{arith}
 use lib.ListN.{length, drop, length-take}
 use borrow.Author.Tests.{le-leb, lt-leb}
+use Rattle.utf8.proofs.Readings.{utf8-decides}
 use Rattle.tokens.specs.Bytes.{classOf}
 use Rattle.tokens.specs.Runs.{isOf}
 use Rattle.tokens.specs.Forms.{All, empty, next, SomeDigits, digits-from, Unsigned, whole, Number, signless, digits}
@@ -99,6 +100,7 @@ module _ (t : List ℕ) where
         let n = s .end - s .start - 2 in
         let behind = drop (s .start + 1) t in
         let few = h .few in omega (arith, length-take n behind, min-le-left n (length behind));
+    characters = utf8-decides (quotedAt t s) .sound (h .characters);
   }
 
   literal-said : {l : Literal} → LiteralPlaced t l → PrintableLiteral (literalWords t l)
@@ -140,7 +142,7 @@ module _ (t : List ℕ) where
   unfolding treeWords
   simple-said (grammar.Simple.bare e) placed.TreePlaced.a-constant = of-constant
   simple-said (comparison a e b) (placed.TreePlaced.a-comparison h k) = of-comparison (operand-said h) (operand-said k)
-  simple-said (likeness a e f g) (placed.TreePlaced.a-likeness h k q) = of-likeness (operand-said h) (string-said k) q
+  simple-said (likeness a e f u g) (placed.TreePlaced.a-likeness h k q) = of-likeness (operand-said h) (string-said k) q
   simple-said (listed a e b) (placed.TreePlaced.in-list h k) = of-list (operand-said h) (literals-said k)
   simple-said (held a e b) (placed.TreePlaced.in-attribute h k) = of-member (operand-said h) (path-said k)
   simple-said (call a d e f b) (placed.TreePlaced.a-call h k) = of-call (path-said h) (literals-said k)

@@ -6,23 +6,24 @@ use Prim.Native.Nat.{ℕ, _+_, _-_, _≤_}
 use native.Mathlib.Omega.{arith}
 use lib.ListN.{length, length-append}
 use lib.Seq.{take-append-seam}
+use Rattle.utf8.specs.Reading.{utf8}
 use Rattle.tokens.specs.Kinds as kinds
 use Rattle.tokens.specs.Forms.{quote}
 use Rattle.reading.specs.Lexemes.{Lexeme, is}
 use Rattle.reading.specs.Reads.{Reading, Before, After, After.begun}
 use Rattle.grammar.specs.Policies.{Span, Root, Which, LiteralOf, truth, OperandOf, TreeOf, Tree, constant, like, among, contains, not, brackets, either, choice}
 use Rattle.grammar.specs.Policies as policies
-use Rattle.grammar.specs.Rules.{inside, spanOf, isTruth, isLiteral, literalOf, isContains, whichOf, isPattern}
+use Rattle.grammar.specs.Rules.{inside, spanOf, isTruth, isLiteral, literalOf, isContains, whichOf, isPattern, isText}
 use Rattle.grammar.specs.Grammar.{sizes, AnOperand, Listing, Simple, likeness, listed, call, ConditionOver, negation, bracketed, conditional}
 use Rattle.grammar.specs.Grammar.{Conjunction, Disjunction}
 use Rattle.grammar.specs.Grammar as grammar
 use Rattle.placing.specs.Said.{Word, literalWords, listWords, operandWords, treeWords}
-use Rattle.spelling.specs.Layout.{WrittenToken, written, lexemeOf, standing}
+use Rattle.spelling.specs.Layout.{WrittenToken, written, readAs, lexemeOf, standing}
 use Rattle.spelling.specs.Printing.{PrintsAt, Prints, OfKind, PrintsLiteral, truthKind, callKind, RootedPath, rootedWords}
 use Rattle.spelling.specs.Marks.{quoted}
 use Rattle.spelling.proofs.Printing.{past, has-first, has-token, has-last, pastToken, tokens-around, prints-led, Twice, twiceWords}
 use Rattle.spelling.proofs.Printing.{prints-around}
-use Rattle.spelling.proofs.Productions.{string-bytes, string-fits, prints-joined}
+use Rattle.spelling.proofs.Productions.{string-bytes, string-fits, string-text, prints-joined}
 
 -- ---- true and false
 
@@ -31,12 +32,19 @@ unfolding truthKind literalOf
 truth-is true x e = (rw e, rw e, rw e, rw e)
 truth-is false x e = (rw e, rw e, rw e, rw e)
 
+-- it is no string
+truth-text : (b : Bool) (x : Lexeme) → x .kind ≡ truthKind b → isText x ≡ true
+unfolding truthKind
+truth-text true x e = rw e
+truth-text false x e = rw e
+
 module _ {b : Bool} {x : WrittenToken} (e : OfKind (truthKind b) x) where
   -- as a literal
   pub prints-truth : PrintsLiteral isLiteral x (truth b)
   unfolding literalWords
   prints-truth = record {
     of-sort = λ at. truth-is b (lexemeOf at x) (e .read-as) .2;
+    is-text = λ at. truth-text b (lexemeOf at x) (e .read-as);
     says = λ at t h. ap (literalWords t) (truth-is b (lexemeOf at x) (e .read-as) .3);
   }
 
@@ -66,10 +74,10 @@ inside-quoted at b s =
 
 module _ {xs : List WrittenToken} {x : WrittenToken} {a : OperandOf Word} (p : Prints (AnOperand sizes) operandWords xs a) where
   -- an operand `like` a pattern
-  pub prints-likeness : (b : List ℕ) (s : Word) → OfKind kinds.likeWord x → length s ≤ 127 → isPattern s ≡ true
+  pub prints-likeness : (b : List ℕ) (s : Word) → OfKind kinds.likeWord x → length s ≤ 127 → utf8 s ≡ true → isPattern s ≡ true
       → Prints (Simple sizes) treeWords (xs ++ (x ∷ written b kinds.string (quoted s) ∷ [])) (like a s)
   unfolding standing treeWords
-  prints-likeness b s e h q = record { anywhere = go }
+  prints-likeness b s e h u q = record { anywhere = go }
     where
       y : WrittenToken
       y = written b kinds.string (quoted s)
@@ -82,7 +90,7 @@ module _ {xs : List WrittenToken} {x : WrittenToken} {a : OperandOf Word} (p : P
           let pattern : isPattern (inside z) ≡ true = rw (inside-quoted next b s) q in
           record {
             what = like (left .what) (spanOf z);
-            reads = rw (tokens-around xs x (y ∷ []) at r) (likeness (left .reads) (e .read-as) (string-fits s h) pattern);
+            reads = rw (tokens-around xs x (y ∷ []) at r) (likeness (left .reads) (e .read-as) (string-fits s h) (string-text s u (next + length b) (readAs kinds.string (quoted s))) pattern);
             says = λ t k.
                 rw (
                   left .says t (has-first xs (x ∷ y ∷ []) k),

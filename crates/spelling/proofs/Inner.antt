@@ -144,7 +144,7 @@ module _ (L : Limits) where
     where
       go : {i r : List Lexeme} {a : Operand} → AnOperand L i r a → Spends i r
       go (given h) = spending-attribute .at h
-      go (grammar.AnOperand.literally {x = x} t) = one (literal-inner x t) none
+      go (grammar.AnOperand.literally {x = x} t l) = one (literal-inner x t) none
 
   spending-listing : (sort : Lexeme → Bool) → ((x : Lexeme) → Inner x (sort x)) → Spending (Listing L sort)
   unfolding inner
@@ -153,7 +153,7 @@ module _ (L : Limits) where
       kinds.leftSquare refl
     where
       go : {ls : List Literal} {i r : List Lexeme} {ks : List Literal} → Element L sort ls i r ks → Spends i r
-      go (element {x = x} t c) = one (f x t) none
+      go (element {x = x} t c l) = one (f x t) none
 
   spending-simple : Spending (Simple L)
   unfolding inner
@@ -162,7 +162,7 @@ module _ (L : Limits) where
       go : {i r : List Lexeme} {t : Tree} → Simple L i r t → Spends i r
       go (grammar.Simple.bare {x = x} t) = one (truth-inner x t) none
       go (comparison {x = x} h t k) = spends-then (spending-operand .at h) (one (comparator-inner x t) (spending-operand .at k))
-      go (likeness {x = x} {s = s} h e e′ f) =
+      go (likeness {x = x} {s = s} h e e′ l f) =
           spends-then (spending-operand .at h) (one (kind-inner x kinds.likeWord refl e) (one (kind-inner s kinds.string refl e′) none))
       go (listed {x = x} h e k) = spends-then (spending-operand .at h) (one (kind-inner x kinds.inWord refl e) (spending-listing isLiteral literal-inner .at k))
       go (held {x = x} h e k) = spends-then (spending-operand .at h) (one (kind-inner x kinds.inWord refl e) (spending-attribute .at k))
@@ -204,13 +204,13 @@ module _ (L : Limits) where
       go grammar.Typed.bare = none
       go (grammar.Typed.one {x = x} {n = n} k t) = one (kind-inner x kinds.isWord refl k) (one (test-inner n kinds.name refl (and-left _ _ t)) none)
 
-  spending-resource : Spending ResourceRest
+  spending-resource : Spending (ResourceRest L)
   unfolding inner
   spending-resource = record { at = go }
     where
-      go : {i r : List Lexeme} {p : Part} → ResourceRest i r p → Spends i r
+      go : {i r : List Lexeme} {p : Part} → ResourceRest L i r p → Spends i r
       go (grammar.ResourceRest.sort h) = spending-typed resourceTypes .at h
-      go (grammar.ResourceRest.string {x = x} {s = s} k e) = one (kind-inner x kinds.equal refl k) (one (kind-inner s kinds.string refl e) none)
+      go (grammar.ResourceRest.string {x = x} {s = s} k e l) = one (kind-inner x kinds.equal refl k) (one (kind-inner s kinds.string refl e) none)
 
   spending-action : Spending (ActionRest L)
   unfolding inner

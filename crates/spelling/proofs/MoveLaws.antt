@@ -12,7 +12,7 @@ use Rattle.reading.specs.Lexemes.{Lexeme, is, size}
 use Rattle.reading.specs.Reads.{Reading, Chain, Chain.alone, Chain.more, Onto, Onto.onto, Before, Before.ended, After, After.begun}
 use Rattle.grammar.specs.Policies.{Root, Root.Principal, Root.Resource, Root.Env, Root.Action, Literal, text, Operand, Tree, both, either, Part, Actions}
 use Rattle.grammar.specs.Policies.{Policy}
-use Rattle.grammar.specs.Rules.{inside, isLiteral, rootOf, literalOf, comparatorOf, whichOf, principalTypes, resourceTypes, admitted}
+use Rattle.grammar.specs.Rules.{inside, isLiteral, rootOf, literalOf, comparatorOf, whichOf, principalTypes, resourceTypes, admitted, isText}
 use Rattle.grammar.specs.Rules.{isPattern}
 use Rattle.grammar.specs.Grammar.{sizes, Path, FirstName, first, NextName, next, APath, Attribute, rooted, AnOperand, given, Element, element, Listing}
 use Rattle.grammar.specs.Grammar.{Simple, comparison, likeness, listed, held, call, having, Conjunction, Disjunction, ConditionOver, simple, negation}
@@ -77,6 +77,9 @@ module _ (m : Move) where
   admitted-moved Env used x k h = rw k h
   admitted-moved Action used x k h = h
 
+  string-moved : (x : Lexeme) → KeepsSize m x → isText x ≡ true → isText (movedLexeme m x) ≡ true
+  string-moved x k h = rw k h
+
   pattern-moved : (x : Lexeme) → KeepsSize m x → isPattern (inside x) ≡ true → isPattern (inside (movedLexeme m x)) ≡ true
   pattern-moved x k h = rw k h
 
@@ -122,7 +125,7 @@ module _ (m : Move) where
       go : {i r : List Lexeme} {a : Operand} → AllKeep m i → AnOperand sizes i r a
           → AllKeep m r × AnOperand sizes (map (movedLexeme m) i) (map (movedLexeme m) r) (movedOperand m a)
       go k (given h) = let q = carries-attribute .at k h in (q .0, given (q .1))
-      go (keeps e a) (grammar.AnOperand.literally {x = x} t) = (a, rw (← literal-moved x) (grammar.AnOperand.literally t))
+      go (keeps e a) (grammar.AnOperand.literally {x = x} t l) = (a, rw (← literal-moved x) (grammar.AnOperand.literally t (string-moved x e l)))
 
   -- tests of lists that go by the kind
   record ByKind (sort : Lexeme → Bool) : Type 0 where
@@ -134,9 +137,9 @@ module _ (m : Move) where
     where
       go : {ls : List Literal} {i r : List Lexeme} {ks : List Literal} → AllKeep m i → Element sizes sort ls i r ks
           → AllKeep m r × Element sizes sort (map (movedLiteral m) ls) (map (movedLexeme m) i) (map (movedLexeme m) r) (map (movedLiteral m) ks)
-      go {ls = ls} (keeps e a) (element {x = x} t c) =
+      go {ls = ls} (keeps e a) (element {x = x} t c l) =
           let few : ltb (length (map (movedLiteral m) ls)) mostLiterals ≡ true = rw (length-map ls (movedLiteral m)) c in
-          (a, rw (map-append (movedLiteral m) ls (literalOf x ∷ []), ← literal-moved x) (element (b .same x ∙ t) few))
+          (a, rw (map-append (movedLiteral m) ls (literalOf x ∷ []), ← literal-moved x) (element (b .same x ∙ t) few (string-moved x e l)))
 
   literals : ByKind isLiteral
   literals = record { same = λ x. refl }
@@ -150,8 +153,8 @@ module _ (m : Move) where
       go : {i r : List Lexeme} {t : Tree} → AllKeep m i → Simple sizes i r t → AllKeep m r × Simple sizes (map (movedLexeme m) i) (map (movedLexeme m) r) (movedTree m t)
       go (keeps e a) (grammar.Simple.bare t) = (a, grammar.Simple.bare t)
       go k (comparison h t j) = let p = carries-operand .at k h in let q = carries-operand .at (behind (p .0)) j in (q .0, comparison (p .1) t (q .1))
-      go k (likeness {s = s} h t t′ f) =
-          let p = carries-operand .at k h in (behind (behind (p .0)), likeness (p .1) t t′ (pattern-moved s (second (p .0)) f))
+      go k (likeness {s = s} h t t′ l f) =
+          let p = carries-operand .at k h in (behind (behind (p .0)), likeness (p .1) t t′ (string-moved s (second (p .0)) l) (pattern-moved s (second (p .0)) f))
       go k (listed h t j) =
           let p = carries-operand .at k h in let q = carries-listing isLiteral literals .at (behind (p .0)) j in (q .0, listed (p .1) t (q .1))
       go k (held h t j) = let p = carries-operand .at k h in let q = carries-attribute .at (behind (p .0)) j in (q .0, held (p .1) t (q .1))
@@ -194,12 +197,12 @@ module _ (m : Move) where
       go k grammar.Typed.bare = (k, grammar.Typed.bare)
       go (keeps e (keeps e′ a)) (grammar.Typed.one k t) = (a, grammar.Typed.one k t)
 
-  carries-resource : Carries (movedPart m) ResourceRest ResourceRest
+  carries-resource : Carries (movedPart m) (ResourceRest sizes) (ResourceRest sizes)
   carries-resource = record { at = go }
     where
-      go : {i r : List Lexeme} {p : Part} → AllKeep m i → ResourceRest i r p → AllKeep m r × ResourceRest (map (movedLexeme m) i) (map (movedLexeme m) r) (movedPart m p)
+      go : {i r : List Lexeme} {p : Part} → AllKeep m i → ResourceRest sizes i r p → AllKeep m r × ResourceRest sizes (map (movedLexeme m) i) (map (movedLexeme m) r) (movedPart m p)
       go k (grammar.ResourceRest.sort h) = let q = carries-typed resourceTypes .at k h in (q .0, grammar.ResourceRest.sort (q .1))
-      go (keeps e (keeps e′ a)) (grammar.ResourceRest.string k t) = (a, grammar.ResourceRest.string k t)
+      go (keeps e (keeps e′ a)) (grammar.ResourceRest.string {s = s} k t l) = (a, grammar.ResourceRest.string k t (string-moved s e′ l))
 
   strings : ByKind (is kinds.string)
   strings = record { same = λ x. refl }

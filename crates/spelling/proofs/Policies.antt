@@ -36,7 +36,7 @@ prints-typed {types} {x} {y} {n} e f k o = record { anywhere = go }
         record { what = typed (typeOf types z); reads = grammar.Typed.one (e .read-as) one; says = λ t q. ap typed k }
 
 -- a resource part that is bare, or `is` one of its types
-pub prints-sort : {xs : List WrittenToken} {p : PartOf Word} → Prints (Typed resourceTypes) partWords xs p → Prints ResourceRest partWords xs p
+pub prints-sort : {xs : List WrittenToken} {p : PartOf Word} → Prints (Typed resourceTypes) partWords xs p → Prints (ResourceRest sizes) partWords xs p
 prints-sort p = prints-as p (λ i r a. grammar.ResourceRest.sort)
 
 -- every action

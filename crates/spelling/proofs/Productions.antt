@@ -1,16 +1,18 @@
 -- How words are printed, production by production of the grammar. Assumes nothing.
 use mathlib.Core.Path.{_≡_, refl, ap, _∙_, sym, subst}
-use mathlib.Core.Bool.{Bool, true, false}
+use mathlib.Core.Bool.{Bool, true, false, not, or-true}
 use mathlib.Core.List.{List, [], _∷_, _++_, append-assoc, append-nil}
 use mathlib.Core.Option.{Option, some}
 use Prim.Native.Nat.{ℕ, zero, suc, _+_, _-_, _≤_, _<_}
 use Prim.Native.Char.{code}
 use native.Mathlib.Omega.{arith}
+use lib.Dec.{eqb}
 use lib.ListN.{length, drop, length-append}
 use lib.Seq.{take-append-seam, drop-drop}
 use borrow.Author.Tests.{eq-eqb, le-leb, lt-ltb}
 use Rattle.slices.specs.Ascii.{bytes}
 use Rattle.slices.specs.Same.{same}
+use Rattle.utf8.specs.Reading.{utf8}
 use Rattle.tokens.specs.Blanks.{unblanked}
 use Rattle.tokens.specs.Kinds as kinds
 use Rattle.tokens.specs.Forms.{All, empty, next, quote, digits}
@@ -22,7 +24,7 @@ use Rattle.grammar.specs.Policies.{Comparator.Equal, Comparator.NotEqual, Compa
 use Rattle.grammar.specs.Policies.{Span, span, Root, Root.Principal, Root.Resource, Root.Env, Root.Action, Comparator, LiteralOf, Literal, text, number}
 use Rattle.grammar.specs.Policies.{attribute, literal, TreeOf, Tree}
 use Rattle.grammar.specs.Policies.{OperandOf, Operand, compare, within, has, both, PartOf, Part, any, pinned, ActionsOf, Actions, oneOf, PolicyOf}
-use Rattle.grammar.specs.Rules.{isRoot, rootOf, isLiteral, literalOf, isComparator, comparatorOf, admitted, isEffect, spanOf, principalTypes}
+use Rattle.grammar.specs.Rules.{isRoot, rootOf, isLiteral, literalOf, isComparator, comparatorOf, admitted, isEffect, spanOf, principalTypes, isText}
 use Rattle.grammar.specs.Grammar.{sizes, Path, spanned, APath, rooted, AnOperand, given, Element, element, Listing, Simple, comparison, held, having, Joined}
 use Rattle.grammar.specs.Grammar.{Condition, Conjunction, Conditions}
 use Rattle.grammar.specs.Grammar.{Typed, ResourceRest, ActionRest, When, PolicyRest}
@@ -30,6 +32,7 @@ use Rattle.grammar.specs.Grammar as grammar
 use Rattle.placing.specs.Placed.{bytesAt, quotedAt, unblankedAt, IsName, a-name}
 use Rattle.placing.specs.Said.{Word, literalWords, listWords, operandWords, treeWords, partWords, actionWords, conditionWords, policyWords, wordsOf}
 use Rattle.placing.proofs.Paths.{unblanked-append, unblanked-blanks, unblanked-name, lone-dot}
+use Rattle.spelling.specs.Spelling.{lexemeAt}
 use Rattle.spelling.specs.Layout.{WrittenToken, written, laidOut, readAs, lexemeOf, standing}
 use Rattle.spelling.specs.Printing.{HasAt, OfKind, PrintsAt, Prints, PrintsLiteral, PrintsList, PrintsPath, markKind, rootKind}
 use Rattle.spelling.specs.Printing.{effectWord, pathWords, RootedPath, rootedWords, PrintsText}
@@ -58,11 +61,18 @@ own-bytes t start p h = let size : start + length p - start ≡ length p = omega
 pub string-fits : (s : List ℕ) → length s ≤ 127 → readAs kinds.string (quoted s) ≡ kinds.string
 string-fits s h = read-fitting kinds.string (quoted s) (omega (arith, length-append s (quote ∷ [])))
 
+-- a string that is UTF-8
+pub string-text : (s : List ℕ) → utf8 s ≡ true → (start kind : ℕ) → isText (lexemeAt start kind (quoted s)) ≡ true
+string-text s u start kind =
+    let size : start + length (quoted s) - start - 2 ≡ length s = omega (arith, length-append s (quote ∷ [])) in
+    rw (size, take-append-seam s (quote ∷ []), u) (or-true (not (eqb kind kinds.string)))
+
 -- a string, and a number
-pub prints-string : {b : List ℕ} (s : List ℕ) → length s ≤ 127 → PrintsLiteral (is kinds.string) (written b kinds.string (quoted s)) (text s)
+pub prints-string : {b : List ℕ} (s : List ℕ) → length s ≤ 127 → utf8 s ≡ true → PrintsLiteral (is kinds.string) (written b kinds.string (quoted s)) (text s)
 unfolding literalOf literalWords
-prints-string {b} s h = record {
+prints-string {b} s h u = record {
   of-sort = λ at. rw (string-fits s h);
+  is-text = λ at. string-text s u (at + length b) (readAs kinds.string (quoted s));
   says = λ at t k. rw (string-fits s h) (ap text (string-bytes t (at + length b) s k));
 }
 
@@ -70,11 +80,11 @@ pub prints-number : {b : List ℕ} (n : List ℕ) → digits n ≤ 15 → Prints
 unfolding literalOf literalWords
 prints-number {b} n h =
     let e : readAs kinds.number n ≡ kinds.number = read-fitting kinds.number n h in
-    record { of-sort = λ at. rw e; says = λ at t k. rw e (ap number (own-bytes t (at + length b) n k)) }
+    record { of-sort = λ at. rw e; is-text = λ at. rw e; says = λ at t k. rw e (ap number (own-bytes t (at + length b) n k)) }
 
 -- a string is a literal
 pub string-literal : {x : WrittenToken} {l : LiteralOf Word} → PrintsLiteral (is kinds.string) x l → PrintsLiteral isLiteral x l
-string-literal p = record { of-sort = λ at. rw (p .of-sort at); says = p .says }
+string-literal p = record { of-sort = λ at. rw (p .of-sort at); is-text = p .is-text; says = p .says }
 
 -- ---- operands
 
@@ -86,7 +96,7 @@ prints-literal {x} {l} p = record { anywhere = go }
     go : (at : ℕ) (r : List Lexeme) → PrintsAt (AnOperand sizes) operandWords (x ∷ []) (literal l) at r
     go at r = record {
       what = literal (literalOf (lexemeOf at x));
-      reads = grammar.AnOperand.literally (p .of-sort at);
+      reads = grammar.AnOperand.literally (p .of-sort at) (p .is-text at);
       says = λ t h. ap literal (p .says at t (has-token x [] h));
     }
 
@@ -371,7 +381,7 @@ unfolding standing listWords
 list-read (printing.PrintsList.first {x = x} {l = l} p) h at r = record {
   printed = record {
     what = literalOf (lexemeOf at x) ∷ [];
-    reads = alone (element (p .of-sort at) refl);
+    reads = alone (element (p .of-sort at) refl (p .is-text at));
     says = λ t k. ap (λ (m : LiteralOf Word). m ∷ []) (p .says at t (has-token x [] k));
   };
   many = refl;
@@ -387,7 +397,7 @@ list-read (printing.PrintsList.more {xs = xs} {c = c} {x = x} {ls = ls} {l = l} 
         what = before .printed .what ++ literalOf y ∷ [];
         reads =
             rw (tokens-around xs c (x ∷ []) at r)
-            (more (before .printed .reads) (eq-eqb _ kinds.comma (e .read-as)) (element (p .of-sort next) (lt-ltb _ 16 few)));
+            (more (before .printed .reads) (eq-eqb _ kinds.comma (e .read-as)) (element (p .of-sort next) (lt-ltb _ 16 few) (p .is-text next)));
         says = λ t j.
             list-words t (before .printed .what) (literalOf y ∷ [])
             ∙ rw (before .printed .says t (has-first xs (c ∷ x ∷ []) j), p .says next t (has-token x [] (has-last xs c (x ∷ []) j)));
@@ -413,20 +423,20 @@ unfolding standing partWords
 prints-bare {types} = record { anywhere = λ at r. record { what = any; reads = grammar.Typed.bare; says = λ t h. refl } }
 
 -- the resource part that is pinned to a string
-pub prints-pinned : {x : WrittenToken} {b : List ℕ} (s : Word) → OfKind kinds.equal x → length s ≤ 127
-    → Prints ResourceRest partWords (x ∷ written b kinds.string (quoted s) ∷ []) (pinned s)
+pub prints-pinned : {x : WrittenToken} {b : List ℕ} (s : Word) → OfKind kinds.equal x → length s ≤ 127 → utf8 s ≡ true
+    → Prints (ResourceRest sizes) partWords (x ∷ written b kinds.string (quoted s) ∷ []) (pinned s)
 unfolding standing partWords
-prints-pinned {x} {b} s e h = record { anywhere = go }
+prints-pinned {x} {b} s e h u = record { anywhere = go }
   where
     y : WrittenToken
     y = written b kinds.string (quoted s)
 
-    go : (at : ℕ) (r : List Lexeme) → PrintsAt ResourceRest partWords (x ∷ y ∷ []) (pinned s) at r
+    go : (at : ℕ) (r : List Lexeme) → PrintsAt (ResourceRest sizes) partWords (x ∷ y ∷ []) (pinned s) at r
     go at r =
         let next = at + length (x .blanks) + length (x .bytes) in
         record {
           what = pinned (spanOf (lexemeOf next y));
-          reads = grammar.ResourceRest.string (e .read-as) (string-fits s h);
+          reads = grammar.ResourceRest.string (e .read-as) (string-fits s h) (string-text s u (next + length b) (readAs kinds.string (quoted s)));
           says = λ t k. ap pinned (string-bytes t (next + length b) s (has-token y [] (has-behind x (y ∷ []) k)));
         }
 
@@ -447,7 +457,7 @@ abbrev pub PolicyParts : Reading (Part × (Actions × (Part × Option Tree)))
 PolicyParts =
     Twice (After kinds.leftRound (After kinds.principalWord (Before kinds.comma (Typed principalTypes))))
     (Twice (After kinds.actionWord (Before kinds.comma (ActionRest sizes)))
-    (Twice (After kinds.resourceWord (Before kinds.rightRound ResourceRest)) (Before kinds.semicolon (When sizes))))
+    (Twice (After kinds.resourceWord (Before kinds.rightRound (ResourceRest sizes))) (Before kinds.semicolon (When sizes))))
 
 abbrev pub partsWords : List ℕ → Part × (Actions × (Part × Option Tree)) → PartOf Word × (ActionsOf Word × (PartOf Word × Option (TreeOf Word)))
 partsWords = twiceWords partWords (twiceWords actionWords (twiceWords partWords conditionWords))
@@ -466,7 +476,7 @@ prints-parts {permits} k = prints-onto (made Span) (made Word) (λ t a. refl) k
 pub prints-policy : {permits : Bool} {ps os rs cs : List WrittenToken} {p s : PartOf Word} {a : ActionsOf Word} {c : Option (TreeOf Word)}
     → Prints (After kinds.leftRound (After kinds.principalWord (Before kinds.comma (Typed principalTypes)))) partWords ps p
     → Prints (After kinds.actionWord (Before kinds.comma (ActionRest sizes))) actionWords os a
-    → Prints (After kinds.resourceWord (Before kinds.rightRound ResourceRest)) partWords rs s
+    → Prints (After kinds.resourceWord (Before kinds.rightRound (ResourceRest sizes))) partWords rs s
     → Prints (Before kinds.semicolon (When sizes)) conditionWords cs c
     → Prints (PolicyRest sizes permits) policyWords (ps ++ (os ++ (rs ++ cs)))
     (record { permits = permits; principal = p; action = a; resource = s; condition = c })

@@ -8,6 +8,7 @@ use native.Mathlib.Omega.{arith}
 use lib.Dec.{eqb}
 use lib.ListN.{length, getD, List·getD-append}
 use Rattle.slices.specs.Ascii.{bytes}
+use Rattle.utf8.proofs.Readings.{utf8-decides}
 use Rattle.tokens.specs.Bytes.{classOf}
 use Rattle.tokens.specs.Kinds as kinds
 use Rattle.tokens.specs.Forms.{All, empty, next, a-string}
@@ -83,7 +84,7 @@ printed-typed {types} named (of-type {n} s f) = record { laid = go; formed = and
     go (and-laid {b = b} d (and-laid {b = c} e none-laid)) = prints-typed (kind-of b word) (kind-of c (a .token)) (a .number) (a .some)
 
 -- a resource part
-printed-resource : {p : PartOf Word} → PrintableResource p → PrintedAs ResourceRest partWords (partTokens resourceTypes p) p
+printed-resource : {p : PartOf Word} → PrintableResource p → PrintedAs (ResourceRest sizes) partWords (partTokens resourceTypes p) p
 unfolding written-opened partTokens
 printed-resource (of-sort h) = printed-as (λ xs k. prints-sort k) (printed-typed resource-named h)
 printed-resource (of-pin {s} h) = record { laid = go; formed = and-each (mark .formed) (and-each (record { form = a-string (h .all) }) none-left) }
@@ -91,8 +92,8 @@ printed-resource (of-pin {s} h) = record { laid = go; formed = and-each (mark .f
     mark : FixedToken kinds.equal (kinds.equal, bytes "==")
     mark = fixed refl
 
-    go : {xs : List WrittenToken} → LaidAs ((kinds.equal, bytes "==") ∷ (kinds.string, quoted s) ∷ []) xs → Prints ResourceRest partWords xs (pinned s)
-    go (and-laid {b = b} d (and-laid e none-laid)) = prints-pinned s (kind-of b mark) (h .size)
+    go : {xs : List WrittenToken} → LaidAs ((kinds.equal, bytes "==") ∷ (kinds.string, quoted s) ∷ []) xs → Prints (ResourceRest sizes) partWords xs (pinned s)
+    go (and-laid {b = b} d (and-laid e none-laid)) = prints-pinned s (kind-of b mark) (h .size) (utf8-decides s .complete (h .characters))
 
 -- an action part
 printed-actions : {a : ActionsOf Word} → PrintableActions a → PrintedAs (ActionRest sizes) actionWords (actionTokens a) a

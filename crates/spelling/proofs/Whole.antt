@@ -10,6 +10,7 @@ use lib.Dec.{eqb}
 use lib.ListN.{length}
 use borrow.Author.Tests.{ne-eqb}
 use Rattle.slices.specs.Ascii.{bytes}
+use Rattle.utf8.proofs.Readings.{utf8-decides}
 use Rattle.tokens.specs.Bytes.{classOf}
 use Rattle.tokens.specs.Kinds as kinds
 use Rattle.tokens.specs.Runs.{isOf}
@@ -193,13 +194,13 @@ pub record PrintedLiteral (sort : Lexeme → Bool) (l : LiteralOf Word) : Type 0
 
 printed-literal : {l : LiteralOf Word} → PrintableLiteral l → PrintedLiteral isLiteral l
 unfolding literalToken
-printed-literal (of-string {s} h) = record { prints = λ b. string-literal (prints-string s (h .size)); formed = record { form = a-string (h .all) } }
+printed-literal (of-string {s} h) = record { prints = λ b. string-literal (prints-string s (h .size) (utf8-decides s .complete (h .characters))); formed = record { form = a-string (h .all) } }
 printed-literal (of-number {n} h) = record { prints = λ b. prints-number n (h .size); formed = record { form = a-number (h .form) } }
 printed-literal (of-truth {b}) = record { prints = λ c. prints-truth (kind-of c (truth-token b)); formed = truth-token b .formed }
 
 pub printed-action : {l : LiteralOf Word} → PrintableAction l → PrintedLiteral (is kinds.string) l
 unfolding literalToken
-printed-action (of-action {s} h) = record { prints = λ b. prints-string s (h .size); formed = record { form = a-string (h .all) } }
+printed-action (of-action {s} h) = record { prints = λ b. prints-string s (h .size) (utf8-decides s .complete (h .characters)); formed = record { form = a-string (h .all) } }
 
 module _ {sort : Lexeme → Bool} {P : LiteralOf Word → Type 0} (one : (l : LiteralOf Word) → P l → PrintedLiteral sort l) where
   -- literals behind others, with commas
@@ -262,7 +263,7 @@ printed-likeness {a} {s} {t} f h k q = record {
     operand = printed-operand h
 
     go : {xs : List WrittenToken} → Parts (operandTokens a) (t ∷ (kinds.string, quoted s) ∷ []) xs → Prints (Simple sizes) treeWords xs (like a s)
-    go (parts l (and-laid {b = b} m (and-laid {b = c} n none-laid))) = prints-likeness (operand .laid l) c s (kind-of b f) (k .size) q
+    go (parts l (and-laid {b = b} m (and-laid {b = c} n none-laid))) = prints-likeness (operand .laid l) c s (kind-of b f) (k .size) (utf8-decides s .complete (k .characters)) q
 
 printed-simple : {c : TreeOf Word} → PrintableSimple c → PrintedAs (Simple sizes) treeWords (treeTokens c) c
 unfolding written-opened treeTokens

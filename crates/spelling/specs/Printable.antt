@@ -6,6 +6,7 @@ use mathlib.Core.Option.{Option, none, some}
 use Prim.Native.Nat.{ℕ, zero, suc, _≤_, _<_}
 use lib.ListN.{length}
 use Rattle.slices.specs.Ascii.{bytes}
+use Rattle.utf8.specs.Characters.{Utf8}
 use Rattle.tokens.specs.Forms.{All, Number, digits}
 use Rattle.tokens.specs.Sizes.{mostPathBytes, mostStringBytes, mostDigits, mostLiterals, mostPolicies, mostInside}
 use Rattle.tokens.specs.declared.classes.Sort.the-variants.{StringBytes}
@@ -22,6 +23,7 @@ use Rattle.placing.specs.Said.{Word}
 pub record PrintableString (s : Word) : Type 0 where
   pub all : All StringBytes s
   pub size : length s ≤ mostStringBytes
+  pub characters : Utf8 s
 
 -- a number
 pub record PrintableNumber (n : Word) : Type 0 where

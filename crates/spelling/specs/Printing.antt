@@ -14,7 +14,7 @@ use Rattle.grammar.specs.Policies.{Comparator, Comparator.Equal, Comparator.Not
 use Rattle.grammar.specs.Policies.{Span, Root, Root.Principal, Root.Resource, Root.Env, Root.Action, LiteralOf, attribute, Policy, PolicyOf}
 use Rattle.grammar.specs.Policies.{Which}
 use Rattle.grammar.specs.Policies as policies
-use Rattle.grammar.specs.Rules.{literalOf}
+use Rattle.grammar.specs.Rules.{literalOf, isText}
 use Rattle.grammar.specs.Grammar.{Path, spanned, Attribute, RuleText, sizes}
 use Rattle.placing.specs.Placed.{unblankedAt, IsName}
 use Rattle.placing.specs.Said.{Word, literalWords, wordsOf}
@@ -39,9 +39,10 @@ pub record PrintsAt {A B : Type 0} (R : Reading A) (words : List ℕ → A → B
 pub record Prints {A B : Type 0} (R : Reading A) (words : List ℕ → A → B) (xs : List WrittenToken) (w : B) : Type 0 where
   pub anywhere : (at : ℕ) (r : List Lexeme) → PrintsAt R words xs w at r
 
--- A literal is printed as this token, of the sort that the test says.
+-- A literal is printed as this token, of the sort that the test says, and UTF-8 where it is a string.
 pub record PrintsLiteral (sort : Lexeme → Bool) (x : WrittenToken) (l : LiteralOf Word) : Type 0 where
   pub of-sort : (at : ℕ) → sort (lexemeOf at x) ≡ true
+  pub is-text : (at : ℕ) → isText (lexemeOf at x) ≡ true
   pub says : (at : ℕ) (text : List ℕ) → HasAt text (at + length (x .blanks)) (x .bytes) → literalWords text (literalOf (lexemeOf at x)) ≡ l
 
 -- Literals of a sort are printed as these tokens, with commas between them.

@@ -51,10 +51,10 @@ module _ (L : Limits) where
 
   operand-tokens : {i r : List Lexeme} {a : Operand} → AnOperand L i r a → 1 + length r ≤ length i
   operand-tokens (given h) = let x = attribute-tokens h in omega arith
-  operand-tokens (grammar.AnOperand.literally t) = omega arith
+  operand-tokens (grammar.AnOperand.literally t l) = omega arith
 
   element-tokens : {sort : Lexeme → Bool} {ls ms : List Literal} {i r : List Lexeme} → Element L sort ls i r ms → length ms + length r ≤ length ls + length i
-  element-tokens {ls = ls} (element {x = x} t k) = let y = length-append ls (literalOf x ∷ []) in omega arith
+  element-tokens {ls = ls} (element {x = x} t k l) = let y = length-append ls (literalOf x ∷ []) in omega arith
 
   list-tokens : {sort : Lexeme → Bool} {i r : List Lexeme} {ls : List Literal} → Chain (λ ls. is kinds.comma) (Element L sort []) (λ ls comma. Element L sort ls) i r ls
       → length ls + length r ≤ length i
@@ -71,7 +71,7 @@ module _ (L : Limits) where
   unfolding treeEntries
   simple-pays (grammar.Simple.bare {x = x} t) e = let n = constant-one e (is kinds.trueWord x) in omega arith
   simple-pays (comparison h t k) e = let x = operand-tokens h in let y = operand-tokens k in omega arith
-  simple-pays (likeness h t k f) e = let x = operand-tokens h in omega arith
+  simple-pays (likeness h t k l f) e = let x = operand-tokens h in omega arith
   simple-pays (listed {a = a} {ls = ls} h k l) e =
       let x = operand-tokens h in let y = listing-tokens l in let z = entries-length ls in let n = length-append (operandEntry a ∷ literalEntries ls) (entry 20 (length ls) 0 ∷ []) in omega arith
   simple-pays (held h k l) e = let x = operand-tokens h in let y = attribute-tokens l in omega arith
@@ -125,9 +125,9 @@ module _ (L : Limits) where
   typed-tokens grammar.Typed.bare = omega arith
   typed-tokens (grammar.Typed.one k t) = omega arith
 
-  resource-tokens : {i r : List Lexeme} {p : Part} → ResourceRest i r p → length r ≤ length i
+  resource-tokens : {i r : List Lexeme} {p : Part} → ResourceRest L i r p → length r ≤ length i
   resource-tokens (grammar.ResourceRest.sort h) = typed-tokens h
-  resource-tokens (grammar.ResourceRest.string k e) = omega arith
+  resource-tokens (grammar.ResourceRest.string k e l) = omega arith
 
   action-tokens : {i r : List Lexeme} {a : Actions} → ActionRest L i r a → length (actionEntries a) + length r ≤ length i + 1
   unfolding actionEntries

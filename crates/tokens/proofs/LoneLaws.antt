@@ -9,7 +9,7 @@ use borrow.Author.Tests.{eqb-true, not-true}
 use Rattle.slices.specs.Ascii.{bytes}
 use Rattle.tokens.specs.Bytes.{classOf, mark}
 use Rattle.tokens.specs.Runs.{loneMark}
-use Rattle.tokens.specs.Tokens.{token, doubled, beforeEquals, markOf, markAt, tokenBy}
+use Rattle.tokens.specs.Tokens.{token, doubled, beforeEquals, markToken, markAt, tokenBy}
 use Rattle.tokens.proofs.TokenLaws.{every, one-passes}
 
 lone-class : (b : ℕ) → loneMark b ≡ true → classOf b ≡ mark
@@ -23,7 +23,7 @@ lone-fails test v b e = not-true (test b) (one-passes (λ (c : ℕ). not (test c
 -- it starts no string, no number and no longer mark
 pub lone-token : (text : List ℕ) (start : ℕ) → loneMark (getD text start 0) ≡ true
     → tokenBy text start (getD text start 0) (classOf (getD text start 0)) ≡ token (getD text start 0) start (start + 1)
-unfolding every markAt markOf
+unfolding every markAt markToken
 lone-token text start e =
     let b = getD text start 0 in
     simp (

@@ -14,7 +14,7 @@ use Rattle.slices.specs.Same.{same}
 use Rattle.tokens.specs.Bytes.{classOf, letter, digit, mark}
 use Rattle.tokens.specs.Runs.{isOf, run, runEnd}
 use Rattle.tokens.specs.Words.{wordKind}
-use Rattle.tokens.specs.Tokens.{token, badByteToken, sized, wordToken, stringToken, numberToken, doubled, beforeEquals, markOf, markAt, tokenFrom, tokenAt}
+use Rattle.tokens.specs.Tokens.{token, badByteToken, sized, wordToken, stringToken, numberToken, doubled, beforeEquals, markToken, markAt, tokenFrom, tokenAt}
 use Rattle.tokens.specs.Forms.{All, empty, next, SomeDigits, digits-from, Unsigned, whole, pointed, signless, minus, marks, Among, Form, a-word, a-string, a-number, a-mark, digits, sizeOf, mostOf, NoForm, Longest, Stands, end-of-text, a-token, too-long, a-colon, bad-byte, unended, bad-inside, StandsAt}
 use Rattle.tokens.specs.declared.classes.Sort.the-variants.{Blanks, Digits, Letters, WordBytes, StringBytes}
 use Rattle.tokens.specs.declared.reader.Token.{Token}
@@ -216,8 +216,8 @@ module _ (b : ℕ) (class : eqb (classOf b) mark ≡ true) where
     unfolding reach
     mark-far l = rw (eqb-true (classOf b) mark class, no-quote, no-minus)
 
-    mark-stands : (l : List ℕ) → Stands 0 (b ∷ l) (markOf 0 b (getD l 0 0))
-    unfolding markOf markReach
+    mark-stands : (l : List ℕ) → Stands 0 (b ∷ l) (markToken 0 b (getD l 0 0))
+    unfolding markToken markReach
     mark-stands l =
         let P = Stands 0 (b ∷ l) in
         let c = getD l 0 0 in

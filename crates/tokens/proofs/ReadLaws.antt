@@ -9,7 +9,7 @@ use lib.ListN.{length, getD}
 use borrow.Author.Tests.{leb-false, eqb-true}
 use Rattle.tokens.specs.Bytes.{classOf, letter, digit, mark}
 use Rattle.tokens.specs.Runs.{isOf, runEnd}
-use Rattle.tokens.specs.Tokens.{token, sized, wordToken, stringToken, fraction, numberToken, doubled, beforeEquals, markOf, markAt, tokenBy, tokenFrom, tokenAt, Reads}
+use Rattle.tokens.specs.Tokens.{token, sized, wordToken, stringToken, fraction, numberToken, doubled, beforeEquals, markToken, markAt, tokenBy, tokenFrom, tokenAt, Reads}
 use Rattle.tokens.specs.declared.classes.Sort.the-variants.{Blanks, WordBytes, Digits, StringBytes}
 use Rattle.tokens.specs.declared.reader.Token.{Token}
 use Rattle.tokens.proofs.RunLaws.{high, some}
@@ -66,8 +66,8 @@ module _ (text : List ℕ) (from : ℕ) where
       sized-spans 48 15 (end - first - 1) start end l (omega arith) (high Digits text (whole + 1) (omega arith)))
       (λ _. sized-spans 48 15 (whole - first) start whole l (omega arith) top)
 
-  mark-of-spans : (start first next : ℕ) → from ≤ start → start < length text → next ≡ getD text (start + 1) 0 → Spans text from (markOf start first next)
-  unfolding markOf
+  mark-of-spans : (start first next : ℕ) → from ≤ start → start < length text → next ≡ getD text (start + 1) 0 → Spans text from (markToken start first next)
+  unfolding markToken
   mark-of-spans start first next l h e =
       either (Spans text from) (doubled first) _ _
       (λ d.

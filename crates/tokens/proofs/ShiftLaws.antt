@@ -10,7 +10,7 @@ use lib.ListN.{length, length-append}
 use lib.Seq.{drop-append-add, getD-append-add}
 use borrow.Author.Tests.{le-leb, lt-leb, leb-true, leb-false}
 use Rattle.tokens.specs.Runs.{runEnd}
-use Rattle.tokens.specs.Tokens.{token, sized, wordToken, stringToken, numberToken, markOf, markAt, tokenFrom, tokenAt}
+use Rattle.tokens.specs.Tokens.{token, sized, wordToken, stringToken, numberToken, markToken, markAt, tokenFrom, tokenAt}
 use Rattle.tokens.specs.declared.classes.Sort.the-variants.{Blanks}
 use Rattle.tokens.specs.declared.reader.Token.{Token}
 
@@ -40,8 +40,8 @@ sized-further : (n kind most size start end : ℕ) → further n (sized kind mos
 unfolding sized
 sized-further n kind most size start end = simp (further-cond, further-token)
 
-mark-of-further : (n at first next : ℕ) → markOf (n + at) first next ≡ further n (markOf at first next)
-unfolding markOf
+mark-of-further : (n at first next : ℕ) → markToken (n + at) first next ≡ further n (markToken at first next)
+unfolding markToken
 mark-of-further n at first next = simp (further-cond, further-token, add-assoc)
 
 module _ (pre rest : List ℕ) where

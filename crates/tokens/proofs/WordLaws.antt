@@ -11,7 +11,7 @@ use borrow.Author.Tests.{eqb-false, ne-eqb}
 use Rattle.slices.specs.Same.{same}
 use Rattle.slices.proofs.Equal.{other-length}
 use Rattle.tokens.specs.Kinds.{name}
-use Rattle.tokens.specs.Words.{reserved, kindAmong, wordKind, isAmong, isReserved}
+use Rattle.tokens.specs.Words.{reserved, kindAmong, wordKind, isAmong, isReservedWord}
 
 -- `kindAmong`, with the words of length `n` only
 unfoldable pub kindBy : ℕ → List (List ℕ) → ℕ → List ℕ → ℕ
@@ -58,11 +58,11 @@ among-by-length (w ∷ more) word = go (eqb (length word) (length w)) (eqb-false
     go true f e = ap (λ (k : Bool). same word w || k) e
     go false f e = rw (other-length word w (f refl)) e
 
-pub reserved-of-length : (n : ℕ) (word : List ℕ) → length word ≡ n → isReserved word ≡ amongBy n reserved word
+pub reserved-of-length : (n : ℕ) (word : List ℕ) → length word ≡ n → isReservedWord word ≡ amongBy n reserved word
 reserved-of-length n word e = among-by-length reserved word ∙ ap (λ (k : ℕ). amongBy k reserved word) e
 
 pub reserved-of-no-length : (word : List ℕ) → (length word ≢ 2) → (length word ≢ 3) → (length word ≢ 4) → (length word ≢ 5) → (length word ≢ 6) → (length word ≢ 8)
-    → (length word ≢ 9) → (length word ≢ 11) → isReserved word ≡ false
+    → (length word ≢ 9) → (length word ≢ 11) → isReservedWord word ≡ false
 unfolding reserved amongBy
 reserved-of-no-length word n2 n3 n4 n5 n6 n8 n9 n11 =
     among-by-length reserved word
@@ -79,5 +79,5 @@ named (w ∷ more) first word h = go (same word w) (named more (suc first) word 
     go false e = e
 
 -- a word is a name exactly when it is not reserved
-pub name-or-reserved : (word : List ℕ) → eqb (wordKind word) name ≡ not (isReserved word)
+pub name-or-reserved : (word : List ℕ) → eqb (wordKind word) name ≡ not (isReservedWord word)
 name-or-reserved word = named reserved 201 word (omega arith)

@@ -26,9 +26,9 @@ mostDigits = 15
 abbrev pub mostLiterals : ℕ
 mostLiterals = 16
 
--- the most bytes of a pattern, the most wildcards
-abbrev pub mostPatternBytes : ℕ
-mostPatternBytes = 100
+-- the most characters of a pattern, the most wildcards
+abbrev pub mostPatternCharacters : ℕ
+mostPatternCharacters = 100
 
 abbrev pub mostWildcards : ℕ
 mostWildcards = 5

@@ -68,8 +68,8 @@ abbrev pub beforeEquals : ℕ → Bool
 beforeEquals b = eqb b (code "!") || eqb b (code "<") || eqb b (code ">")
 
 -- a mark, by its first byte and the next; no token starts with `_`
-unfoldable pub markOf : ℕ → ℕ → ℕ → Token
-markOf start first next =
+unfoldable pub markToken : ℕ → ℕ → ℕ → Token
+markToken start first next =
     cond (doubled first) (cond (eqb next first) (token first start (start + 2)) (badByteToken start))
     (cond (beforeEquals first && eqb next (code "=")) (token (first + 128) start (start + 2))
     (cond (eqb first (code "_")) (badByteToken start) (token first start (start + 1))))
@@ -78,7 +78,7 @@ markOf start first next =
 abbrev pub markFrom : List ℕ → ℕ → ℕ → ℕ → Token
 markFrom text start first next =
     cond (eqb first (code "\"")) (stringToken text start)
-    (cond (eqb first (code "-")) (cond (isOf Digits next) (numberToken text start (start + 1)) (badByteToken start)) (markOf start first next))
+    (cond (eqb first (code "-")) (cond (isOf Digits next) (numberToken text start (start + 1)) (badByteToken start)) (markToken start first next))
 
 -- the same, by the text
 unfoldable pub markAt : List ℕ → ℕ → Token

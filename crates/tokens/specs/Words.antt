@@ -45,5 +45,5 @@ isAmong [] word = false
 isAmong (w ∷ more) word = same word w || isAmong more word
 
 -- a word is reserved
-abbrev pub isReserved : List ℕ → Bool
-isReserved word = isAmong reserved word
+abbrev pub isReservedWord : List ℕ → Bool
+isReservedWord word = isAmong reserved word

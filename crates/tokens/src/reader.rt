@@ -4,7 +4,7 @@ ghost use Prim.Native.Nat.{_<_, _≤_, _+_, _^_};
 ghost use lib.ListN.{getD, length};
 ghost use Rattle.tokens.specs.Bytes.{classOf};
 ghost use Rattle.tokens.specs.Table.{classTable};
-ghost use Rattle.tokens.specs.Tokens.{token, sized, fraction, wordToken, stringToken, numberToken, markOf, markAt, tokenBy, tokenAt, Reads};
+ghost use Rattle.tokens.specs.Tokens.{token, sized, fraction, wordToken, stringToken, numberToken, markToken, markAt, tokenBy, tokenAt, Reads};
 use crate::classes::Sort;
 use crate::classes::is_of;
 use crate::kinds;
@@ -122,7 +122,7 @@ fn number(classes: &[u8; 256], text: &[u8], start: usize, first: usize) -> Token
 // A mark of one byte or two, by its first byte and the next.
 fn mark_of(start: usize, first: u8, next: u8) -> Token
     requires { ⌜ start + 2 < 2 ^ 64 ⌝ }
-    ensures { λ r. ⌜ r ≡ markOf start first next ⌝ }
+    ensures { λ r. ⌜ r ≡ markToken start first next ⌝ }
 {
     if (first == b'&') | (first == b'|') | (first == b'=') {
         if next == first {

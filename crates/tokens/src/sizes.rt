@@ -16,8 +16,8 @@ pub const MOST_DIGITS: usize = 15;
 // How many literals a list may have.
 pub const MOST_LITERALS: usize = 16;
 
-// How many bytes and how many wildcards a pattern may have.
-pub const MOST_PATTERN_BYTES: usize = 100;
+// How many characters and how many wildcards a pattern may have.
+pub const MOST_PATTERN_CHARACTERS: usize = 100;
 
 pub const MOST_WILDCARDS: usize = 5;
 

@@ -3,7 +3,7 @@ ghost use mathlib.Core.Path.{_≡_};
 ghost use mathlib.Core.Bool.{cond, _||_};
 ghost use lib.ListN.{length};
 ghost use Rattle.slices.specs.Same.{same};
-ghost use Rattle.tokens.specs.Words.{wordKind, isReserved};
+ghost use Rattle.tokens.specs.Words.{wordKind, isReservedWord};
 use crate::kinds;
 use slices::same;
 
@@ -87,7 +87,7 @@ fn is_or(word: &[u8], reserved: &[u8], other: bool) -> bool
 // Whether a word of four bytes is reserved.
 fn is_reserved_4(word: &[u8]) -> bool
     requires { ⌜ length (now word) ≡ 4 ⌝ }
-    ensures { λ r. ⌜ r ≡ isReserved (now (word .entry)) ⌝ }
+    ensures { λ r. ⌜ r ≡ isReservedWord (now (word .entry)) ⌝ }
 {
     let r = is_or(word, b"else", false);
     let r = is_or(word, b"then", r);
@@ -98,7 +98,7 @@ fn is_reserved_4(word: &[u8]) -> bool
 
 // Whether a word is reserved: as its kind says. Bags ask this, so that `word_kind` is called from the token reader alone, and the compiler puts it there.
 pub fn is_reserved(word: &[u8]) -> bool
-    ensures { λ r. ⌜ r ≡ isReserved (now (word .entry)) ⌝ }
+    ensures { λ r. ⌜ r ≡ isReservedWord (now (word .entry)) ⌝ }
 {
     match word.len() {
         2 => {

@@ -1,6 +1,7 @@
 //! Compiling: a rule text read into its policies by recursive descent, or its refusal (01, "The rule text", "The table"
 //! and "Refusal numbers").
 
+use crate::characters::{characters_of, is_utf8};
 use crate::numbers::Comparator;
 use crate::policies::{
     ActionPart, Attribute, Call, Condition, Conjunction, Disjunction, Effect, Literal, Operand, Policy, PrincipalPart,
@@ -19,7 +20,7 @@ pub const MOST_POLICIES: usize = 64;
 pub const LONGEST_PATH: usize = 64;
 /// 01, "Sizes": list 16 literals.
 const MOST_LITERALS: usize = 16;
-/// 01, "Sizes": `like` pattern 100 bytes, 5 wildcards.
+/// 01, "Sizes", and 02, request 5: `like` pattern 100 characters, 5 wildcards.
 const LONGEST_PATTERN: usize = 100;
 const MOST_WILDCARDS: usize = 5;
 /// 01, "Sizes": conditions nest to 32 levels, the `when` braces are depth 1.
@@ -166,6 +167,11 @@ impl Reader<'_> {
         &self.text[span.start..span.end]
     }
 
+    /// The bytes of a string between its quotes.
+    fn inside(&self, string: Span) -> &[u8] {
+        &self.text[string.start + 1..string.end - 1]
+    }
+
     /// `permit` or `forbid`, not yet taken.
     fn effect(&self) -> Result<Effect, Refusal> {
         match self.next.kind {
@@ -222,6 +228,7 @@ impl Reader<'_> {
             Ok(ResourcePart::Is(self.type_among(&RESOURCE_TYPES)?))
         } else if self.take_if(b'=') {
             let string = self.string()?;
+            self.refuse_unless_utf8()?;
             self.take();
             Ok(ResourcePart::Equals(string))
         } else {
@@ -264,8 +271,18 @@ impl Reader<'_> {
         }
     }
 
+    /// 02, request 5, 17: the next token is a string that is not UTF-8. A string is asked where it is admitted, after all
+    /// that comes first by number.
+    fn refuse_unless_utf8(&self) -> Result<(), Refusal> {
+        if self.next.kind == tokens::STRING && !is_utf8(self.inside(span_of(self.next))) {
+            self.refuse(17)
+        } else {
+            Ok(())
+        }
+    }
+
     /// A list has at least one literal, and at most 16 (refusal 14 at the 17th). `member` looks at a literal that may
-    /// stand in this list; one that may not is 10, which is lower than 14.
+    /// stand in this list; one that may not is 10, which is lower than 14; and 14 is lower than 17.
     fn list<T>(&mut self, member: fn(&Self) -> Result<T, Refusal>) -> Result<Vec<T>, Refusal> {
         self.expect(b'[')?;
         let mut members = Vec::new();
@@ -274,6 +291,7 @@ impl Reader<'_> {
             if members.len() == MOST_LITERALS {
                 return self.refuse(14);
             }
+            self.refuse_unless_utf8()?;
             members.push(literal);
             self.take();
             if !self.take_if(b',') {
@@ -365,6 +383,7 @@ impl Reader<'_> {
     /// A condition that begins with a literal: bare `true` or `false`, or a literal as left operand.
     fn condition_at_literal(&mut self) -> Result<Condition, Refusal> {
         let literal = self.literal()?;
+        self.refuse_unless_utf8()?;
         self.take();
         let goes_on = comparator_of(self.next.kind).is_some() || matches!(self.next.kind, tokens::LIKE | tokens::IN);
         match literal {
@@ -403,6 +422,7 @@ impl Reader<'_> {
             Some(root) => Ok(Operand::Attribute(self.right_attribute(root)?)),
             None => {
                 let literal = self.literal()?;
+                self.refuse_unless_utf8()?;
                 self.take();
                 Ok(Operand::Literal(literal))
             }
@@ -417,14 +437,19 @@ impl Reader<'_> {
         Ok(Attribute { root, path })
     }
 
-    /// 01, "Refusal numbers", 13, and "Sizes": at most 100 bytes and 5 wildcards, without `[`, `{` or `**`.
+    /// 01, "Refusal numbers", 13, and "Sizes": at most 100 characters and 5 wildcards, without `[`, `{` or `**`. 02, request 5:
+    /// 17 comes before 13.
     fn pattern(&mut self) -> Result<Span, Refusal> {
         let string = self.string()?;
-        let inside = &self.text[string.start + 1..string.end - 1];
+        let inside = self.inside(string);
+        let characters = match characters_of(inside) {
+            Some(characters) => characters.len(),
+            None => return self.refuse(17),
+        };
         let wildcards = inside.iter().filter(|byte| matches!(byte, b'*' | b'?')).count();
         let has_bad_byte = inside.iter().any(|byte| matches!(byte, b'[' | b'{'));
         let has_two_stars = inside.windows(2).any(|two| two == b"**");
-        if inside.len() > LONGEST_PATTERN || wildcards > MOST_WILDCARDS || has_bad_byte || has_two_stars {
+        if characters > LONGEST_PATTERN || wildcards > MOST_WILDCARDS || has_bad_byte || has_two_stars {
             return self.refuse(13);
         }
         self.take();
@@ -910,8 +935,57 @@ mod tests {
         check_condition(13, "1 like ^\"a**\"");
         passes("1 like\"]}\\\"");
         passes("1==\"[{**\"");
-        // A character is a byte.
-        check_condition(13, &format!("1 like ^\"{}a\"", "ü".repeat(50)));
+        // 02, request 5: 100 characters, in at most 127 bytes.
+        passes(&format!("1 like\"{}a\"", "ü".repeat(63)));
+        passes(&format!("1 like\"{}{}\"", "ü".repeat(27), "a".repeat(73)));
+        check_condition(13, &format!("1 like ^\"{}{}\"", "ü".repeat(26), "a".repeat(75)));
+        passes(&format!("1 like\"{}{}\"", "😀".repeat(9), "a".repeat(91)));
+        check_condition(6, &format!("1 like ^\"{}\"", "😀".repeat(32)));
+    }
+
+    /// The refusal of a text of any bytes whose only `^` marks its place, which has so many columns before it.
+    fn check_bytes(number: u8, marked: &[u8], columns: usize) {
+        let offset = marked.iter().position(|byte| *byte == b'^').unwrap();
+        let text = [&marked[..offset], &marked[offset + 1..]].concat();
+        assert_eq!(refusal(&text), Some((number, 1, columns + 1)), "{}", marked.escape_ascii());
+    }
+
+    // 02, request 5: 17 wherever a string is admitted; its place is the opening quote.
+    #[test]
+    fn strings_are_utf8() {
+        for (before, after) in [
+            ("permit(principal,action in[", ""),
+            ("permit(principal,action in[\"a\",", "]"),
+            ("permit(principal,action,resource==", ");"),
+            ("permit(principal,action,resource)when{", ""),
+            ("permit(principal,action,resource)when{1==", "};"),
+            ("permit(principal,action,resource)when{1 in[1,", "]"),
+            ("permit(principal,action,resource)when{env.a.containsAll([", "])"),
+            ("permit(principal,action,resource)when{env.a like", "};"),
+            ("permit(principal,action,resource)when{\"Sud\"==", "};"),
+        ] {
+            for string in [&b"\"S\xFCd\""[..], b"\"\xC0\x80\"", b"\"\xED\xA0\x80\"", b"\"a\xC3\"", b"\"\x80\""] {
+                check_bytes(17, &[before.as_bytes(), b"^", string, after.as_bytes()].concat(), before.len());
+            }
+            let good = policies_of(&[before.as_bytes(), "\"Süd\"".as_bytes(), after.as_bytes()].concat());
+            assert!(good.map_or(true, |policies| policies.len() == 1) || !after.ends_with(';'));
+        }
+        let long = [b"when{1 like^\"".as_slice(), &[0xFF; 128], b"\""].concat();
+        check_bytes(6, &[P.as_bytes(), &long].concat(), 44);
+        check_bytes(5, b"permit(principal,action,resource==^\"\xFF", 34);
+    }
+
+    // 02, request 5: by number, but before 13.
+    #[test]
+    fn what_is_not_utf8_comes_by_number_but_before_a_pattern() {
+        let list = "1,".repeat(16);
+        check_bytes(14, &[P.as_bytes(), b"when{1 in[", list.as_bytes(), b"^\"\xFF\""].concat(), 75);
+        check_bytes(10, b"permit(principal is ^\"\xFF\"", 20);
+        check_bytes(10, b"^\"\xFF\"", 0);
+        for pattern in [&b"**\xFF"[..], b"\xFF[", b"{\xC3", b"??????\x80", &[0xFF; 127]] {
+            check_bytes(17, &[P.as_bytes(), b"when{1 like ^\"", pattern, b"\"};"].concat(), 45);
+        }
+        check_bytes(3, &[P.as_bytes(), b"when{1 like \"\xFF^\x01\"};"].concat(), 47);
     }
 
     #[test]
@@ -985,7 +1059,7 @@ mod tests {
         assert_eq!(refusal(b"permit\n"), Some((10, 2, 1)));
         assert_eq!(refusal(b"permit \r "), Some((10, 1, 10)));
         assert_eq!(refusal(b"\n\r\n\t x"), Some((10, 3, 3)));
-        assert_eq!(refusal("\"ü\n".as_bytes()), Some((3, 1, 4)));
+        assert_eq!(refusal("\"ü\n".as_bytes()), Some((3, 1, 3)));
     }
 
     #[test]

@@ -2,6 +2,7 @@
 
 pub mod asking;
 pub mod bags;
+pub mod characters;
 pub mod compile;
 pub mod deciding;
 #[cfg(test)]

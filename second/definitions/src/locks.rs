@@ -2,6 +2,7 @@
 //! means, test by test (02, request 2).
 
 use crate::bags::{is_path, read_bag, Bag, Content};
+use crate::characters::is_utf8;
 use crate::compile::policies_of;
 use crate::deciding::{Decision, Request, ALLOWED, NOTHING_SATISFIED, SYSTEM_DECISION};
 use crate::numbers::{value_of, Comparator};
@@ -120,6 +121,8 @@ pub enum Reason {
     NotAString,
     /// A string over 127 bytes.
     StringTooLong,
+    /// A string that is not UTF-8.
+    NotUtf8,
     /// The permit would not compile for another reason; there is none.
     WouldNotCompile,
 }
@@ -405,13 +408,16 @@ pub fn actions_of(bytes: &[u8]) -> Result<Vec<Vec<u8>>, Flaw> {
     Ok(actions)
 }
 
-/// 01, "The rule text", String, and "Sizes": bytes 0x20 to 0x7E and 0x80 up, without `"`, at most 127.
+/// 01, "The rule text", String, and "Sizes": bytes 0x20 to 0x7E and 0x80 up, without `"`, at most 127. 02, request 5: UTF-8.
 fn check_string(part: Part, start: usize, string: &[u8]) -> Result<(), Flaw> {
     if let Some(index) = string.iter().position(|byte| *byte < 0x20 || *byte == 0x7F || *byte == b'"') {
         return flaw(part, start + index, Reason::NotAString);
     }
     if string.len() > LONGEST_STRING {
         return flaw(part, start, Reason::StringTooLong);
+    }
+    if !is_utf8(string) {
+        return flaw(part, start, Reason::NotUtf8);
     }
     Ok(())
 }
@@ -764,10 +770,16 @@ mod tests {
         assert_eq!(actions(&long(127)), Ok(1));
         assert_eq!(actions(&long(128)), Err((Part::Actions, 1, Reason::StringTooLong)));
         for byte in 0..=255u8 {
-            let good = byte != b'"' && (0x20..=0x7E).contains(&byte) || byte >= 0x80;
+            let good = byte != b'"' && (0x20..=0x7E).contains(&byte);
             assert_eq!(actions(&[1, byte]).is_ok(), good, "{}", byte);
             assert_eq!(of_actions(ACTIONS, &[b'a', byte]).is_ok(), good, "{}", byte);
         }
+        // 02, request 5: strings are UTF-8.
+        assert_eq!(actions("\x04Süd".as_bytes()), Ok(1));
+        assert_eq!(actions(b"\x01a\x03S\xFCd"), Err((Part::Actions, 3, Reason::NotUtf8)));
+        assert!(of_actions(ACTIONS, "shaft:Süd".as_bytes()).is_ok());
+        assert_eq!(of_actions(ACTIONS, b"shaft:S\xFCd"), Err((Part::Resource, 0, Reason::NotUtf8)));
+        assert_eq!(of_actions(ACTIONS, b"\xFF\x01"), Err((Part::Resource, 1, Reason::NotAString)));
         assert!(of_actions(ACTIONS, &[b'x'; 127]).is_ok());
         assert_eq!(of_actions(ACTIONS, &[b'x'; 128]), Err((Part::Resource, 0, Reason::StringTooLong)));
         assert_eq!(of_actions(ACTIONS, b"a\n"), Err((Part::Resource, 1, Reason::NotAString)));

@@ -1,5 +1,7 @@
 //! The tokens of a rule text, with their places and their refusals (01, "The rule text" and "Refusal numbers").
 
+use crate::characters::{goes_on, is_utf8};
+
 /// The end of text.
 pub const END_OF_TEXT: u8 = 0;
 /// 01, "Refusal numbers", 3: a byte at which no token starts, or a byte that no string may hold.
@@ -75,7 +77,7 @@ impl Token {
     }
 }
 
-/// A line and a column, both from 1, in bytes.
+/// A line and a column, both from 1; the column counts characters.
 #[derive(Clone, Copy, PartialEq, Eq, Debug)]
 pub struct Place {
     pub line: usize,
@@ -139,7 +141,7 @@ pub fn all_tokens(text: &[u8]) -> Vec<Token> {
 }
 
 /// 01, "Refusal numbers": the line and column of an offset; the end of text is one past the last byte.
-/// 01, "The rule text": only a line feed ends a line.
+/// 01, "The rule text": only a line feed ends a line. 02, request 5: columns count characters.
 pub fn place_of(text: &[u8], offset: usize) -> Place {
     let before = &text[..offset];
     let line_feeds = before.iter().filter(|byte| **byte == b'\n').count();
@@ -147,7 +149,23 @@ pub fn place_of(text: &[u8], offset: usize) -> Place {
         Some(line_feed) => line_feed + 1,
         None => 0,
     };
-    Place { line: line_feeds + 1, column: offset - line_start + 1 }
+    let columns = columns_begun(text)[line_start..offset].iter().filter(|begun| **begun).count();
+    Place { line: line_feeds + 1, column: columns + 1 }
+}
+
+/// For each byte of a text whether a column begins at it. 02, request 5: a string's characters are its columns; in a string that isn't
+/// UTF-8, and outside of strings, where no byte of a longer character may stand, each byte is one. What stands between one quote and the
+/// next, or the end of text, is a string, and is judged whole.
+pub fn columns_begun(text: &[u8]) -> Vec<bool> {
+    let mut begun = Vec::new();
+    for (index, piece) in text.split(|byte| *byte == b'"').enumerate() {
+        if index > 0 {
+            begun.push(true);
+        }
+        let by_characters = index % 2 == 1 && is_utf8(piece);
+        begun.extend(piece.iter().map(|byte| !(by_characters && goes_on(*byte))));
+    }
+    begun
 }
 
 /// The first offset at or after `from` whose byte does not belong to the run, or the text's length.
@@ -431,5 +449,23 @@ mod tests {
         assert_eq!(place(b"a\r\nb", 3), (2, 1));
         assert_eq!(place(b"a\n", 1), (1, 2));
         assert_eq!(token_at(b"a \n ", 1), Token { kind: 0, start: 4, end: 4 });
+    }
+
+    // 02, request 5. The only place inside a string is that of a byte that it may not hold.
+    #[test]
+    fn columns_count_characters() {
+        assert_eq!(place("\"Süd\" x".as_bytes(), 7), (1, 7));
+        assert_eq!(place(b"\"S\xFCd\" x", 6), (1, 7));
+        assert_eq!(place("\"aü€😀\"x".as_bytes(), 12), (1, 7));
+        assert_eq!(place("\"Sü\u{1}\"".as_bytes(), 4), (1, 4));
+        assert_eq!(place(b"\"S\xC3\xBC\x01\xFF\"", 4), (1, 5));
+        // Up to the end of text where no quote ends the string.
+        assert_eq!(place("\"Sü\u{1}".as_bytes(), 4), (1, 4));
+        assert_eq!(place(b"\"S\xC3\xBC\x01\xFF", 4), (1, 5));
+        // Only up to its quote: what stands behind is judged by itself.
+        assert_eq!(place(b"\"S\xC3\xBC\x01\"\xFF\"\xFF", 4), (1, 4));
+        assert_eq!(place("\"ü\"\n\"ü\" ü".as_bytes(), 9), (2, 4));
+        // Outside of strings each byte is one.
+        assert_eq!(place("ü ü".as_bytes(), 3), (1, 4));
     }
 }

@@ -6,6 +6,7 @@ use definitions::tokens::RESERVED_WORDS;
 
 use crate::policy_texts::put_blanks;
 use crate::random::Random;
+use crate::wide_strings;
 
 /// Paths that are near one another in the order of bytes, and others.
 pub const PATHS: [&str; 24] = [
@@ -127,7 +128,8 @@ fn value(random: &mut Random) -> Vec<u8> {
 fn string(random: &mut Random) -> Vec<u8> {
     match random.below(40) {
         0 => vec![b's'; random.between(120, 127)],
-        1..=6 => (0..random.between(0, 9)).map(|_| random.byte()).collect(),
+        1..=4 => (0..random.between(0, 9)).map(|_| random.byte()).collect(),
+        5 | 6 => wide_strings::any(random, 5),
         _ => random.pick(&["", "x", "own", "loan", "a\"b", "shaft:A1", "teach"]).as_bytes().to_vec(),
     }
 }

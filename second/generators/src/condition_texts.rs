@@ -5,6 +5,7 @@ use definitions::plans::{list_value, number_value, string_value, Entry, Plan};
 
 use crate::bag_bytes::PATHS;
 use crate::literals::literal as random_literal;
+use crate::wide_strings;
 
 /// A bare permit without its `;`, as in 01, "Checked examples".
 pub const P: &str = "permit(principal,action,resource)";
@@ -122,6 +123,7 @@ pub fn fixed() -> Vec<Case> {
     add_parts_of_if(&mut cases);
     add_numbers(&mut cases);
     add_strings(&mut cases);
+    add_wide_strings(&mut cases);
     add_lists(&mut cases);
     add_paths(&mut cases);
     add_has(&mut cases);
@@ -266,6 +268,44 @@ fn add_strings(cases: &mut Vec<Case>) {
         }
         cases.push(("env.s in env.t".to_string(), bag.clone()));
         cases.push(("env.s==env.s".to_string(), bag));
+    }
+}
+
+/// Strings of the bag with characters of every length, and such that are not UTF-8: they compare by bytes and match no pattern.
+fn add_wide_strings(cases: &mut Vec<Case>) {
+    let wide = ["Süd", "S€d", "S😀d", "ü", "ü:ü", "S\u{7FF}\u{800}\u{FFFF}\u{10000}d"]
+        .map(|string| string.as_bytes().to_vec());
+    let broken = wide_strings::BROKEN.iter().map(|bytes| [b"S", *bytes, b"d"].concat());
+    for string in wide.into_iter().chain(broken).chain(wide_strings::BROKEN.iter().map(|bytes| bytes.to_vec())) {
+        let all = [b"own".to_vec(), string.clone()];
+        let bag = bag_of(&[
+            (1, "s", string_value(&string)),
+            (3, "l", list_value(&all)),
+            (3, "s", string_value(&string)),
+            (3, "t", string_value(&string[..string.len() - 1])),
+        ]);
+        for pattern in ["*", "?", "??", "S?d", "S??d", "S???d", "S*d", "*d", "ü", "?:?", "Süd", "S*\u{10000}*"] {
+            cases.push((format!("env.s like\"{}\"", pattern), bag.clone()));
+        }
+        for condition in [
+            "!env.s like\"*\"",
+            "if env.s like\"*\"then false else true",
+            "env.s==principal.s",
+            "env.s!=principal.s",
+            "env.t==env.s",
+            "env.t!=env.s",
+            "env.s in env.l",
+            "principal.s in env.l",
+            "env.t in env.l",
+            "env.s==\"Süd\"",
+            "env.s in[\"S\",\"Süd\",\"ü\"]",
+            "\"Süd\"in env.l",
+            "env.l.containsAny([\"Süd\",\"ü\"])",
+            "env.l.containsAll([\"own\",\"Süd\"])",
+            "env has s&&env.s==env.s",
+        ] {
+            cases.push((condition.to_string(), bag.clone()));
+        }
     }
 }
 

@@ -4,6 +4,7 @@ use definitions::tokens::RESERVED_WORDS;
 
 use crate::policy_texts::{deep_policy, policy, policy_with_condition, put_blanks, text_of, wide_policy, Tokens};
 use crate::random::Random;
+use crate::wide_strings;
 
 /// A bare policy without its `;`.
 const P: &str = "permit(principal,action,resource)";
@@ -48,7 +49,8 @@ pub fn any_text(random: &mut Random) -> Vec<u8> {
             let text = text_of(&tokens, random);
             damaged_bytes(text, random)
         }
-        62..=73 => soup(random),
+        62..=70 => soup(random),
+        71..=73 => wide_strings::text(random),
         74..=77 => text_with_types(random),
         78..=81 => text_with_bare_attribute(random),
         82..=96 => text_at_the_sizes(random),
@@ -321,14 +323,14 @@ mod tests {
     #[test]
     fn all_refusals_but_those_of_size_arise() {
         let mut random = Random::new(62);
-        let mut seen = [0; 17];
+        let mut seen = [0; 18];
         for _ in 0..20_000 {
             match policies_of(&any_text(&mut random)) {
                 Ok(_) => seen[0] += 1,
                 Err(refusal) => seen[usize::from(refusal.number)] += 1,
             }
         }
-        for number in [0, 3, 4, 5, 6, 7, 8, 9, 10, 11, 12, 13, 14, 16] {
+        for number in [0, 3, 4, 5, 6, 7, 8, 9, 10, 11, 12, 13, 14, 16, 17] {
             assert!(seen[number] >= 30, "{}: {:?}", number, seen);
         }
     }

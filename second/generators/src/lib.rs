@@ -11,3 +11,4 @@ pub mod random;
 pub mod requests;
 pub mod rich_bags;
 pub mod tallies;
+pub mod wide_strings;

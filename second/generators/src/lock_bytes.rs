@@ -9,6 +9,7 @@ use definitions::tokens::RESERVED_WORDS;
 use crate::bag_bytes::{damaged, IMPOSSIBLE_PATHS};
 use crate::literals::literal;
 use crate::random::Random;
+use crate::wide_strings;
 
 /// What is lent, before it is bytes: the lock as its pieces, whether they keep the rules or not.
 #[derive(Clone)]
@@ -120,6 +121,7 @@ fn action(random: &mut Random) -> Vec<u8> {
     match random.below(30) {
         0 => Vec::new(),
         1 => vec![b'x'; random.between(120, 127)],
+        2 => wide_strings::characters(random, 5),
         _ => random.pick(&ACTIONS).as_bytes().to_vec(),
     }
 }
@@ -181,9 +183,10 @@ fn break_vocabulary(plan: &mut LockPlan, random: &mut Random) {
 }
 
 fn break_actions(plan: &mut LockPlan, random: &mut Random) {
-    let bad = |random: &mut Random| match random.below(3) {
+    let bad = |random: &mut Random| match random.below(4) {
         0 => vec![b'x'; random.pick(&[126, 127, 128, 129, 255])],
         1 => vec![b'a', random.pick(&[b'"', 0x1F, 0x7F, b'\n', b'\t', 0])],
+        2 => wide_strings::any(random, 5),
         _ => vec![random.byte()],
     };
     match random.below(4) {
@@ -362,7 +365,7 @@ mod tests {
             }
         }
         assert!((3_000..5_700).contains(&refused), "{}", refused);
-        // Six of the vocabulary; ten of the lock, one of them for each of three sorts; five of actions and two of the resource.
-        assert_eq!(reasons.len(), 25, "{:?}", reasons);
+        // Six of the vocabulary; ten of the lock, one of them for each of three sorts; six of actions and three of the resource.
+        assert_eq!(reasons.len(), 27, "{:?}", reasons);
     }
 }

@@ -13,9 +13,11 @@ const NAMES: [&str; 14] = [
     "a", "b", "x1", "grade", "hired", "flags", "own-er", "x_1", "If", "truer", "permits", "containsall", "person",
     "Z--_9",
 ];
-const STRINGS: [&str; 14] =
-    ["", "x", "own", "teach", "shaft:A1", "permit", "a b", "1", "true", "Süd", "//", "a;}", "controller:7:b", "\\"];
-const PATTERNS: [&str; 8] = ["", "*", "shaft:*", "*A1", "?x?", "a*b*:?", "Süd*", "*:*"];
+const STRINGS: [&str; 16] = [
+    "", "x", "own", "teach", "shaft:A1", "permit", "a b", "1", "true", "Süd", "//", "a;}", "controller:7:b", "\\",
+    "€ü", "😀",
+];
+const PATTERNS: [&str; 10] = ["", "*", "shaft:*", "*A1", "?x?", "a*b*:?", "Süd*", "*:*", "S?d", "?€*😀"];
 const NUMBERS: [&str; 12] =
     ["0", "-0", "1", "3", "-1", "2.5", "0.1", "75.50", "007", "-12.25", "123456789012345", "0.00000000000001"];
 const COMPARATORS: [&str; 6] = ["==", "!=", ">", ">=", "<", "<="];

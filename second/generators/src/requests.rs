@@ -28,9 +28,16 @@ const ATTRIBUTES: [(u8, &str, u8); 12] = [
 const STRING_KIND: u8 = 1;
 
 /// Strings of bags and literals alike.
-const STRINGS: [&str; 7] = ["own", "loan", "", "teach", "shaft:A1", "shaft:b:A1", "A1A1"];
+const STRINGS: [&str; 10] =
+    ["own", "loan", "", "teach", "shaft:A1", "shaft:b:A1", "A1A1", "Süd", "shaft:Süd", "S€d:😀"];
 
-const PATTERNS: [&str; 10] = ["*", "own", "o*", "*n", "shaft:*", "*:A1", "*A1", "?????", "*a*", "shaft:?:*"];
+/// Strings that only bags have: they are not UTF-8.
+const BROKEN_STRINGS: [&[u8]; 6] = [b"S\xFCd", b"S\xC3", b"own\x80", b"shaft:\xC0\xBC", b"\xED\xA0\x80", b"S\xC3d"];
+
+const PATTERNS: [&str; 15] = [
+    "*", "own", "o*", "*n", "shaft:*", "*:A1", "*A1", "?????", "*a*", "shaft:?:*", "S?d", "S??d", "*ü*", "shaft:S?d",
+    "???:?",
+];
 
 /// Numbers as literals and as bits.
 const NUMBERS: [(&str, u64); 9] = [
@@ -46,8 +53,9 @@ const NUMBERS: [(&str, u64); 9] = [
 ];
 
 const SUBJECTS: [&str; 4] = ["person:K7", "tool:t9", "person:tool:1", "tool::"];
-const ACTIONS: [&str; 3] = ["teach", "own", "shaft:A1"];
-const RESOURCES: [&str; 6] = ["shaft:A1", "record:7", "shaft:b:A1", "controller:c", "parameter:p", "record:shaft:A1"];
+const ACTIONS: [&str; 4] = ["teach", "own", "shaft:A1", "Süd"];
+const RESOURCES: [&str; 7] =
+    ["shaft:A1", "record:7", "shaft:b:A1", "controller:c", "parameter:p", "record:shaft:A1", "shaft:Süd"];
 
 /// Who wants to do what with what.
 pub struct Wish {
@@ -107,15 +115,29 @@ fn candidates(random: &mut Random, kind: u8) -> Vec<Vec<u8>> {
 fn value(random: &mut Random, kind: u8) -> Vec<u8> {
     let kind = if random.one_in(8) { random.between(1, 4) as u8 } else { kind };
     match kind {
-        STRING_KIND => string_value(random.pick(&STRINGS).as_bytes()),
+        STRING_KIND => string_value(&string(random)),
         2 => number_value(random.pick(&NUMBERS).1),
         3 => vec![3, random.below(2) as u8],
         _ => {
             let count = random.pick(&[0, 1, 2, 2, 3, 4]);
-            let strings: Vec<Vec<u8>> = (0..count).map(|_| random.pick(&STRINGS).as_bytes().to_vec()).collect();
+            let strings: Vec<Vec<u8>> = (0..count).map(|_| string(random)).collect();
             list_value(&strings)
         }
     }
+}
+
+/// A string of a bag, sometimes one that is not UTF-8.
+fn string(random: &mut Random) -> Vec<u8> {
+    if random.one_in(12) {
+        random.pick(&BROKEN_STRINGS).to_vec()
+    } else {
+        random.pick(&STRINGS).as_bytes().to_vec()
+    }
+}
+
+/// An action that is not UTF-8.
+pub fn broken_action(random: &mut Random) -> &'static [u8] {
+    random.pick(&BROKEN_STRINGS)
 }
 
 /// A random text of one or a few policies, of which about every other one matches this request.

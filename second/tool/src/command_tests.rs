@@ -354,7 +354,7 @@ const REFUSED: [(&str, &str); 24] = [
         "This may not stand here: expected `in` or `,` in the policy that begins in line 1.",
     ),
     ("permit(principal,action,resource)when{action.kind == 1};", "After action only name may stand"),
-    ("permit(principal,action,resource)when{env.a like \"**\"};", "A pattern has at most 100 bytes and 5 wildcards"),
+    ("permit(principal,action,resource)when{env.a like \"**\"};", "A pattern has at most 100 characters and 5 wildcards"),
     ("permit(principal,action,resource)when{env.a == 1234567890123456};", "Too long: a word has at most 64 bytes"),
     ("permit(principal,action,resource)when{};", "expected a condition (an attribute, a literal, `!`, `(` or `if`)"),
     (
@@ -686,7 +686,7 @@ fn two_rule_texts_are_compared() {
 #[test]
 fn the_examples_have_no_stale_files() {
     let examples = Path::new(env!("CARGO_MANIFEST_DIR")).join("../../examples");
-    for name in ["worked", "crew", "crew/night", "crew/records"] {
+    for name in ["worked", "crew", "crew/night", "crew/records", "south"] {
         let path = examples.join(name).to_string_lossy().into_owned();
         let said = run(&StandIn, &["sheet", &path]).unwrap_or_else(|failure| failed(&[], failure));
         assert_eq!(said.status, 0, "{}", all(&said));

@@ -6,7 +6,6 @@ use std::path::Path;
 use definitions::compile::policies_of;
 use definitions::locks::{permit_of, NO_LOCK};
 use definitions::policies::{Effect, Policy};
-use definitions::tokens::place_of;
 
 use crate::answers::{self, Answer, Answers, Refused};
 use crate::asked::{file_name, read_asked, write_made, Asked, RULES};
@@ -18,7 +17,7 @@ use crate::explaining::{conclusion, disarmed, explained};
 use crate::lock_reasons::{doubts_of, no_room, sentence_of};
 use crate::locking::{read_locks, LockFile, LockLine};
 use crate::page;
-use crate::places::{wrong_in_text, PlaceShown};
+use crate::places::{place_in_text, wrong_in_text, PlaceShown};
 use crate::plain;
 use crate::printed::{check_belongs, read_printed, Listed, Printed};
 use crate::record::record_of;
@@ -446,7 +445,7 @@ fn refused_lock(file: &LockFile, line: &LockLine, named: (&str, &[u8]), refused:
             return not_asked(format!("the proved program refuses with {}, and what explains it with 28", number))
         }
     };
-    let place = place_of(text, at);
-    let shown = RefusalShown { number, meaning, place: PlaceShown::new(text, place.line, place.column, 1) };
+    let place = PlaceShown::at(text, place_in_text(text, at), at, 1);
+    let shown = RefusalShown { number, meaning, place: Some(place) };
     Ok(shown.text(name))
 }

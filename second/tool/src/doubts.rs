@@ -1,6 +1,7 @@
 //! Doubts: what the desk answers rightly and yet was hardly meant. They are warnings; the desk's answer stays.
 
 use definitions::bags::Content;
+use definitions::characters::is_utf8;
 use definitions::deciding::Facts;
 use definitions::numbers::Comparator;
 use definitions::patterns::like;
@@ -60,6 +61,7 @@ pub fn doubts(asked: &Asked, policies: &[Policy]) -> Vec<String> {
     doubts.extend(doubts_of_target(asked, policies));
     doubts.extend(doubts_of_attributes(asked, policies));
     doubts.extend(doubts_of_kinds(asked, policies));
+    doubts.extend(doubts_of_characters(asked, policies));
     doubts
 }
 
@@ -224,6 +226,36 @@ fn doubts_of_kinds(asked: &Asked, policies: &[Policy]) -> Vec<String> {
                         format!("{} is never {} in this question: the comparison is always false", name, kinds)
                     };
                     doubts.push(format!("policy {} has {}, but {}", index + 1, condition_text(&asked.rules, leaf), never));
+                }
+            }
+        }
+    }
+    doubts
+}
+
+/// Strings and actions that a policy holds against a pattern, and that are not UTF-8 (02, request 5).
+fn doubts_of_characters(asked: &Asked, policies: &[Policy]) -> Vec<String> {
+    let action = Content::String(asked.request[1].clone());
+    let mut doubts = Vec::new();
+    for (index, policy) in policies.iter().enumerate() {
+        for leaf in leaves(policy) {
+            let asked_for = match leaf {
+                Condition::Like { operand: Operand::Attribute(asked_for), .. } => asked_for,
+                _ => continue,
+            };
+            let strings = match section_of(asked_for) {
+                Some(root) => asked.values(root, &path_of(&asked.rules, asked_for)).0,
+                None => vec![&action],
+            };
+            for string in strings {
+                match string {
+                    Content::String(string) if !is_utf8(string) => doubts.push(format!(
+                        "policy {} has {}, but {} is not UTF-8: no pattern matches it",
+                        index + 1,
+                        condition_text(&asked.rules, leaf),
+                        quoted(string)
+                    )),
+                    _ => {}
                 }
             }
         }

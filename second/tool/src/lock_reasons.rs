@@ -144,6 +144,10 @@ fn of_string(file: &LockFile, line: &LockLine, flaw: &Flaw) -> String {
             "This string has {}; a string of rule texts has at most 127.",
             count_of(string.map_or(0, |string| string.bytes.len()), "byte", "bytes")
         ),
+        Reason::NotUtf8 => {
+            "This string is not UTF-8, as strings of rule texts are: write it again in a file that is saved as UTF-8."
+                .to_string()
+        }
         Reason::NoAction => "The action list is empty; a permit needs at least one action.".to_string(),
         _ => "The action list's bytes end inside an action.".to_string(),
     }
@@ -224,6 +228,7 @@ mod tests {
             (String::new(), "grade>-12345678.12345678 & firm:own", "This number has 16 digits; a number of a permit has at most 15, so the permit would not compile."),
             (format!("actions = {}", vec!["\"a\""; 17].join(",")), "firm:own", "This is the 17th action; a list has at most 16."),
             ("actions = \"a\\\"b\"".to_string(), "firm:own", "This is no string of rule texts: it holds a quote, a control byte or 0x7F, and rule texts have no escapes."),
+            ("resource = \"S\\xFCd\"".to_string(), "firm:own", "This string is not UTF-8, as strings of rule texts are: write it again in a file that is saved as UTF-8."),
             (format!("resource = \"{}\"", "r".repeat(128)), "firm:own", "This string has 128 bytes; a string of rule texts has at most 127."),
         ] {
             let said = sentence(&lines, lock);

@@ -24,7 +24,7 @@ use crate::tallies::tally;
 use crate::tally_page::tally_page;
 use crate::tally_text::tally_text;
 
-const FOLDERS: [&str; 4] = ["worked", "crew", "crew/night", "crew/records"];
+const FOLDERS: [&str; 5] = ["worked", "crew", "crew/night", "crew/records", "south"];
 
 /// The folder with several requests.
 const SEVERAL: &str = "crew/shift";

@@ -579,6 +579,7 @@ fn is_decimal(written: &[u8]) -> bool {
 #[cfg(test)]
 mod tests {
     use super::*;
+    use crate::places::place_in_text;
     use crate::documented;
     use crate::writing::text_of;
     use definitions::bags::read_bag;
@@ -590,7 +591,7 @@ mod tests {
     fn wrong_with(text: &str) -> String {
         let wrong = read_text(text.as_bytes()).unwrap_err();
         assert!(documented(&wrong.what), "not in docs/QUESTIONS.md: {}", wrong.what);
-        let place = place_of(text.as_bytes(), wrong.at);
+        let place = place_in_text(text.as_bytes(), wrong.at);
         format!("{}:{}: {}", place.line, place.column, wrong.what)
     }
 

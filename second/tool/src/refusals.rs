@@ -5,10 +5,10 @@ use definitions::deciding::Request;
 use crate::answers::Refused;
 use crate::bytes::read_bytes;
 use crate::expected::{cause_of_byte, expected, reserved_words};
-use crate::places::PlaceShown;
+use crate::places::{offset_in_rules, PlaceShown};
 use crate::plain::{wrapped, WIDTH};
 use crate::words::{count_of, grouped};
-use crate::writing::quoted;
+use crate::writing::{first_character, quoted};
 
 /// A refusal as it is shown.
 #[derive(PartialEq, Debug)]
@@ -40,8 +40,7 @@ impl RefusalShown {
             place = Some(shown.ok_or_else(|| {
                 format!("the refusal is said of line {}, column {}, which the rules have not", line, column)
             })?);
-            let before: usize = files.text.split(|byte| *byte == b'\n').take(line - 1).map(|line| line.len() + 1).sum();
-            offset = before + column - 1;
+            offset = offset_in_rules(files.text, line, column).unwrap_or(0);
         }
         let meaning = meaning_of(files, number, offset)
             .ok_or_else(|| format!("the answer is refused {}, which is no refusal's number", number))?;
@@ -69,7 +68,7 @@ fn meaning_of(files: &Files, number: usize, offset: usize) -> Option<String> {
     let meaning = match number {
         1 => format!("The rules are too long: they have {} bytes, and at most 8,192 are allowed.", grouped(files.text.len())),
         2 => "The table is too small: it needs 8 bytes for each byte of the rules.".to_string(),
-        3..=16 => meaning_of_place(files.text, number, offset),
+        3..=17 => meaning_of_place(files.text, number, offset),
         20 => "The table is not the one of these rules.".to_string(),
         21 => format!(
             "The subject is not as it must be: system, or person: or tool: and an id, at most 100 bytes. {}",
@@ -114,12 +113,26 @@ fn meaning_of_place(text: &[u8], number: usize, offset: usize) -> String {
         }
         11 => "After action only name may stand: action.name is the request's action.",
         12 => "Conditions are nested deeper than 32 levels here.",
-        13 => "A pattern has at most 100 bytes and 5 wildcards, and no [, { or **.",
+        13 => "A pattern has at most 100 characters and 5 wildcards, and no [, { or **.",
         14 => "This is the 17th literal of a list; a list has at most 16.",
         15 => "This is the 65th policy; a rule text has at most 64.",
-        _ => "This name makes its path longer than 64 bytes.",
+        16 => "This name makes its path longer than 64 bytes.",
+        _ => return not_utf8(text, offset),
     };
     meaning.to_string()
+}
+
+/// What is wrong with the string at an offset, and what to do: the first bytes of it that are no character, by their number.
+fn not_utf8(text: &[u8], offset: usize) -> String {
+    let inside = text[offset..].split(|byte| *byte == b'"').nth(1).unwrap_or(&[]);
+    let mut at = 0;
+    while let (Some(_), length) = first_character(&inside[at..]) {
+        at += length;
+    }
+    let bad = inside
+        .get(at)
+        .map_or(String::new(), |byte| format!(": its byte {} is 0x{:02X}, and no character", at + 1, byte));
+    format!("This string is not UTF-8{}. Save the rules as UTF-8, in which ü is two bytes, and write it again.", bad)
 }
 
 /// What is wrong with the bytes of a question.
@@ -146,12 +159,12 @@ mod tests {
         for (line, column) in [(3, 1), (1, 0), (0, 1), (2, 2)] {
             assert!(refusal(b"permit\n", b"", b"", [10, line, column, 1]).is_err());
         }
-        assert!(refusal(b"", b"", b"", [17, 0, 0, 0]).is_err());
+        assert!(refusal(b"", b"", b"", [18, 0, 0, 0]).is_err());
     }
 
     #[test]
     fn every_number_has_a_meaning() {
-        for number in (1..=16).chain(20..=27) {
+        for number in (1..=17).chain(20..=27) {
             assert!(!refusal(b"x", b"a\nb", &[0, 0, 0], [number, 0, 0, 0]).unwrap().meaning.is_empty());
         }
         let meaning = |number: usize| refusal(b"x", b"dog:1\n\nshaft", &[0, 0, 0], [number, 0, 0, 0]).unwrap().meaning;
@@ -159,6 +172,11 @@ mod tests {
         assert!(meaning(22).ends_with("Found: \"\", 0 bytes."));
         assert!(meaning(23).ends_with("Found: \"shaft\", 5 bytes."));
         assert!(meaning(24).ends_with("It is a bag: the columns are missing."));
+        let not_utf8 = refusal(b"permit \"S\xFCd\"", b"", b"", [17, 1, 8, 5]).unwrap();
+        assert!(not_utf8
+            .meaning
+            .starts_with("This string is not UTF-8: its byte 2 is 0xFC, and no character. Save the rules as"));
+        assert_eq!(not_utf8.place.unwrap().carets(), "       ^^^^^");
         assert!(meaning(27).ends_with("and here are 9: put 1 of them into another question."));
     }
 }

@@ -206,7 +206,7 @@ mod tests {
     use super::*;
     use crate::answers::Refused;
     use crate::documented;
-    use definitions::tokens::place_of;
+    use crate::places::place_in_text;
 
     #[test]
     fn tests_are_read() {
@@ -252,7 +252,7 @@ mod tests {
             ("test \"a\"\nexpect allowed ;", "2:16: expected the end of the line"),
         ] {
             let wrong = read_tests(text.as_bytes()).unwrap_err();
-            let place = place_of(text.as_bytes(), wrong.at);
+            let place = place_in_text(text.as_bytes(), wrong.at);
             assert!(documented(&wrong.what), "not in docs/QUESTIONS.md: {}", wrong.what);
             assert!(format!("{}:{}: {}", place.line, place.column, wrong.what).starts_with(what), "{}", wrong.what);
         }

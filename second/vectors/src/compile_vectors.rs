@@ -5,6 +5,7 @@ use definitions::tokens::RESERVED_WORDS;
 use generators::damaged_texts::any_text;
 use generators::policy_texts::{policy, text_of};
 use generators::random::Random;
+use generators::wide_strings;
 
 use crate::vector::{sum_of, Vector};
 
@@ -84,6 +85,7 @@ pub fn fixed() -> Vec<Vector> {
     add_long_tokens(&mut texts);
     add_many_policies(&mut texts);
     add_longest_texts(&mut texts);
+    texts.extend(wide_strings::fixed_texts());
     let mut vectors: Vec<Vector> = texts.iter().map(|text| vector(text, 0)).collect();
     add_rooms(&mut vectors);
     vectors
@@ -409,7 +411,11 @@ fn add_rooms(vectors: &mut Vec<Vector>) {
 
 /// A random vector.
 pub fn random(random: &mut Random) -> Vector {
-    let text = if random.one_in(2_000) { many_policies(random) } else { any_text(random) };
+    let text = match random.below(2_000) {
+        0 => many_policies(random),
+        1..=899 => any_text(random),
+        _ => wide_strings::text(random),
+    };
     let shift = match random.below(60) {
         0 => -1,
         1 => random.pick(&[1, 5, 7, 8, 100, i16::MAX]),
@@ -460,7 +466,7 @@ mod tests {
     fn every_answer_is_there() {
         let answers: Vec<String> = fixed().iter().map(answer).collect();
         assert!(answers.iter().filter(|line| line.starts_with("P ")).count() > 1_000);
-        for number in 1..=16 {
+        for number in 1..=17 {
             let start = format!("R {} ", number);
             assert!(answers.iter().filter(|line| line.starts_with(&start)).count() >= 3, "{}", number);
         }

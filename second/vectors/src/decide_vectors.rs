@@ -2,7 +2,7 @@
 
 use definitions::compile::table_of;
 use definitions::deciding::{decide, Request};
-use definitions::plans::Plan;
+use definitions::plans::{list_value, string_value, Plan};
 use definitions::policies::{PRINCIPAL_TYPES, RESOURCE_TYPES};
 use generators::bag_bytes::{break_a_rule, damaged};
 use generators::condition_texts::{self, values_bag, P};
@@ -11,7 +11,8 @@ use generators::examples::{REFUSED_TEXTS, REQUEST};
 use generators::random::Random;
 use generators::requests;
 use generators::rich_bags::rich_question;
-use generators::rich_bags::{bag_of_length, rich_bag};
+use generators::rich_bags::{bag_of, bag_of_length, rich_bag};
+use generators::wide_strings::BROKEN;
 
 use crate::vector::{request_of, Vector};
 
@@ -66,6 +67,7 @@ pub fn fixed() -> Vec<Vector> {
     add_orders(&mut vectors);
     add_many_policies(&mut vectors);
     add_sizes_of_requests(&mut vectors);
+    add_wide_actions(&mut vectors);
     add_wrong_requests(&mut vectors);
     add_wrong_bags(&mut vectors);
     add_wrong_tables(&mut vectors);
@@ -217,6 +219,32 @@ fn add_sizes_of_requests(vectors: &mut Vec<Vector>) {
     }
 }
 
+/// Actions and resources of characters of every length, and such that are not UTF-8: an action that is not matches no pattern.
+fn add_wide_actions(vectors: &mut Vec<Vector>) {
+    let conditions = [
+        "action.name like\"*\"",
+        "!action.name like\"*\"",
+        "action.name like\"S?d\"",
+        "action.name like\"S??d\"",
+        "action.name==\"Süd\"",
+        "action.name==principal.s",
+        "action.name!=principal.s",
+        "action.name in principal.l",
+    ];
+    let wide = ["Süd", "S€d", "S😀d", "Sd", "ü"].map(|action| action.as_bytes().to_vec());
+    let broken = BROKEN.iter().map(|bytes| [b"S", *bytes, b"d"].concat());
+    for action in wide.into_iter().chain(broken) {
+        let bag = bag_of(&[(b"l", list_value(&[action.clone()])), (b"s", string_value(&action))]);
+        let resource = [b"shaft:", &action[..]].concat();
+        let request = Request { action: &action, resource: &resource, ..REQUEST };
+        for condition in conditions {
+            vectors.push(with_own_table(&format!("{}when{{{}}};", P, condition), &bag, request));
+        }
+        let target = "forbid(principal,action in[\"Süd\",\"ü\"],resource==\"shaft:Süd\");";
+        vectors.push(with_own_table(target, EMPTY_BAG, request));
+    }
+}
+
 fn add_wrong_requests(vectors: &mut Vec<Vector>) {
     for text in ["permit(principal,action,resource);", "forbid(principal,action,resource);", ""] {
         for subject in WRONG_SUBJECTS.map(str::as_bytes) {
@@ -338,6 +366,9 @@ pub fn random(random: &mut Random) -> Vector {
         resource: wish.resource.as_bytes(),
     };
     let mut good = vector(&text, &table, &plan.bytes(), request);
+    if random.one_in(30) {
+        good[4] = requests::broken_action(random).to_vec();
+    }
     if random.one_in(10) {
         for _ in 0..random.pick(&[1, 1, 2, 3]) {
             spoil(&mut good, &plan, random);

@@ -1,6 +1,7 @@
 //! Answers in full, for a person who looks for the reason of a difference.
 
 use definitions::bags::{path_without_blanks, read_bag, Bag, Content, Value};
+use definitions::characters::characters_of;
 use definitions::compile::{compile as compile_text, policies_of, policies_said_by};
 use definitions::deciding::{Facts, Request};
 use definitions::locks::permit_of;
@@ -100,14 +101,25 @@ pub fn number(vector: &Vector) -> String {
     lines
 }
 
-/// For each pattern byte the lengths of the string's beginnings that the pattern matches so far.
+/// For each character of the pattern how many of the string's first characters the pattern matches so far.
 pub fn like(vector: &Vector) -> String {
     let (pattern, string) = (&vector[0], &vector[1]);
     let mut lines = format!("pattern: {}\nstring: {}\n", pattern.escape_ascii(), string.escape_ascii());
-    for (index, row) in reached(pattern, string).iter().enumerate() {
-        let lengths: Vec<String> =
-            (0..row.len()).filter(|length| row[*length]).map(|length| length.to_string()).collect();
-        lines.push_str(&format!("{} matches the first: {}\n", pattern[..index].escape_ascii(), lengths.join(" ")));
+    match (characters_of(pattern), characters_of(string)) {
+        (Some(pattern), Some(string)) => {
+            for (index, row) in reached(&pattern, &string).iter().enumerate() {
+                let lengths: Vec<String> =
+                    (0..row.len()).filter(|length| row[*length]).map(|length| length.to_string()).collect();
+                let begun: String = pattern[..index].iter().filter_map(|number| char::from_u32(*number)).collect();
+                lines.push_str(&format!(
+                    "{} matches the first: {}\n",
+                    begun.as_bytes().escape_ascii(),
+                    lengths.join(" ")
+                ));
+            }
+        }
+        (None, _) => lines.push_str("the pattern is not UTF-8\n"),
+        (_, None) => lines.push_str("the string is not UTF-8, and matches no pattern\n"),
     }
     lines.push_str(&format!("answer: {}\n", pattern_vectors::answer(vector)));
     lines

@@ -113,6 +113,10 @@ fn add_texts(folders: &mut Vec<Folder>) {
     let members = vec!["1<2"; 1_629].join("&&");
     add("text-chain", format!("permit(principal,action,resource)when{{{}}};", members).as_bytes());
     add("text-crlf", EXAMPLE.replace('\n', "\r\n").as_bytes());
+    add("text-not-utf8", b"permit(principal,action in[\"S\xC3\xBCd\",\"S\xFCd\"],resource);");
+    add("text-columns", "permit(principal,action in[\"Süd\",\"€\"],resource)when{\"ü\":".as_bytes());
+    add("text-columns-not-utf8", b"permit(principal,action,resource==\"\xC3\xBC\x01\xFF\");");
+    add("text-like", [EXAMPLE, "forbid(principal,action,resource)when{\"Süd\"like\"S?d\"};"].concat().as_bytes());
 }
 
 /// Questions at the limit and others that are none.

@@ -344,7 +344,7 @@ mod tests {
                 }
             }
         }
-        assert_eq!(reasons.len(), 25, "{:?}", reasons);
+        assert_eq!(reasons.len(), 27, "{:?}", reasons);
     }
 
     #[test]

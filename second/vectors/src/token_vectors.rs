@@ -3,6 +3,7 @@
 use definitions::tokens::{all_tokens, place_of, RESERVED_WORDS};
 use generators::policy_texts::{policy, put_blanks, text_of};
 use generators::random::Random;
+use generators::wide_strings::{self, BROKEN, CHARACTERS};
 
 use crate::vector::Vector;
 
@@ -61,6 +62,7 @@ pub fn fixed() -> Vec<Vector> {
     add_sequences(&mut texts);
     add_longest_texts(&mut texts);
     texts.extend(BORDERS.iter().map(|text| text.as_bytes().to_vec()));
+    add_wide_strings(&mut texts);
     texts.into_iter().map(|text| vec![text]).collect()
 }
 
@@ -164,6 +166,26 @@ fn add_sequences(texts: &mut Vec<Vec<u8>>) {
     }
 }
 
+/// 02, request 5: columns behind and inside strings of characters of every length, and of strings that are not UTF-8, whole, cut off, and with
+/// bytes that no string may hold.
+fn add_wide_strings(texts: &mut Vec<Vec<u8>>) {
+    let characters = CHARACTERS.iter().map(|character| character.to_string().into_bytes());
+    for sequence in characters.chain(BROKEN.iter().map(|bytes| bytes.to_vec())) {
+        for (before, after) in [
+            ("\"", "\" x"),
+            ("\"S", "d\"\"ü\" x"),
+            ("\"ü", "\u{1}\" x"),
+            ("\"\u{1}ü", "\" x"),
+            ("\"ü\n€", "\" x"),
+            ("\"ü", ""),
+            ("\"\u{1}", "ü"),
+            ("ü\"", "\"ü"),
+        ] {
+            texts.push([before.as_bytes(), &sequence, after.as_bytes()].concat());
+        }
+    }
+}
+
 /// 8,192 bytes (and once 8,200) of one token or of blanks, and many short lines.
 fn add_longest_texts(texts: &mut Vec<Vec<u8>>) {
     let run = |byte: u8, length: usize| vec![byte; length];
@@ -190,7 +212,8 @@ pub fn random(random: &mut Random) -> Vector {
             damaged(text, random)
         }
         38..=59 => row_of_tokens(random),
-        60..=67 => random_bytes(random),
+        60..=63 => random_bytes(random),
+        64..=67 => wide_strings::text(random),
         68..=84 => telling_bytes(random),
         _ => text_at_the_sizes(random),
     };

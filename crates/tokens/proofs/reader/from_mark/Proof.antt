@@ -8,7 +8,7 @@ use lib.ListN.{getD}
 use borrow.Author.Tests.{eq-eqb, ne-eqb}
 use borrow.Author.Needs.{needs}
 use Rattle.tokens.specs.Runs.{isOf}
-use Rattle.tokens.specs.Tokens.{markOf, markAt}
+use Rattle.tokens.specs.Tokens.{markToken, markAt}
 use Rattle.tokens.specs.declared.classes.Sort.the-variants.{Digits}
 use Rattle.tokens.proofs.TokenLaws.{digit-inside}
 use Rattle.tokens.proofs.reader.from_mark.Statement.{statement}
@@ -52,7 +52,7 @@ unfolding markAt
 returns-4 c =
     let at = c .before .before .before in
     simp (ne-eqb _ _ (c .before .before .if1 .left), ne-eqb _ _ (c .before .if2 .left))
-    (c .mark-of .ensures ∙ ap (markOf (start at) (getD (text at) (start at) 0)) (at .byte .ensures))
+    (c .mark-of .ensures ∙ ap (markToken (start at) (getD (text at) (start at) 0)) (at .byte .ensures))
 
 pub from-mark-spec : {M : Type 1} → statement M
 from-mark-spec =
