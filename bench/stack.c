@@ -132,7 +132,7 @@ static volatile bool wrong;       // an answer without a refusal that is not rig
 static const char bag[] = BASE "\1\1" "c" "\1\5" "abcde" "\0";
 static const char question[] = BASE "\0\0\2" "\2\1" "c" "\2\0\1\5" "abcde" "\3\1" "d" "\2\0\2\0\0\0\0\0\0\xF0\x3F";
 static const char requests[] = "\10person:a\5teach\7shaft:A";
-static uint8_t sheet[24];
+static uint8_t sheet[4 * DESK_ROW_BYTES];
 static uint32_t counts[DESK_TALLY_COUNTS];
 
 static void nothing(void) {}

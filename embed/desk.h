@@ -13,8 +13,8 @@ extern "C" {
 #define DESK_LAID_OUT _Static_assert
 #endif
 
-#define DESK_VERSION "3.0"
-#define DESK_VERSION_MAJOR 3
+#define DESK_VERSION "4.0"
+#define DESK_VERSION_MAJOR 4
 #define DESK_VERSION_MINOR 0
 
 /* Outcomes of a decision and of a listed row. Yes is ALLOWED or SYSTEM. */
@@ -87,7 +87,7 @@ extern "C" {
 
 /* a request and a listed row. */
 #define DESK_MOST_REQUEST_PART 100u
-#define DESK_ROW_BYTES 6u
+#define DESK_ROW_BYTES 14u
 
 /* A tally: its requests; the counts of a group, those of the outcomes first; the number of the group that has the sums; all its counts. */
 #define DESK_MOST_REQUESTS 8u
@@ -121,13 +121,14 @@ typedef struct {
 } DeskCompiled;
 DESK_LAID_OUT(sizeof(DeskCompiled) == 48 && offsetof(DeskCompiled, refusal) == 0 && offsetof(DeskCompiled, line) == 8 && offsetof(DeskCompiled, column) == 16 && offsetof(DeskCompiled, length) == 24 && offsetof(DeskCompiled, policies) == 32 && offsetof(DeskCompiled, bytes) == 40, "DeskCompiled");
 
-/* What deciding answers: outcome 1 allowed, 2 forbidden, 3 nothing satisfied, 4 system; and the policy that decided, 0 where none did. */
+/* What deciding answers: outcome 1 allowed, 2 forbidden, 3 nothing satisfied, 4 system; the policy that decided, 0 where none did; and the mark, of which bit n - 1 is set exactly when policy n is satisfied, 0 for the system. */
 typedef struct {
     uint32_t refusal;
     uint32_t outcome;
     size_t policy;
+    uint64_t mark;
 } DeskDecision;
-DESK_LAID_OUT(sizeof(DeskDecision) == 16 && offsetof(DeskDecision, refusal) == 0 && offsetof(DeskDecision, outcome) == 4 && offsetof(DeskDecision, policy) == 8, "DeskDecision");
+DESK_LAID_OUT(sizeof(DeskDecision) == 24 && offsetof(DeskDecision, refusal) == 0 && offsetof(DeskDecision, outcome) == 4 && offsetof(DeskDecision, policy) == 8 && offsetof(DeskDecision, mark) == 16, "DeskDecision");
 
 /* An attribute: kind 0 absent, 1 string, 2 number, 3 flag, 4 list of strings; its number; the place of the byte after its kind byte. */
 typedef struct {

@@ -2,7 +2,7 @@
 //! lend is as the desk asks for it. Link with libdesk.a.
 #![allow(dead_code)]
 
-pub const VERSION: &str = "3.0";
+pub const VERSION: &str = "4.0";
 
 // Outcomes of a decision and of a listed row. Yes is ALLOWED or SYSTEM.
 pub const ALLOWED: u32 = 1;
@@ -74,7 +74,7 @@ pub const MOST_CANDIDATES: usize = 8;
 
 // a request and a listed row.
 pub const MOST_REQUEST_PART: usize = 100;
-pub const ROW_BYTES: usize = 6;
+pub const ROW_BYTES: usize = 14;
 
 // A tally: its requests; the counts of a group, those of the outcomes first; the number of the group that has the sums; all its counts.
 pub const MOST_REQUESTS: usize = 8;
@@ -109,13 +109,14 @@ pub struct DeskCompiled {
     pub bytes: usize,
 }
 
-/// What deciding answers: outcome 1 allowed, 2 forbidden, 3 nothing satisfied, 4 system; and the policy that decided, 0 where none did.
+/// What deciding answers: outcome 1 allowed, 2 forbidden, 3 nothing satisfied, 4 system; the policy that decided, 0 where none did; and the mark, of which bit n - 1 is set exactly when policy n is satisfied, 0 for the system.
 #[repr(C)]
 #[derive(Clone, Copy, Debug, PartialEq)]
 pub struct DeskDecision {
     pub refusal: u32,
     pub outcome: u32,
     pub policy: usize,
+    pub mark: u64,
 }
 
 /// An attribute: kind 0 absent, 1 string, 2 number, 3 flag, 4 list of strings; its number; the place of the byte after its kind byte.

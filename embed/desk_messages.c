@@ -26,7 +26,7 @@ const char *desk_message(uint32_t refusal) {
     case DESK_REFUSED_ACTION: return "The action is empty or has more than 100 bytes.";
     case DESK_REFUSED_RESOURCE: return "The resource is not controller:, shaft:, parameter: or record: and an id, or has more than 100 bytes.";
     case DESK_REFUSED_BAG: return "The bytes are no bag, or no question.";
-    case DESK_REFUSED_SHEET_ROOM: return "The sheet has fewer than 6 bytes from the named byte on.";
+    case DESK_REFUSED_SHEET_ROOM: return "The sheet has fewer than 14 bytes from the named byte on.";
     case DESK_REFUSED_START: return "The start row is above the number of rows.";
     case DESK_REFUSED_REQUESTS: return "A tally takes one to eight requests: lend at least one, and ask for those past the eighth in another call.";
     case DESK_REFUSED_LOCK: return "The lock, its vocabulary, its actions or its resource is not of the form that locks have.";

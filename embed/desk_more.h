@@ -1,12 +1,31 @@
-/* What stands beside the archive and is optional: a sentence for each refusal (desk_messages.c), a writer of bags and a reader of lists (desk_bags.c), a writer of the requests of
-   a tally and readers of its counts (desk_tallies.c), a writer of the vocabularies and action lists of locks (desk_locks.c). Like the desk they need no heap, no globals and of a C
-   library memcpy alone. They are ordinary C, not proved; embed/run tests them. */
+/* What stands beside the archive and is optional: readers of a mark and of a listed row (here), a sentence for each refusal (desk_messages.c), a writer of bags and a reader of lists
+   (desk_bags.c), a writer of the requests of a tally and readers of its counts (desk_tallies.c), a writer of the vocabularies and action lists of locks (desk_locks.c). Like the desk
+   they need no heap, no globals and of a C library memcpy alone. They are ordinary C, not proved; embed/run tests them. */
 #ifndef DESK_MORE_H
 #define DESK_MORE_H
 #include "desk_slices.h"
 #ifdef __cplusplus
 extern "C" {
 #endif
+
+/* ---- marks and listed rows */
+
+/* Whether a mark says that a policy is satisfied, the first policy being 1; false where there is no such policy. */
+static inline bool desk_marked(uint64_t mark, size_t policy) { return policy >= 1 && policy <= DESK_MOST_POLICIES && (mark >> (policy - 1) & 1) != 0; }
+
+/* A listed row, read from its DESK_ROW_BYTES bytes: its number, outcome, policy and mark. */
+typedef struct {
+    uint32_t number;
+    uint32_t outcome;
+    size_t policy;
+    uint64_t mark;
+} DeskRow;
+static inline DeskRow desk_row(const uint8_t *bytes) {
+    DeskRow row = {0, bytes[4], bytes[5], 0};
+    for (unsigned i = 0; i < 4; i++) row.number |= (uint32_t)bytes[i] << 8 * i;
+    for (unsigned i = 0; i < 8; i++) row.mark |= (uint64_t)bytes[6 + i] << 8 * i;
+    return row;
+}
 
 /* ---- desk_messages.c */
 

@@ -3,6 +3,7 @@
 // prints. Every thing that is lent has a type of its own (desk_slices.h), so that the compiler finds swapped arguments; the bag is written with desk_bags.c, the requests of the
 // tally with desk_tallies.c, the words and actions of the lock with desk_locks.c, and desk_messages.c has the sentences of refusals.
 #include "desk_more.h"
+#include <inttypes.h>
 #include <stdio.h>
 
 static const char rules[] =
@@ -22,8 +23,6 @@ static uint8_t page[DESK_ROW_BYTES]; // one row at a time: the smallest page the
 static uint8_t lent[DESK_REQUESTS_ROOM]; // the requests of the tally
 static DeskCounts counts;
 
-static unsigned number4(const uint8_t *p) { return p[0] | p[1] << 8 | p[2] << 16 | (unsigned)p[3] << 24; }
-
 static int refused(uint32_t refusal) {
     printf("refused %u: %s\n", refusal, desk_message(refusal));
     return 1;
@@ -36,7 +35,10 @@ static int print_sheet(DeskText text, DeskTable compiled, DeskSubject who, DeskA
     for (size_t start = 0; start < rows; pages++) {
         DeskPage p = desk_sheet_of(text, compiled, question, who, what, which, start, desk_sheet_room(page, sizeof page), 0);
         if (p.refusal != 0) return refused(p.refusal);
-        for (const uint8_t *row = page; row < page + DESK_ROW_BYTES * p.written; row += DESK_ROW_BYTES) printf("%u %u %u\n", number4(row), row[4], row[5]);
+        for (size_t i = 0; i < p.written; i++) {
+            DeskRow row = desk_row(page + DESK_ROW_BYTES * i);
+            printf("%u %u %zu %" PRIu64 "\n", row.number, row.outcome, row.policy, row.mark);
+        }
         listed += p.written;
         start = p.next;
     }
@@ -93,7 +95,7 @@ int main(void) {
     DeskBag bag = desk_bag_written(&writer);
 
     DeskDecision d = desk_decide_of(text, compiled, bag, who, what, which);
-    printf("decide: refusal %u, outcome %u, policy %zu\n", d.refusal, d.outcome, d.policy);
+    printf("decide: refusal %u, outcome %u, policy %zu, mark %" PRIu64 "\n", d.refusal, d.outcome, d.policy, d.mark);
 
     DeskValue v = desk_lookup_of(bag, DESK_ROOT_PRINCIPAL, grade);
     printf("principal.grade: refusal %u, kind %u, number %g, place %zu\n", v.refusal, v.kind, v.number, v.place);

@@ -14,7 +14,7 @@ fn main() {
     println!("begins: {}", desk::begins(RULES, table) as u8);
 
     let d = desk::decide(RULES, table, BAG, b"person:K7", b"teach", b"shaft:A");
-    println!("decide: refusal {}, outcome {}, policy {}", d.refusal, d.outcome, d.policy);
+    println!("decide: refusal {}, outcome {}, policy {}, mark {}", d.refusal, d.outcome, d.policy, d.mark);
     let v = desk::lookup(BAG, desk::ROOT_PRINCIPAL, b"grade");
     println!("principal.grade: refusal {}, kind {}, number {}, place {}", v.refusal, v.kind, v.number, v.place);
     let s = desk::string(BAG, desk::ROOT_PRINCIPAL, b"hired");
@@ -27,7 +27,8 @@ fn main() {
         let p = desk::sheet(RULES, table, QUESTION, b"person:K7", b"teach", b"shaft:A", start, &mut page, 0);
         assert_eq!(p.refusal, 0);
         for row in page.chunks(desk::ROW_BYTES).take(p.written) {
-            println!("{} {} {}", u32::from_le_bytes([row[0], row[1], row[2], row[3]]), row[4], row[5]);
+            let mark = u64::from_le_bytes(row[6..].try_into().unwrap());
+            println!("{} {} {} {}", u32::from_le_bytes([row[0], row[1], row[2], row[3]]), row[4], row[5], mark);
         }
         listed += p.written;
         pages += 1;

@@ -1,4 +1,4 @@
-// What stands beside the archive, tried: the writer of bags, the reader of lists, the writer of requests and the readers of counts, the writer of vocabularies and action lists, the sentences. Prints how many checks were made; a check that fails is printed and ends it with
+// What stands beside the archive, tried: the readers of marks and rows, the writer of bags, the reader of lists, the writer of requests and the readers of counts, the writer of vocabularies and action lists, the sentences. Prints how many checks were made; a check that fails is printed and ends it with
 // status 1. embed/run builds it also with the compiler's checks for memory and arithmetic.
 #include "desk_more.h"
 #include <stdio.h>
@@ -17,6 +17,38 @@ static void check(int holds, const char *what) {
 #define CHECK(holds) check(holds, #holds)
 #define PATH(s) desk_path(DESK_WORDS(s))
 #define IS(literal) (w.length == sizeof(literal) - 1 && memcmp(w.bytes, literal, w.length) == 0)
+
+// A mark policy by policy, and a listed row byte by byte.
+static void marks(void) {
+    const uint64_t mark = (uint64_t)1 << 63 | 1;
+    for (size_t n = 0; n <= DESK_MOST_POLICIES + 1; n++) CHECK(desk_marked(mark, n) == (n == 1 || n == DESK_MOST_POLICIES));
+    CHECK(!desk_marked(UINT64_MAX, 0) && !desk_marked(UINT64_MAX, 65) && !desk_marked(UINT64_MAX, SIZE_MAX) && desk_marked(UINT64_MAX, 33));
+    DeskRow row = desk_row((const uint8_t *)"\xFF\xFF\3\0\1\100\1\2\3\4\5\6\7\x88");
+    CHECK(row.number == 262143 && row.outcome == DESK_ALLOWED && row.policy == 64 && row.mark == 0x8807060504030201);
+}
+
+// Nothing lent changes where a sheet is refused: neither the 13 bytes that are no room for a row, nor those round them. With one byte more the row is there, and those round it stay.
+static void rows(void) {
+    static const char rule[] = "permit(principal,action,resource);";
+    static uint8_t table[DESK_TABLE_FOR_A_BYTE * sizeof rule], lent[DESK_ROW_BYTES + 6], before[DESK_ROW_BYTES + 6];
+    DeskText text = desk_text(DESK_WORDS(rule));
+    DeskTable compiled = desk_table(table, desk_compile_of(text, desk_table_room(table, sizeof table)).bytes);
+    DeskQuestion question = desk_question(DESK_WORDS("\0\0\0\0"));
+    DeskSubject tool = desk_subject(DESK_WORDS("tool:T1"));
+    DeskAction teach = desk_action(DESK_WORDS("teach"));
+    DeskResource shaft = desk_resource(DESK_WORDS("shaft:A"));
+    memset(lent, 0xAA, sizeof lent);
+    memcpy(before, lent, sizeof lent);
+    CHECK(desk_sheet_of(text, compiled, question, tool, teach, shaft, 0, desk_sheet_room(lent, DESK_ROW_BYTES + 2), 3).refusal == DESK_REFUSED_SHEET_ROOM);
+    CHECK(desk_sheet_of(text, compiled, question, tool, teach, shaft, 2, desk_sheet_room(lent, sizeof lent), 3).refusal == DESK_REFUSED_START);
+    CHECK(desk_sheet_of(text, desk_table(table, 0), question, tool, teach, shaft, 0, desk_sheet_room(lent, sizeof lent), 3).refusal == DESK_REFUSED_OTHER_TABLE);
+    CHECK(memcmp(lent, before, sizeof lent) == 0);
+    DeskPage p = desk_sheet_of(text, compiled, question, tool, teach, shaft, 0, desk_sheet_room(lent, DESK_ROW_BYTES + 3), 3);
+    CHECK(p.refusal == 0 && p.written == 1 && p.next == 1);
+    DeskRow row = desk_row(lent + 3);
+    CHECK(row.number == 0 && row.outcome == DESK_ALLOWED && row.policy == 1 && row.mark == 1);
+    CHECK(memcmp(lent, before, 3) == 0 && memcmp(lent + 3 + DESK_ROW_BYTES, before, 3) == 0);
+}
 
 // Written in another order than they stand in the bag; docs/BAGS.md has these bytes.
 static void in_any_order(void) {
@@ -193,6 +225,8 @@ static void sentences(void) {
 }
 
 int main(void) {
+    marks();
+    rows();
     in_any_order();
     lists();
     refused();

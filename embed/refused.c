@@ -27,7 +27,7 @@ static void check(int holds, const char *what) {
 static int compiled(DeskCompiled c, unsigned refusal, size_t line, size_t column, size_t length) {
     return c.refusal == refusal && c.line == line && c.column == column && c.length == length && c.policies == 0 && c.bytes == 0;
 }
-static int decided(DeskDecision d, unsigned refusal, unsigned outcome) { return d.refusal == refusal && d.outcome == outcome && d.policy == 0; }
+static int decided(DeskDecision d, unsigned refusal, unsigned outcome) { return d.refusal == refusal && d.outcome == outcome && d.policy == 0 && d.mark == 0; }
 static int found(DeskValue v, unsigned refusal) { return v.refusal == refusal && v.kind == 0 && v.number == 0 && v.place == 0; }
 static int listed(DeskPage p, unsigned refusal, size_t next) { return p.refusal == refusal && p.written == 0 && p.next == next; }
 static int at_none(DeskString s) { return s.start == 0 && s.length == 0; }
@@ -63,8 +63,9 @@ static void refusals(void) {
     CHECK(at_none(desk_string(BAG, 1, LENT("grade"))));
     // sheet: 25, 24, 26, 21, 22, 23, 20, in this order
     CHECK(listed(desk_sheet(NONE, NONE, NONE, NONE, NONE, NONE, 9, sheet, 400, 401), DESK_REFUSED_SHEET_ROOM, 0));
-    CHECK(listed(desk_sheet(NONE, NONE, NONE, NONE, NONE, NONE, 9, sheet, 400, 395), DESK_REFUSED_SHEET_ROOM, 0));
-    CHECK(listed(desk_sheet(NONE, NONE, NONE, NONE, NONE, NONE, 9, sheet, 400, 394), DESK_REFUSED_BAG, 0));
+    CHECK(listed(desk_sheet(NONE, NONE, NONE, NONE, NONE, NONE, 9, sheet, 400, 400 - DESK_ROW_BYTES + 1), DESK_REFUSED_SHEET_ROOM, 0));
+    CHECK(listed(desk_sheet(NONE, NONE, NONE, NONE, NONE, NONE, 9, sheet, 400, 400 - DESK_ROW_BYTES), DESK_REFUSED_BAG, 0));
+    CHECK(listed(desk_sheet(NONE, NONE, QUESTION, LENT("system"), NONE, NONE, 0, sheet, DESK_ROW_BYTES - 1, 0), DESK_REFUSED_SHEET_ROOM, 0));
     CHECK(listed(desk_sheet(NONE, NONE, QUESTION, NONE, NONE, NONE, 2, sheet, 400, 0), DESK_REFUSED_START, 0));
     CHECK(listed(desk_sheet(NONE, NONE, QUESTION, NONE, NONE, NONE, 1, sheet, 400, 0), DESK_REFUSED_SUBJECT, 0));
     CHECK(listed(desk_sheet(NONE, NONE, QUESTION, LENT("tool:A"), NONE, NONE, 0, sheet, 400, 0), DESK_REFUSED_ACTION, 0));

@@ -64,7 +64,7 @@ static bool set_attribute(char *line) {
 
 static DeskDecision decided(const char *text) {
     DeskCompiled c = desk_compile(TEXT, table, sizeof table);
-    DeskDecision none = {c.refusal, 0, 0};
+    DeskDecision none = {c.refusal, 0, 0, 0};
     return c.refusal != 0 ? none : desk_decide(TEXT, table, c.bytes, bag.bytes, bag.length, REQUEST);
 }
 

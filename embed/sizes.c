@@ -201,6 +201,50 @@ static void answers(void) {
     CHECK(desk_sheet(NULL, 0, NULL, 0, LENT("\0\0\0\0"), LENT("system"), NULL, 0, NULL, 0, 0, sheet, DESK_ROW_BYTES - 1, 0).refusal == DESK_REFUSED_SHEET_ROOM);
 }
 
+// ---- marks
+
+static char rules[DESK_MOST_TEXT + 1];
+
+// As many policies as there may be, permits but for the one that forbids; satisfied for a person are those of the mark.
+static const char *marked(uint64_t mark, size_t forbid) {
+    rules[0] = 0;
+    for (size_t n = 1; n <= DESK_MOST_POLICIES; n++) {
+        strcat(rules, n == forbid ? "forbid(" : "permit(");
+        strcat(rules, mark >> (n - 1) & 1 ? "principal,action,resource);" : "principal is tool,action,resource);");
+    }
+    return rules;
+}
+
+// A decision with this outcome, policy and mark; and the one row of the sheet if it is listed, in bytes of its own between others.
+static int says(const char *text, const char *subject, unsigned outcome, size_t policy, uint64_t mark) {
+    uint8_t sheet[DESK_ROW_BYTES + 2];
+    DeskDecision d = decided(text, subject);
+    memset(sheet, 0xAA, sizeof sheet);
+    DeskPage p = desk_sheet((const uint8_t *)text, strlen(text), table, sizeof table, LENT("\0\0\0\0"), (const uint8_t *)subject, strlen(subject), LENT("teach"), LENT("shaft:A"), 0, sheet + 1, DESK_ROW_BYTES, 0);
+    int lists = outcome == DESK_ALLOWED || outcome == DESK_SYSTEM, right = d.refusal == 0 && d.outcome == outcome && d.policy == policy && d.mark == mark;
+    right = right && p.refusal == 0 && p.next == 1 && p.written == (size_t)lists && sheet[0] == 0xAA && sheet[DESK_ROW_BYTES + 1] == 0xAA;
+    const uint8_t row[] = {0, 0, 0, 0, (uint8_t)outcome, (uint8_t)policy};
+    for (size_t i = 0; i < DESK_ROW_BYTES; i++) right = right && sheet[1 + i] == (!lists ? 0xAA : i < sizeof row ? row[i] : (uint8_t)(mark >> 8 * (i - sizeof row)));
+    return right;
+}
+
+static void marks(void) {
+    const uint64_t first = 1, last = (uint64_t)1 << (DESK_MOST_POLICIES - 1), all = UINT64_MAX, some = 0x8070605040302011;
+    CHECK(says(marked(0, 0), "person:1", DESK_NOTHING_SATISFIED, 0, 0));
+    CHECK(says(marked(first, 0), "person:1", DESK_ALLOWED, 1, first));
+    CHECK(says(marked(last, 0), "person:1", DESK_ALLOWED, DESK_MOST_POLICIES, last));
+    CHECK(says(marked(first | last, 0), "person:1", DESK_ALLOWED, 1, first | last));
+    CHECK(says(marked(some, 0), "person:1", DESK_ALLOWED, 1, some));
+    // a forbid before the permits, after them and between them, and one that is not satisfied
+    CHECK(says(marked(first | last, 1), "person:1", DESK_FORBIDDEN, 1, first | last));
+    CHECK(says(marked(first | last, DESK_MOST_POLICIES), "person:1", DESK_FORBIDDEN, DESK_MOST_POLICIES, first | last));
+    CHECK(says(marked(all, 32), "person:1", DESK_FORBIDDEN, 32, all));
+    CHECK(says(marked(some, 2), "person:1", DESK_ALLOWED, 1, some));
+    // for a tool all are satisfied, for the system none
+    CHECK(says(marked(some, 0), "tool:1", DESK_ALLOWED, 1, all));
+    CHECK(says(marked(all, 0), "system", DESK_SYSTEM, 0, 0));
+}
+
 // ---- tallies
 
 static uint32_t counts[DESK_TALLY_COUNTS];
@@ -277,6 +321,7 @@ int main(void) {
     texts();
     bags();
     answers();
+    marks();
     tallies();
     locks();
     printf("%d checks, %d failed\n", made, failed);

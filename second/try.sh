@@ -57,7 +57,7 @@ any='permit(principal, action, resource)'
 # What is right.
 tried 0 'usage: ./desk COMMAND' "$desk" --help
 tried 0 'usage: ./desk sheet WHERE' "$desk" sheet --help
-tried 0 'rows 9 3 1 1 4 1 1 allowed 2' "$desk" sheet "$root/examples/worked"
+tried 0 'rows 9 3 1 1 1 4 1 1 1 allowed 2' "$desk" sheet "$root/examples/worked"
 tried 0 'policy 2 in line 3 would forbid' "$desk" sheet "$root/examples/worked" --table
 tried 0 'Rows that are not allowed' "$desk" sheet "$root/examples/worked" --table --forbidden
 tried 0 '162 rows, 32 are allowed' "$desk" sheet "$root/examples/crew" --table
@@ -66,6 +66,8 @@ tried 0 'looked through by' cat "$work/page.html"
 tried 0 '32 policies, 17 permits and 15 forbids' "$desk" check "$root/examples/crew"
 tried 0 '!! disarmed: it could forbid if principal.hired were there' "$desk" explain "$root/examples/worked" --row 3
 tried 0 'Forbidden by policy 2 in line 3' "$desk" explain "$root/examples/worked" --row 5
+tried 0 'Satisfied too, but not deciding: policy 1 in line 1 (permit).' "$desk" explain "$root/examples/worked" --row 5
+tried 0 'No other policy is satisfied.' "$desk" explain "$root/examples/worked" --row 3
 tried 0 'Not permitted: no policy is satisfied' "$desk" explain "$root/examples/worked" --row 0
 tried 0 ', 0 failed' "$desk" test "$root/examples/worked/tests.txt"
 tried 0 '1 closed, 0 decided by another policy, 8 as before' "$desk" diff "$root/examples/worked/policy.txt" "$root/examples/worked/closed.txt" "$root/examples/worked"
@@ -81,6 +83,33 @@ tried 0 '6 requests, each over 162 rows, by outcome and by the policy that decid
 tried 0 '' cmp "$work/tally" "$root/examples/crew/shift/tally.txt"
 "$desk" tally "$root/examples/crew/shift" --lines >"$work/counts" 2>/dev/null || true
 tried 0 '' cmp "$work/counts" "$root/examples/crew/shift/counts.txt"
+
+# Which other policies applied: every example's table as it is stored, with the column also, or the line that says there is none.
+for folder in worked crew crew/night crew/records; do
+    "$desk" sheet "$root/examples/$folder" --table >"$work/table" 2>/dev/null || true
+    tried 0 '' cmp "$work/table" "$root/examples/$folder/table.txt"
+done
+tried 0 'In none of these rows is another policy satisfied.' cat "$root/examples/worked/table.txt"
+tried 0 'also: other policies that are satisfied in the row, though they do not decide it.' cat "$root/examples/crew/table.txt"
+tried 0 '<th class="also">also</th>' "$desk" sheet "$root/examples/crew" --html /dev/stdout
+tried 0 'In how many rows a policy is satisfied though another decides (counted by the tool):' "$desk" tally "$root/examples/worked"
+# 64 policies: for a person the first and the last are satisfied, for a tool all, and one of these may forbid; the system has no mark.
+ends="$any;$(printf 'permit(principal is tool, action, resource);%.0s' {2..63})$any;"
+asked "$ends" "$request"
+tried 0 'rows 1 0 1 1 9223372036854775809 allowed 1' "$desk" sheet "$work/f"
+tried 0 'Satisfied too, but not deciding: policy 64 in line 1 (permit).' "$desk" decide "$work/f"
+asked "$ends" "${request/person:K7/tool:T1}"
+tried 0 'rows 1 0 1 1 18446744073709551615 allowed 1' "$desk" sheet "$work/f"
+tried 0 '2 to 64' "$desk" sheet "$work/f" --table
+asked "$ends" "${request/person:K7/system}"
+tried 0 'rows 1 0 4 0 0 allowed 1' "$desk" sheet "$work/f"
+for forbid in 1 64; do
+    if [ "$forbid" = 1 ]; then text=${ends/permit/forbid}; else text="${ends%"$any;"}${any/permit/forbid};"; fi
+    asked "$text" "$request"
+    tried 0 'rows 1 allowed 0' "$desk" sheet "$work/f"
+    tried 0 "Forbidden by policy $forbid in line 1" "$desk" decide "$work/f"
+    tried 0 "Satisfied too, but not deciding: policy $((65 - forbid)) in line 1 (permit)." "$desk" explain "$work/f"
+done
 
 # The words of the command.
 tried 2 'which command?' "$desk"
@@ -137,7 +166,7 @@ absent . 3 . 2.5|"3"|principal.grade is never a number in this question: the com
 person:K7|system|the subject is system: the answer is yes without a look at the rules
 CASES
 tried 0 'policy 1 has resource.name like "S?d", but "S\xFCd" is not UTF-8: no pattern matches it' "$desk" sheet "$root/examples/south"
-tried 0 'rows 5 1 1 1 2 1 1 allowed 2' "$desk" sheet "$root/examples/south"
+tried 0 'rows 5 1 1 1 1 2 1 1 1 allowed 2' "$desk" sheet "$root/examples/south"
 asked "" "$request"
 tried 0 'has no policy: nothing is allowed' "$desk" sheet "$work/f"
 asked 'permit(principal, action, resource is record);' "$request"
@@ -279,8 +308,8 @@ unset DESK_WORK
 "$root/sheet" "$root/examples/worked" >"$work/one" 2>&1 &
 "$root/desk" sheet "$root/examples/worked" >"$work/two" 2>&1 || true
 wait
-tried 0 'rows 9 3 1 1 4 1 1 allowed 2' cat "$work/one"
-tried 0 'rows 9 3 1 1 4 1 1 allowed 2' cat "$work/two"
+tried 0 'rows 9 3 1 1 1 4 1 1 1 allowed 2' cat "$work/one"
+tried 0 'rows 9 3 1 1 1 4 1 1 1 allowed 2' cat "$work/two"
 tried 2 'unknown option -x' "$root/sheet" "$root/examples/worked" -x
 
 echo "$passed passed, $failed failed"

@@ -35,7 +35,7 @@ module _ {a b : List ℕ} {at next : ℕ} where
   unfolding decidedLine
   refused-told d h p = rw (ne-eqb (d .refusal) 0 (λ e. omega arith)) p
 
-  pub decided-told : (d : DeskDecision) → d .refusal ≤ 0 → Added a at (decidedWord ++ numbersLine (d .outcome ∷ d .policy ∷ [])) b next → Added a at (decidedLine d) b next
+  pub decided-told : (d : DeskDecision) → d .refusal ≤ 0 → Added a at (decidedWord ++ numbersLine (d .outcome ∷ d .policy ∷ d .mark ∷ [])) b next → Added a at (decidedLine d) b next
   unfolding decidedLine
   decided-told d h p = rw (eq-eqb (d .refusal) 0 (omega arith)) p
 

@@ -28,9 +28,9 @@ unfoldable pub compiledLine : DeskCompiled → List ℕ
 compiledLine c =
     cond (eqb (c .refusal) 0) (compiledWord ++ numbersLine (c .policies ∷ c .bytes ∷ [])) (refusedLine (c .refusal) (c .line) (c .column) (c .length))
 
--- for what deciding answers: outcome and policy, or the refusal, which has no place and no length
+-- for what deciding answers: outcome, policy and mark, or the refusal, which has no place and no length
 unfoldable pub decidedLine : DeskDecision → List ℕ
-decidedLine d = cond (eqb (d .refusal) 0) (decidedWord ++ numbersLine (d .outcome ∷ d .policy ∷ [])) (refusedLine (d .refusal) 0 0 0)
+decidedLine d = cond (eqb (d .refusal) 0) (decidedWord ++ numbersLine (d .outcome ∷ d .policy ∷ d .mark ∷ [])) (refusedLine (d .refusal) 0 0 0)
 
 -- for a case: what the desk decides
 abbrev pub caseLine : List ℕ → List ℕ → Case → List ℕ

@@ -13,7 +13,9 @@ use folder::cases::part_at;
 use folder::cases::wide;
 use folder::counts::put_tally;
 use folder::lines::put_refusal;
+use folder::lines::put_three;
 use folder::lines::put_two;
+use folder::lines::put_word;
 use folder::read_file;
 use libc::STDOUT_FILENO;
 
@@ -42,7 +44,8 @@ fn put_decided(out: &mut [u8], at: usize, d: DeskDecision) -> usize
     if 0 < d.refusal {
         return put_refusal(out, at, d.refusal, 0, 0, 0);
     }
-    put_two(out, at, b"decided ", d.outcome as usize, d.policy)
+    let first = put_word(out, at, b"decided ");
+    put_three(out, first, d.outcome as usize, d.policy, d.mark as usize)
 }
 
 // Answers the case at a place, with its line behind those that the buffer holds.

@@ -7,18 +7,28 @@ use deciding::Answer;
 use deciding::decide;
 use meaning::Decision;
 
-// A number for each answer.
+// A number for each decision.
+fn decided(d: Decision) -> u64
+    ensures { λ r. ⌜ r < 5000 ⌝ }
+{
+    match d {
+        Decision::Allowed(n) => (1000 + n % 1000) as u64,
+        Decision::Forbidden(n) => (2000 + n % 1000) as u64,
+        Decision::Nothing => 3000,
+        Decision::System => 4000,
+    }
+}
+
+// A number for each answer, with something of its mark.
 fn told(answer: Answer) -> u64
     ensures { λ r. ⌜ r < 1000003 ⌝ }
 {
     match answer {
         Answer::Refused(number) => number as u64,
-        Answer::Decided(d) => match d {
-            Decision::Allowed(n) => (1000 + n % 1000) as u64,
-            Decision::Forbidden(n) => (2000 + n % 1000) as u64,
-            Decision::Nothing => 3000,
-            Decision::System => 4000,
-        },
+        Answer::Decided(m) => {
+            let d = m.d;
+            decided(d) + m.mark % 1000
+        }
     }
 }
 

@@ -1,18 +1,14 @@
-// Asks again and again for the first page of one sheet, with room for all its rows, so that the instructions can be counted. The input: how often, in 4 bytes,
+// Asks page after page for one sheet, so that the instructions can be counted; a page has room for 34,285 rows. The input: how many pages, in 4 bytes,
 // and as parts the text, the question, the subject, the action and the resource.
 ghost use Prim.Native.Nat.{_<_};
 use compiling::compile;
 use sheets::Answer;
 use sheets::sheet;
 
-// A number for each answer.
-fn told(answer: Answer) -> u64
-    ensures { λ r. ⌜ r < 1000003 ⌝ }
-{
-    match answer {
-        Answer::Refused(number) => number as u64,
-        Answer::Listed(written, next) => (written % 1000 * 1000 + next % 1000) as u64,
-    }
+// What a call answered, as a sum, and the row to go on with.
+struct Asked {
+    sum: u64,
+    next: usize,
 }
 
 // The sum goes into the page's last byte before each call, so the compiler can neither drop a call nor take one for all.
@@ -32,14 +28,33 @@ fn ask_once<'a>(
     action: &'a [u8],
     resource: &[u8],
     page: &mut [u8],
+    start: usize,
     sum: u64,
-) -> u64
+) -> Asked
     requires { ⌜ sum < 1000003 ⌝ }
-    ensures { λ r. ⌜ r < 1000003 ⌝ }
+    ensures { λ r. ⌜ r .sum < 1000003 ⌝ }
 {
     stamp(page, sum);
-    let answer = sheet(text, table, question, subject, action, resource, 0, page, 0);
-    (sum + told(answer)) % 1000003
+    match sheet(
+        text,
+        table,
+        question,
+        subject,
+        action,
+        resource,
+        start,
+        page,
+        0,
+    ) {
+        Answer::Refused(number) => Asked {
+            sum: (sum + number as u64) % 1000003,
+            next: 0,
+        },
+        Answer::Listed(written, next) => Asked {
+            sum: (sum + (written % 1000 * 1000 + next % 1000) as u64) % 1000003,
+            next: next,
+        },
+    }
 }
 
 fn ask_often<'a>(
@@ -53,9 +68,22 @@ fn ask_often<'a>(
     page: &mut [u8],
 ) -> u64 {
     let mut sum: u64 = 0;
+    let mut start = 0;
     let mut left = times;
     while left > 0 {
-        sum = ask_once(text, table, question, subject, action, resource, page, sum);
+        let asked = ask_once(
+            text,
+            table,
+            question,
+            subject,
+            action,
+            resource,
+            page,
+            start,
+            sum,
+        );
+        sum = asked.sum;
+        start = asked.next;
         left -= 1;
     }
     sum

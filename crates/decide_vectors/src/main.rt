@@ -1,4 +1,4 @@
-// Decides test requests, and writes a line for each: the outcome and the policy's number, or `R` and the refusal's number.
+// Decides test requests, and writes a line for each: the outcome, the policy's number and the mark, or `R` and the refusal's number.
 ghost use Prim.Native.Nat.{_≤_};
 ghost use lib.ListN.{length};
 use desk::DeskDecision;
@@ -12,7 +12,8 @@ fn report(answer: DeskDecision) {
         return;
     }
     vectors::print_number(answer.outcome as u64, b' ');
-    vectors::print_number(answer.policy as u64, b'\n');
+    vectors::print_number(answer.policy as u64, b' ');
+    vectors::print_number(answer.mark, b'\n');
 }
 
 // One vector, which lies unpacked in the memory: a text, a table, a bag, and a request's subject, action and resource.

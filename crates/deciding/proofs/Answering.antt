@@ -12,8 +12,7 @@ use Rattle.bags.specs.declared.sections.Divided.the-variants.{In}
 use Rattle.views.specs.Meaning.{look}
 use Rattle.views.specs.Values.{baseBag}
 use Rattle.meaning.specs.Targets.{Request, typeIn, isTyped, isSystem, isSubject, isAction, isResource}
-use Rattle.meaning.specs.Decisions.{policiesDecide, decisionOf}
-use Rattle.meaning.specs.declared.Decision.the-variants.{System}
+use Rattle.meaning.specs.Decisions.{decisionOf, decidedMark, policiesMarked, systemMarked}
 use Rattle.deciding.specs.Answers.{wordsIn, viewIn, viewOf, heldDecide, decideAnswer}
 use Rattle.deciding.specs.declared.Answer.the-variants.{Decided, Refused}
 
@@ -44,7 +43,7 @@ module _ (types : List (List ℕ)) (s : List ℕ) (n : ℕ) (e : n ≡ cond (isT
 -- ---- the answer
 
 module _ (text table bag : List ℕ) (q : Request) where
-  pub the-system : isSystem (q .subject) ≡ true → Decided System ≡ decideAnswer text table bag q
+  pub the-system : isSystem (q .subject) ≡ true → Decided systemMarked ≡ decideAnswer text table bag q
   unfolding decideAnswer
   the-system e = rw e
 
@@ -73,8 +72,8 @@ module _ (text table bag : List ℕ) (q : Request) where
             unfolding decideAnswer
             refused-20 e = rw (other, subject, action, resource, form, e)
 
-            pub decided-then : beginsOf text table ≡ true → Decided (policiesDecide (viewOf bag) q (wordsIn text)) ≡ decideAnswer text table bag q
-            unfolding decideAnswer decisionOf
+            pub decided-then : beginsOf text table ≡ true → Decided (policiesMarked (viewOf bag) q (wordsIn text)) ≡ decideAnswer text table bag q
+            unfolding decideAnswer decisionOf decidedMark
             decided-then e = rw (other, subject, action, resource, form, e)
 
             pub as-held : (p : Sections) → sectionsOf bag ≡ In p → heldDecide text table (look (baseBag bag p)) q ≡ decideAnswer text table bag q
@@ -84,6 +83,6 @@ module _ (text table bag : List ℕ) (q : Request) where
                 view-is : viewOf bag ≡ look (baseBag bag p)
                 view-is = rw d
 
-                go : (b : Bool) → beginsOf text table ≡ b → cond b (Decided (policiesDecide (look (baseBag bag p)) q (wordsIn text))) (Refused 20) ≡ decideAnswer text table bag q
+                go : (b : Bool) → beginsOf text table ≡ b → cond b (Decided (policiesMarked (look (baseBag bag p)) q (wordsIn text))) (Refused 20) ≡ decideAnswer text table bag q
                 go true e = rw (← view-is) (decided-then e)
                 go false e = refused-20 e

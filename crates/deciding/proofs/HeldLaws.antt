@@ -25,8 +25,8 @@ use Rattle.views.specs.Values.{baseBag}
 use Rattle.views.specs.Rows.{chosenOf, rowView}
 use Rattle.placing.specs.Said.{wordsOf}
 use Rattle.meaning.specs.Targets.{Request}
-use Rattle.meaning.specs.Decisions.{policiesDecide}
-use Rattle.meaning.specs.declared.Decision.{Decision}
+use Rattle.meaning.specs.Decisions.{policiesMarked}
+use Rattle.meaning.specs.declared.Marked.{Marked}
 use Rattle.deciding.specs.Answers.{policiesIn, policiesOf, heldDecide}
 use Rattle.deciding.specs.declared.Answer.the-variants.{Decided, Refused}
 
@@ -65,8 +65,8 @@ module _ (text table : List ℕ) (policies entries : ℕ) (h : heldOf text table
   pub held-few : policies ≤ 64
   held-few = rw (holds .many) (policies-placed text (holds .value) (says .read) .few)
 
-  pub held-decides : (view : View) (q : Request) {d : Decision} → d ≡ policiesDecide view q (wordsOf text (policiesAt table entries))
-      → Decided d ≡ heldDecide text table view q
+  pub held-decides : (view : View) (q : Request) {m : Marked} → m ≡ policiesMarked view q (wordsOf text (policiesAt table entries))
+      → Decided m ≡ heldDecide text table view q
   unfolding heldDecide
   held-decides view q e = rw (e, held-says, ← right-begins text table (sym h))
 

@@ -1,18 +1,21 @@
--- The lowest-numbered satisfied policies, met from the last policy to the first. Assumes nothing.
+-- The lowest-numbered satisfied policies and the mark, met from the last policy to the first. Assumes nothing.
 use mathlib.Core.Path.{_≡_, refl, sym, _∙_, ap}
-use mathlib.Core.Bool.{Bool, true, false, cond, not, _&&_, and-false, false≢true}
+use mathlib.Core.Bool.{Bool, true, false, cond, not, _&&_}
 use mathlib.Core.List.{List, [], _∷_, _++_}
-use Prim.Native.Nat.{ℕ, zero, suc, _+_, _-_, _≤_, _<_}
+use Prim.Native.Nat.{ℕ, zero, suc, _+_, _-_, _*_, _%_, _^_, _≤_, _<_}
+use native.Mathlib.Nat.{lt-of-lt-of-le, mod-eq-of-lt, one-le-pow, pow-le-pow-right}
 use native.Mathlib.Omega.{arith}
-use lib.Dec.{eqb, ltb}
+use lib.Bits.{bitOr, or-shifted}
+use lib.Dec.{eqb}
 use lib.ListN.{length, length-append}
 use Rattle.grammar.specs.Policies.{Policy}
 use Rattle.views.specs.Meaning.{View}
 use Rattle.placing.specs.Said.{policyWords, wordsOf}
 use Rattle.meaning.specs.Targets.{Request}
-use Rattle.meaning.specs.Decisions.{satisfied, firstOf, byNumbers, forbids, permits, policiesDecide}
+use Rattle.meaning.specs.Decisions.{satisfied, firstOf, byNumbers, forbids, permits, policiesDecide, markOf}
 use Rattle.meaning.specs.declared.Decision.{Decision}
-use Rattle.meaning.proofs.WordLaws.{first-words}
+use Rattle.meaning.proofs.Marking.{markAfter, none-met, met-more}
+use Rattle.meaning.proofs.WordLaws.{first-words, mark-words}
 use Rattle.table.specs.declared.Entry.{Entry}
 use Rattle.stored.specs.ReadBack.{policyBy, policiesUpTo, policiesBy, policyAt, policiesAt}
 use Rattle.stored.specs.Ready.{PoliciesReadyBy, LastBy, Last}
@@ -42,12 +45,6 @@ first-after test n (q ∷ qs) p = go (test q) (first-after test (suc n) qs p)
 
 -- ---- a policy met, of effect `allows`, satisfied where `sat`
 
--- a known forbid decides
-forbid-known : (a c d f : ℕ) → byNumbers (orElse a (suc f)) c ≡ byNumbers (orElse a (suc f)) d
-unfolding byNumbers orElse
-forbid-known zero c d f = refl
-forbid-known (suc a) c d f = refl
-
 met : (allows sat : Bool) (a c k forbid permit : ℕ)
     → byNumbers (orElse (orElse a (cond (not allows && sat) (suc k) 0)) forbid) (orElse (orElse c (cond (allows && sat) (suc k) 0)) permit)
     ≡ byNumbers (orElse a (cond (sat && not allows) (suc k) forbid)) (orElse c (cond (sat && allows) (suc k) permit))
@@ -57,20 +54,15 @@ met true false a c k forbid permit = rw (or-else-assoc a 0 forbid, or-else-assoc
 met false true a c k forbid permit = rw (or-else-assoc a (suc k) forbid, or-else-assoc c 0 permit)
 met false false a c k forbid permit = rw (or-else-assoc a 0 forbid, or-else-assoc c 0 permit)
 
--- a permit cannot decide where a forbid is known
-passed : (allows sat : Bool) (a c k forbid permit : ℕ) → ltb 0 forbid && allows ≡ true
-    → byNumbers (orElse (orElse a (cond (not allows && sat) (suc k) 0)) forbid) (orElse (orElse c (cond (allows && sat) (suc k) 0)) permit)
-    ≡ byNumbers (orElse a forbid) (orElse c permit)
-unfolding orElse
-passed true sat a c k (suc f) permit e = rw (or-else-assoc a 0 (suc f)) (forbid-known a _ _ f)
-passed false sat a c k (suc f) permit e = absurd (false≢true (sym (and-false (ltb 0 (suc f))) ∙ e))
-passed allows sat a c k zero permit e = absurd (false≢true e)
-
 -- ---- the policies left, and the lowest numbers known so far of those behind them
 
 unfoldable pub decidesFrom : List ℕ → View → Request → List Policy → ℕ → ℕ → Decision
 decidesFrom t view q ps forbid permit =
     byNumbers (orElse (firstOf (λ p. forbids view q (policyWords t p)) 1 ps) forbid) (orElse (firstOf (λ p. permits view q (policyWords t p)) 1 ps) permit)
+
+-- and the mark, where `mark` is that of those behind them
+abbrev pub marksFrom : List ℕ → View → Request → List Policy → ℕ → ℕ
+marksFrom t view q ps mark = markAfter (λ p. satisfied view q (policyWords t p)) ps mark
 
 module _ (t : List ℕ) (view : View) (q : Request) where
   or-none : (a : ℕ) → orElse a 0 ≡ a
@@ -87,6 +79,14 @@ module _ (t : List ℕ) (view : View) (q : Request) where
   unfolding decidesFrom policiesUpTo firstOf orElse
   none-left table zero forbid permit l = refl
   none-left table (suc end) forbid permit l = absurd (omega arith)
+
+  pub none-marked : (ps : List Policy) → marksFrom t view q ps 0 ≡ markOf view q (wordsOf t ps)
+  none-marked ps = none-met (λ p. satisfied view q (policyWords t p)) ps ∙ sym (mark-words t (satisfied view q) ps)
+
+  pub all-marked : (table : List ℕ) (end mark : ℕ) → end ≤ 0 → mark ≡ marksFrom t view q (policiesAt table end) mark
+  unfolding policiesUpTo markAfter
+  all-marked table zero mark l = refl
+  all-marked table (suc end) mark l = absurd (omega arith)
 
 module _ {t : List ℕ} {at : ℕ → Entry} {many end number : ℕ} {x : Entry} (last : LastBy t at many end x) (count : number ≡ length (policiesBy at end)) where
   count-is : number ≡ suc (length (policiesBy at (x .first)))
@@ -120,11 +120,39 @@ module _ {t : List ℕ} {at : ℕ → Entry} {many end number : ℕ} {x : Entry}
   met-one view q forbid permit f g hit h d e =
       met-last view q forbid permit f g (λ a c. rw (d, e, h, count-is) (met (eqb (x .kind) 34) (satisfied view q (policyWords t (policyBy at end x))) a c _ forbid permit))
 
-  -- or it is a permit that is passed over
-  pub passed-one : (view : View) (q : Request) (forbid permit : ℕ) → ltb 0 forbid && eqb (x .kind) 34 ≡ true
-      → decidesFrom t view q (policiesBy at (x .first)) forbid permit ≡ decidesFrom t view q (policiesBy at end) forbid permit
-  passed-one view q forbid permit e =
-      met-last view q forbid permit forbid permit (λ a c. rw count-is (passed (eqb (x .kind) 34) (satisfied view q (policyWords t (policyBy at end x))) a c _ forbid permit e))
+  -- and its bit is the lowest of the mark
+  pub mark-one : (view : View) (q : Request) (mark m : ℕ) (hit : Bool) → hit ≡ satisfied view q (policyWords t (policyBy at end x)) → m ≡ cond hit 1 0 + 2 * mark
+      → marksFrom t view q (policiesBy at (x .first)) m ≡ marksFrom t view q (policiesBy at end) mark
+  mark-one view q mark m hit h e = rw (e, h, last .is) (sym (met-more (λ p. satisfied view q (policyWords t p)) (policiesBy at (x .first)) (policyBy at end x) mark))
+
+-- ---- the mark's size: where `number` of 64 policies are left it has a bit for each of the others, and there is room for one more
+
+bit-more : (hit : Bool) (mark k : ℕ) → mark < 2 ^ k → cond hit 1 0 + 2 * mark < 2 ^ suc k
+bit-more true mark k h = omega arith
+bit-more false mark k h = omega arith
+
+module _ (hit : Bool) (mark number : ℕ) (some : 1 ≤ number) (few : number ≤ 64) (h : mark < 2 ^ (64 - number)) where
+  pub bit-there : cond hit 1 0 + 2 * mark < 2 ^ (64 - (number - 1))
+  bit-there = let e : 64 - (number - 1) ≡ suc (64 - number) = omega arith in rw e (bit-more hit mark (64 - number) h)
+
+  pub bit-fits : cond hit 1 0 + 2 * mark < 2 ^ 64
+  bit-fits = let few-bits : 64 - (number - 1) ≤ 64 = omega arith in lt-of-lt-of-le bit-there (pow-le-pow-right (omega arith) few-bits)
+
+-- a bit behind a mark that is shifted by one has its place to itself
+bit-small : (hit : Bool) → cond hit 1 0 < 2
+bit-small true = omega arith
+bit-small false = omega arith
+
+pub shifted-or : (hit : Bool) (mark : ℕ) {bit : ℕ} → bit ≡ cond hit 1 0 → cond hit 1 0 + 2 * mark < 2 ^ 64
+    → bitOr (mark * 2 ^ 1 % 2 ^ 64) bit ≡ cond hit 1 0 + 2 * mark
+shifted-or hit mark {bit} e h =
+    let few : mark * 2 ^ 1 < 2 ^ 64 = omega arith in
+    let small : bit < 2 ^ 1 = rw e (bit-small hit) in
+    rw (mod-eq-of-lt few) (or-shifted mark 1 bit small ∙ omega arith)
+
+-- no bit is set before the first policy is met
+pub no-bits : (number : ℕ) → 0 < 2 ^ (64 - number)
+no-bits number = one-le-pow (64 - number) 2 (omega arith)
 
 -- the last policy left, of which x is the last entry
 pub last-there : {t : List ℕ} {at : ℕ → Entry} {many end : ℕ} {x : Entry} → PoliciesReadyBy t at many end → 0 < end → x ≡ at (end - 1) → LastBy t at many end x

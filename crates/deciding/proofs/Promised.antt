@@ -85,10 +85,10 @@ decide-refused-exactly c number =
     ((λ e. subst (DecideRefused c) e (told (c .text) (c .table) (c .bag) (c .request))), refusal-is (c .text) (c .table) (c .bag) (c .request))
 
 -- a refusal gives its number, and zeros elsewhere
-pub zeros-elsewhere : (a : Answer) → (decideSaid a .refusal ≡ 0 → ⊥) → (decideSaid a .outcome ≡ 0) × (decideSaid a .policy ≡ 0)
+pub zeros-elsewhere : (a : Answer) → (decideSaid a .refusal ≡ 0 → ⊥) → (decideSaid a .outcome ≡ 0) × (decideSaid a .policy ≡ 0) × (decideSaid a .mark ≡ 0)
 unfolding decideSaid
-zeros-elsewhere (Decided d) n = absurd (n refl)
-zeros-elsewhere (Refused number) n = (refl, refl)
+zeros-elsewhere (Decided m) n = absurd (n refl)
+zeros-elsewhere (Refused number) n = (refl, refl, refl)
 
 -- ---- what a text says
 

@@ -14,8 +14,7 @@ use Rattle.views.specs.Meaning.{absent, View, look}
 use Rattle.views.specs.Values.{baseBag}
 use Rattle.placing.specs.Said.{Word, wordsOf}
 use Rattle.meaning.specs.Targets.{Request, isSystem, isSubject, isAction, isResource}
-use Rattle.meaning.specs.Decisions.{policiesDecide, decisionOf, outcomeOf, policyOf}
-use Rattle.meaning.specs.declared.Decision.the-variants.{System}
+use Rattle.meaning.specs.Decisions.{outcomeOf, policyOf, policiesMarked, markedOf, systemMarked}
 use Rattle.deciding.specs.declared.Answer.{Answer}
 use Rattle.deciding.specs.declared.Answer.the-variants.{Decided, Refused}
 
@@ -43,28 +42,29 @@ viewOf bag = viewIn bag (sectionsOf bag)
 
 -- what the policies decide over these attributes, where the table begins with the bytes that the text compiles to; else refusal 20
 unfoldable pub heldDecide : List ℕ → List ℕ → View → Request → Answer
-heldDecide text table view q = cond (beginsOf text table) (Decided (policiesDecide view q (wordsIn text))) (Refused 20)
+heldDecide text table view q = cond (beginsOf text table) (Decided (policiesMarked view q (wordsIn text))) (Refused 20)
 
 -- the answer: the system first, with nothing else looked at; then refusals 21, 22, 23, 24 and 20; else what is decided
 unfoldable pub decideAnswer : List ℕ → List ℕ → List ℕ → Request → Answer
 decideAnswer text table bag q =
-    cond (isSystem (q .subject)) (Decided System)
+    cond (isSystem (q .subject)) (Decided systemMarked)
     (cond (not (isSubject (q .subject))) (Refused 21)
     (cond (not (isAction (q .action))) (Refused 22)
     (cond (not (isResource (q .resource))) (Refused 23)
     (cond (not (isBag bag)) (Refused 24)
-    (cond (not (beginsOf text table)) (Refused 20) (Decided (decisionOf (viewOf bag) q (wordsIn text))))))))
+    (cond (not (beginsOf text table)) (Refused 20) (Decided (markedOf (viewOf bag) q (wordsIn text))))))))
 
--- document 01's numbers: of the refusal, the outcome and the policy, with 0 for what there is none of
+-- the numbers of an answer: of the refusal, the outcome, the policy and the mark, with 0 for what there is none of
 pub record DecideSaid : Type 0 where
   pub refusal : ℕ
   pub outcome : ℕ
   pub policy : ℕ
+  pub mark : ℕ
 
 -- what an answer says in these numbers
 unfoldable pub decideSaid : Answer → DecideSaid
-decideSaid (Decided d) = record { refusal = 0; outcome = outcomeOf d; policy = policyOf d }
-decideSaid (Refused number) = record { refusal = number; outcome = 0; policy = 0 }
+decideSaid (Decided m) = record { refusal = 0; outcome = outcomeOf (m .d); policy = policyOf (m .d); mark = m .mark }
+decideSaid (Refused number) = record { refusal = number; outcome = 0; policy = 0; mark = 0 }
 
 -- yes: outcome 1 or 4
 unfoldable pub saysYes : Answer → Bool

@@ -15,6 +15,7 @@ use bags::sections::bag_sections;
 use compiling::Held;
 use compiling::held_policies;
 use meaning::Decision;
+use meaning::Marked;
 use targets::Types;
 use targets::forms::is_action;
 use targets::forms::is_system;
@@ -22,9 +23,9 @@ use targets::forms::resource_type;
 use targets::forms::subject_type;
 use tokens::classes::class_table;
 
-// What is answered: a decision, or a refusal by its number.
+// What is answered: a decision with its mark, or a refusal by its number.
 pub enum Answer {
-    Decided(Decision),
+    Decided(Marked),
     Refused(u8),
 }
 
@@ -76,7 +77,10 @@ pub fn decide<'a>(
         (request (now (subject .entry)) (now (action .entry)) (now (resource .entry))) ⌝ }
 {
     if is_system(subject) {
-        return Answer::Decided(Decision::System);
+        return Answer::Decided(Marked {
+            d: Decision::System,
+            mark: 0,
+        });
     }
     let subject_type = subject_type(subject);
     if subject_type == 0 {

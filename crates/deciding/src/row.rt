@@ -1,8 +1,10 @@
-// What the policies of a table decide over a bag, and whether a policy's condition holds in a row of attributes: the sections p of the bytes s, and n columns,
+// What the policies of a table decide over a bag, with their mark, and whether a policy's condition holds in a row of attributes: the sections p of the bytes s, and n columns,
 // whose places are `heads`, with what is chosen for them at `values`.
 ghost use mathlib.Core.Path.{_≡_};
 ghost use mathlib.Core.Bool.{cond};
+ghost use Prim.Native.Nat.{_+_, _*_, _^_, _≤_, _<_};
 ghost use lib.ListN.{length};
+ghost use Rattle.tokens.specs.Sizes.{mostPolicies};
 ghost use Rattle.bags.specs.Sections.{Sectioned};
 ghost use Rattle.stored.specs.ReadBack.{policyAt, policiesAt};
 ghost use Rattle.stored.specs.Ready.{ReadyPolicies, Last};
@@ -12,11 +14,12 @@ ghost use Rattle.views.specs.Rows.{rowView, RowStands};
 ghost use Rattle.placing.specs.Said.{policyWords, wordsOf};
 ghost use Rattle.meaning.specs.Values.{withAction};
 ghost use Rattle.meaning.specs.Conditions.{isYes};
-ghost use Rattle.meaning.specs.Decisions.{conditionHolds, satisfied, byNumbers, policiesDecide};
+ghost use Rattle.meaning.specs.Decisions.{conditionHolds, satisfied, byNumbers, policiesMarked};
 ghost use Rattle.targets.specs.Matching.{request, TypesOf};
 use bags::sections::Sections;
 use evaluating::evaluate;
 use meaning::Decision;
+use meaning::Marked;
 use meaning::Verdict;
 use questions::sizes::MOST_COLUMNS;
 use table::Entry;
@@ -108,8 +111,24 @@ pub fn by_numbers(forbid: usize, permit: usize) -> Decision
     Decision::Nothing
 }
 
-// What the policies decide whose entries end before number `entries`, over the bag. They are met from the last to the first; `end` and `number` are
-// those of the policies left. Once a forbid is satisfied no permit can decide, so permits are passed over.
+// A bit: set where the policy is satisfied.
+fn bit_of(hit: bool) -> u64
+    ensures { λ r. ⌜ r ≡ cond hit 1 0 ⌝ }
+{
+    if hit { 1 } else { 0 }
+}
+
+// The mark with one policy more, which stands before those that are met: their bits are shifted by one, and its own is the lowest.
+pub fn mark_with(hit: bool, mark: u64) -> u64
+    requires { ⌜ cond hit 1 0 + 2 * mark < 2 ^ mostPolicies ⌝ }
+    ensures { λ r. ⌜ r ≡ cond hit 1 0 + 2 * mark ⌝ }
+{
+    let bit = bit_of(hit);
+    (mark << 1) | bit
+}
+
+// What the policies decide whose entries end before number `entries`, over the bag, with their mark. They are met from the last to the first; `end` and `number` are
+// those of the policies left. Each is met, for the mark has them all.
 pub fn decision<'a>(
     text: &'a [u8],
     table: &[u8],
@@ -121,12 +140,13 @@ pub fn decision<'a>(
     action: &'a [u8],
     resource: &[u8],
     types: Types,
-) -> Decision
+) -> Marked
     requires { ⌜ ReadyPolicies (now text) (now table) entries ⌝ }
     requires { ⌜ policies ≡ length (policiesAt (now table) entries) ⌝ }
+    requires { ⌜ policies ≤ mostPolicies ⌝ }
     requires { ⌜ Sectioned (now bag) p ⌝ }
     requires { ⌜ TypesOf types (now subject) (now resource) ⌝ }
-    ensures { λ r. ⌜ r ≡ policiesDecide (look (baseBag (now (bag .entry)) p)) (request (now (subject .entry)) (now (action .entry)) (now (resource .entry)))
+    ensures { λ r. ⌜ r ≡ policiesMarked (look (baseBag (now (bag .entry)) p)) (request (now (subject .entry)) (now (action .entry)) (now (resource .entry)))
         (wordsOf (now (text .entry)) (policiesAt (now (table .entry)) entries)) ⌝ }
 {
     let none = [0usize; MOST_COLUMNS];
@@ -134,20 +154,13 @@ pub fn decision<'a>(
     let mut number = policies;
     let mut forbid = 0;
     let mut permit = 0;
+    let mut mark = 0;
     while 0 < end {
         let x = entry_at(table, end - 1);
-        let here = end;
-        let this = number;
-        end = x.first;
-        number -= 1;
-        let permits = x.kind == entries::PERMIT;
-        if (0 < forbid) & permits {
-            continue;
-        }
         let hit = is_satisfied(
             text,
             table,
-            here,
+            end,
             x,
             bag,
             p,
@@ -157,8 +170,13 @@ pub fn decision<'a>(
             resource,
             types,
         );
-        forbid = number_if(hit & !permits, this, forbid);
-        permit = number_if(hit & permits, this, permit);
+        let permits = x.kind == entries::PERMIT;
+        forbid = number_if(hit & !permits, number, forbid);
+        permit = number_if(hit & permits, number, permit);
+        mark = mark_with(hit, mark);
+        end = x.first;
+        number -= 1;
     }
-    by_numbers(forbid, permit)
+    let d = by_numbers(forbid, permit);
+    Marked { d: d, mark: mark }
 }

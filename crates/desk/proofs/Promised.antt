@@ -7,7 +7,7 @@ use Rattle.bags.proofs.Exactly.{not-a-bag}
 use Rattle.views.specs.Meaning.{View}
 use Rattle.pages.specs.Rows.{choicesAt}
 use Rattle.pages.proofs.Combinations.{row-below, choices-of-row, choices-combine, row-of-choices}
-use Rattle.pages.proofs.LineLaws.{sooner-row, row-sooner, row-read}
+use Rattle.pages.proofs.LineLaws.{sooner-row, row-sooner, row-read, mark-read}
 use Rattle.desk.specs.Answers.{lookupSays}
 use Rattle.desk.specs.Promises.{DemandOne, DemandTwo, DemandThree, TheTallies, Means, LookUps, Refusals, Locks, OneResult}
 use Rattle.desk.proofs.RefusalNumbers.{lengths}
@@ -49,6 +49,10 @@ demand-two = record {
   one-outcome = requests.one-outcome;
   system-names-none = requests.system-names-none;
   policy-few = requests.policy-few;
+  mark-exactly = requests.mark-exactly;
+  one-mark = requests.one-mark;
+  mark-few = requests.mark-few;
+  mark-decides = requests.mark-decides;
   words-decide = requests.words-decide;
 }
 
@@ -63,6 +67,7 @@ demand-three = record {
   one-row = λ ns choices choices′ a b e. sym (choices-of-row a) ∙ ap (choicesAt ns) e ∙ choices-of-row b;
   first-slowest = λ ns choices choices′ a b. (sooner-row a b, row-sooner a b);
   row-read = row-read;
+  mark-read = mark-read;
   goes-on = sheets-desk.goes-on;
   none-refused = sheets-desk.none-refused;
   to-the-last = sheets-desk.to-the-last;

@@ -3,7 +3,8 @@ use mathlib.Core.Path.{_≡_, refl, sym, _∙_, ap, subst, fun-ext}
 use mathlib.Core.Logic.{_⊎_, inl, inr, ⊎-elim, _↔_}
 use mathlib.Core.Bool.{Bool, true, false, cond}
 use mathlib.Core.List.{List, [], _∷_, List·Memᴰ, List·Memᴰ·head, List·Memᴰ·tail}
-use Prim.Native.Nat.{ℕ, zero, suc, _≤_, _<_}
+use Prim.Native.Nat.{ℕ, zero, suc, _^_, _≤_, _<_}
+use native.Mathlib.Nat.{lt-of-lt-of-le, pow-le-pow-right}
 use native.Mathlib.Omega.{arith}
 use borrow.Author.Tests.{eqb-true}
 use lib.Dec.{eqb}
@@ -23,11 +24,12 @@ use Rattle.views.proofs.BagForms.{bag-shows}
 use Rattle.placing.specs.Said.{Word, wordsOf}
 use Rattle.placing.proofs.Theorems.{policies-placed}
 use Rattle.meaning.specs.Targets.{Request, isSystem}
-use Rattle.meaning.specs.Decisions.{Numbered, first, later, SomeSatisfied, LowestSatisfied, NamesPolicy, the-system as nobody, a-forbid, a-permit, none-named, byNumbers, policiesDecide, decisionOf, outcomeOf, policyOf, isAllowed}
+use Rattle.meaning.specs.Decisions.{Numbered, first, later, SomeSatisfied, LowestSatisfied, NamesPolicy, the-system as nobody, a-forbid, a-permit, none-named, byNumbers, policiesDecide, decisionOf, outcomeOf, policyOf, isAllowed, satisfied, markOf, decidedMark, markedOf, effectsOf, decidedBy, MarksExactly, for-the-system, for-another}
 use Rattle.meaning.specs.Decisions as meaning
 use Rattle.meaning.specs.declared.Decision.{Decision}
 use Rattle.meaning.specs.declared.Decision.the-variants.{Allowed, Forbidden, Nothing, System}
 use Rattle.meaning.proofs.Deciding as meaning-proofs
+use Rattle.meaning.proofs.Marking as marking
 use Rattle.deciding.specs.Answers.{wordsIn, viewIn, viewOf, decideAnswer, decideSaid}
 use Rattle.deciding.specs.Promise.{DecideCall, Wellformed, RequestRefused, bad-subject, bad-action, bad-resource, DecideRefused, never-the-system, bad-request, no-bag, not-compiled, none-wrong, DecideRefusedExactly, AnsweredAlike}
 use Rattle.deciding.specs.declared.Answer.the-variants.{Decided}
@@ -40,7 +42,7 @@ use Rattle.lookups.specs.Values.{nought, absent}
 use Rattle.lookups.specs.declared.Answer.the-variants.{Found, Refused}
 use Rattle.lookups.proofs.Answers.{refused}
 use Rattle.desk.specs.Answers.{decideSays, decisionFor, foundAs, lookupSays}
-use Rattle.desk.specs.Promises.{Says, SayAlike, Yes, allowed, system, Granted, OutcomeIs, by-permit, by-forbid, by-none, by-system}
+use Rattle.desk.specs.Promises.{Says, SayAlike, Yes, allowed, system, Granted, OutcomeIs, by-permit, by-forbid, by-none, by-system, MarkIs, every-bit, no-bit}
 use Rattle.desk.specs.declared.DeskValue.{DeskValue}
 use Rattle.desk.proofs.TextsPromised.{read-as, one-reading}
 
@@ -164,6 +166,33 @@ module _ (text : List ℕ) (view : View) (q : Request) where
       rw (words-said ps says) (sym (three-if-none (by-policies view q (wordsOf text ps) s) n), sym n)
   decided-as (by-system s) = rw s (refl, refl)
 
+  -- the mark of the policies that the text says
+  abbrev pub markOver : ℕ
+  markOver = decidedMark view q (wordsIn text)
+
+  marks-said : (ps : List Policy) → Says text ps → {mark : ℕ} → MarksExactly view q (wordsOf text ps) mark → MarkIs text view q mark
+  marks-said ps says (for-the-system s) = no-bit s
+  marks-said ps says (for-another s f) = every-bit s says f
+
+  pub mark-over : (ps : List Policy) → Says text ps → MarkIs text view q markOver
+  unfolding meaning.MarkedRightly
+  mark-over ps says = rw (words-said ps says) (marks-said ps says (marking.marked-rightly view q (wordsOf text ps)))
+
+  -- none for the system
+  pub system-marks : isSystem (q .subject) ≡ true → MarkIs text view q markOver
+  unfolding decidedMark
+  system-marks s = rw s (no-bit s)
+
+  -- and there is no other
+  marked-by : (ps : List Policy) {mark : ℕ} → MarksExactly view q (wordsOf text ps) mark → mark ≡ decidedMark view q (wordsOf text ps)
+  unfolding meaning.MarkedRightly meaning.OneMark
+  marked-by ps {mark} m = marking.one-mark view q (wordsOf text ps) mark _ m (marking.marked-rightly view q (wordsOf text ps))
+
+  pub marked-as : {mark : ℕ} → MarkIs text view q mark → mark ≡ markOver
+  unfolding decidedMark
+  marked-as (every-bit {ps = ps} s says f) = rw (words-said ps says) (marked-by ps (for-another s f))
+  marked-as (no-bit s) = rw s
+
   -- who gets yes
   pub yes-over : (ps : List Policy) → Says text ps
       → (isAllowed decidedOver ≡ true) ↔ ((isSystem (q .subject) ≡ true) ⊎ (SomeSatisfied view q (wordsOf text ps) true × (SomeSatisfied view q (wordsOf text ps) false → ⊥)))
@@ -186,6 +215,33 @@ module _ (text : List ℕ) (view : View) (q : Request) where
   policy-few o n (by-forbid {ps = ps} s says l) = number-few ps says l
   policy-few o n (by-none s says f g) = omega arith
   policy-few o n (by-system s) = omega arith
+
+  others-marked : (ps : List Policy) → isSystem (q .subject) ≡ false → decidedMark view q (wordsOf text ps) ≡ markOf view q (wordsOf text ps)
+  unfolding decidedMark
+  others-marked ps s = rw s
+
+  pub mark-few : (mark : ℕ) → MarkIs text view q mark → mark < 2 ^ 64
+  mark-few mark (every-bit {ps = ps} s says f) =
+      let few : length (wordsOf text ps) ≤ 64 = rw (words-many ps) (policies-placed text ps (read-as text ps says) .few) in
+      let is : mark ≡ markOf view q (wordsOf text ps) = marked-by ps (for-another s f) ∙ others-marked ps s in
+      rw is (lt-of-lt-of-le (marking.mark-below (satisfied view q) (wordsOf text ps)) (pow-le-pow-right (omega arith) few))
+  mark-few mark (no-bit s) = omega arith
+
+  -- outcome and policy follow from it
+  pub mark-decides : (ps : List Policy) (outcome policy mark : ℕ) → isSystem (q .subject) ≡ false → Says text ps → OutcomeIs text view q outcome policy
+      → MarkIs text view q mark
+      → (outcome ≡ outcomeOf (decidedBy (effectsOf (wordsOf text ps)) mark)) × (policy ≡ policyOf (decidedBy (effectsOf (wordsOf text ps)) mark))
+  unfolding meaning.MarkedRightly meaning.MarkDecides
+  mark-decides ps outcome policy mark s says o m =
+      let same = words-said ps says in
+      let is : mark ≡ decidedMark view q (wordsOf text ps) = marked-as m ∙ ap (decidedMark view q) same in
+      let marks : MarksExactly view q (wordsOf text ps) mark = subst (MarksExactly view q (wordsOf text ps)) (sym is) (marking.marked-rightly view q (wordsOf text ps)) in
+      let by : decidedOver ≡ decidedBy (effectsOf (wordsOf text ps)) mark = ap (decisionOf view q) same ∙ marking.mark-decides view q (wordsOf text ps) mark s marks in
+      let k = decided-as o in
+      (k .0 ∙ ap outcomeOf by, k .1 ∙ ap policyOf by)
+
+pub one-mark : (text : List ℕ) (view : View) (q : Request) (mark mark′ : ℕ) → MarkIs text view q mark → MarkIs text view q mark′ → mark ≡ mark′
+one-mark text view q mark mark′ a b = marked-as text view q a ∙ sym (marked-as text view q b)
 
 pub one-outcome : (text : List ℕ) (view : View) (q : Request) (outcome outcome′ policy policy′ : ℕ)
     → OutcomeIs text view q outcome policy → OutcomeIs text view q outcome′ policy′ → (outcome ≡ outcome′) × (policy ≡ policy′)
@@ -258,7 +314,7 @@ module _ (c : DecideCall) where
   pub decide-refusals : List·Memᴰ (decisionFor c .refusal) (0 ∷ 20 ∷ 21 ∷ 22 ∷ 23 ∷ 24 ∷ [])
   decide-refusals = number-is (decide-exactly (decisionFor c .refusal) .0 refl)
 
-  pub decide-zeros : (decisionFor c .refusal ≡ 0 → ⊥) → (decisionFor c .outcome ≡ 0) × (decisionFor c .policy ≡ 0)
+  pub decide-zeros : (decisionFor c .refusal ≡ 0 → ⊥) → (decisionFor c .outcome ≡ 0) × (decisionFor c .policy ≡ 0) × (decisionFor c .mark ≡ 0)
   unfolding decideSays
   decide-zeros = zeros-elsewhere (decideAnswer (c .text) (c .table) (c .bag) (c .request))
 
@@ -286,14 +342,17 @@ module _ (c : DecideCall) where
   abbrev decision-there : Decision
   decision-there = decidedOver (c .text) view (c .request)
 
-  answered : Heard → decideAnswer (c .text) (c .table) (c .bag) (c .request) ≡ Decided decision-there
-  unfolding decideAnswer decisionOf
+  abbrev mark-there : ℕ
+  mark-there = markOver (c .text) view (c .request)
+
+  answered : Heard → decideAnswer (c .text) (c .table) (c .bag) (c .request) ≡ Decided (markedOf view (c .request) (wordsIn (c .text)))
+  unfolding decideAnswer decisionOf decidedMark
   answered (of-the-system s) = rw s
   answered (of-another f w b) = rw (f .other, f .subject-is, f .action-is, f .resource-is, bag-exactly (c .bag) .1 w, begins-then (c .text) (c .table) b)
 
-  outcome-told : Heard → (decisionFor c .outcome ≡ outcomeOf decision-there) × (decisionFor c .policy ≡ policyOf decision-there)
+  outcome-told : Heard → (decisionFor c .outcome ≡ outcomeOf decision-there) × (decisionFor c .policy ≡ policyOf decision-there) × (decisionFor c .mark ≡ mark-there)
   unfolding decideSays decideSaid
-  outcome-told h = rw (answered h) (refl, refl)
+  outcome-told h = rw (answered h) (refl, refl, refl)
 
   outcome-there : Heard → OutcomeIs (c .text) view (c .request) (outcomeOf decision-there) (policyOf decision-there)
   outcome-there (of-the-system s) = system-over (c .text) view (c .request) s
@@ -305,6 +364,16 @@ module _ (c : DecideCall) where
       let h = heard e in
       let t = outcome-told h in
       subst (λ (v : View). OutcomeIs (c .text) v (c .request) (decisionFor c .outcome) (decisionFor c .policy)) (seen w) (rw (t .0, t .1) (outcome-there h))
+
+  marked-there : Heard → MarkIs (c .text) view (c .request) mark-there
+  marked-there (of-the-system s) = system-marks (c .text) view (c .request) s
+  marked-there (of-another f w b) = mark-over (c .text) view (c .request) (b .value) (begun-says b)
+
+  pub mark-exactly : (contents : Contents) → decisionFor c .refusal ≡ 0 → BagBytes (c .bag) contents
+      → MarkIs (c .text) (look (asBag contents)) (c .request) (decisionFor c .mark)
+  mark-exactly contents e w =
+      let h = heard e in
+      subst (λ (v : View). MarkIs (c .text) v (c .request) (decisionFor c .mark)) (seen w) (rw (outcome-told h .2) (marked-there h))
 
   -- ---- yes
 
@@ -338,7 +407,7 @@ module _ (c : DecideCall) where
       let g = granted-there h in
       (λ x. g .0 (y .1 x), λ x. y .0 (g .1 x))
 
-  pub system-names-none : isSystem (c .request .subject) ≡ true → decisionFor c ≡ record { refusal = 0; outcome = 4; policy = 0 }
+  pub system-names-none : isSystem (c .request .subject) ≡ true → decisionFor c ≡ record { refusal = 0; outcome = 4; policy = 0; mark = 0 }
   unfolding decideSays decideSaid outcomeOf policyOf
   system-names-none s = rw (← the-system (c .text) (c .table) (c .bag) (c .request) s)
 

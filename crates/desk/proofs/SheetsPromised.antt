@@ -28,16 +28,16 @@ use Rattle.pages.specs.Pages as pages
 use Rattle.pages.specs.Pages.{Written}
 use Rattle.pages.specs.Lines.{Line, counts, linesBytes, linesFrom}
 use Rattle.pages.proofs.Listed.{all-written}
-use Rattle.pages.proofs.LineLaws.{one-list, lineOf, decidedAt, linesOf, lines-yes, lines-ordered, lines-from, lines-bytes, page-lines}
+use Rattle.pages.proofs.LineLaws.{one-list, lineOf, decidedAt, markedAt, linesOf, lines-yes, lines-ordered, lines-from, lines-bytes, page-lines}
 use Rattle.pages.proofs.AskedForms as asked-forms
 use Rattle.pages.proofs.Progress.{bytes-length}
-use Rattle.sheets.specs.Sheets.{sectionsIn, decisionBy, decisions, rowsAsked}
+use Rattle.sheets.specs.Sheets.{sectionsIn, decisionBy, markThere, decisions, rowMarks, rowsAsked}
 use Rattle.sheets.specs.Promise.{SheetCall, Wellasked, SheetRefused, no-room, no-question, above, never-the-system, bad-request, not-compiled, none-wrong, SheetRefusedExactly, ListedAlike}
 use Rattle.sheets.proofs.Promised as sheets-proofs
-use Rattle.sheets.proofs.Promised.{counts-asked, rows-asked, decision-asked}
+use Rattle.sheets.proofs.Promised.{counts-asked, rows-asked, decision-asked, mark-asked}
 use Rattle.desk.specs.Answers.{decisionFor, sheetSays, sheetLeaves, pageFor, sheetFor, rowsSay}
-use Rattle.desk.specs.Promises.{SayAlike, OutcomeIs, attributes, LineOf, Sheet, writtenBy, PageOf, again, Pages, no-page, page, TheSheet, Shows}
-use Rattle.desk.proofs.RequestsPromised.{among, decidedOver, outcome-over, system-over, decided-as, yes-by-outcome, begun-says, alike-words, request-some, outcome-rightly}
+use Rattle.desk.specs.Promises.{SayAlike, OutcomeIs, MarkIs, attributes, LineOf, Sheet, writtenBy, PageOf, again, Pages, no-page, page, TheSheet, Shows}
+use Rattle.desk.proofs.RequestsPromised.{among, decidedOver, markOver, outcome-over, system-over, decided-as, mark-over, system-marks, marked-as, yes-by-outcome, begun-says, alike-words, request-some, outcome-rightly, mark-exactly}
 
 -- ---- the number of rows
 
@@ -66,9 +66,9 @@ rows-exactly question = Iff·trans (go (isQuestion question) refl) (not-a-questi
 -- ---- a line
 
 -- a line is what it has
-line-is : (choices : List ℕ) {o o′ n n′ : ℕ} → o ≡ o′ → n ≡ n′
-    → _≡_ {A = Line} (record { choices = choices; outcome = o; policy = n }) (record { choices = choices; outcome = o′; policy = n′ })
-line-is choices p q = λ i. record { choices = choices; outcome = p i; policy = q i }
+line-is : (choices : List ℕ) {o o′ n n′ m m′ : ℕ} → o ≡ o′ → n ≡ n′ → m ≡ m′
+    → _≡_ {A = Line} (record { choices = choices; outcome = o; policy = n; mark = m }) (record { choices = choices; outcome = o′; policy = n′; mark = m′ })
+line-is choices p q r = λ i. record { choices = choices; outcome = p i; policy = q i; mark = r i }
 
 -- ---- the refusals
 
@@ -130,6 +130,11 @@ module _ (c : SheetCall) where
   outcome-there (of-the-system w s) view = system-over (c .text) view (c .request) s
   outcome-there (of-another w f b) view = outcome-over (c .text) view (c .request) (b .value) (begun-says b)
 
+  -- and its mark
+  marked-there : Heard → (view : View) → MarkIs (c .text) view (c .request) (markOver (c .text) view (c .request))
+  marked-there (of-the-system w s) view = system-marks (c .text) view (c .request) s
+  marked-there (of-another w f b) view = mark-over (c .text) view (c .request) (b .value) (begun-says b)
+
   -- a call with another start row is not refused either
   starts-at : (row : ℕ) → Wellasked (again c row (c .sheet) (c .at)) → Heard → SheetRefused (again c row (c .sheet) (c .at)) 0
   starts-at row w (of-the-system v s) = never-the-system w s
@@ -142,25 +147,34 @@ module _ (c : SheetCall) (h : Heard c) {base : Contents} {columns : List Column}
   abbrev pub of-choices : List ℕ → Decision
   of-choices choices = decisionBy (c .question) (sectionsIn (c .question)) (c .request) (wordsIn (c .text)) choices
 
+  -- and its mark
+  abbrev pub of-marks : List ℕ → ℕ
+  of-marks choices = markThere (c .question) (sectionsIn (c .question)) (c .request) (wordsIn (c .text)) choices
+
   abbrev pub ns : List ℕ
   ns = counts columns
 
   abbrev pub lines : List Line
-  lines = linesOf of-choices ns
+  lines = linesOf of-choices of-marks ns
 
   -- over its attributes
   pub over-attributes : {choices : List ℕ} → Combination ns choices → of-choices choices ≡ decidedOver (c .text) (attributes base columns choices) (c .request)
   over-attributes ok = decision-asked w ok (c .request) (wordsIn (c .text))
 
-  listed-line : (l : Line) → Combination ns (l .choices) → l ≡ lineOf of-choices ns (l .choices) → isAllowed (of-choices (l .choices)) ≡ true
+  marked-over : {choices : List ℕ} → Combination ns choices → of-marks choices ≡ markOver (c .text) (attributes base columns choices) (c .request)
+  marked-over ok = mark-asked w ok (c .request) (wordsIn (c .text))
+
+  listed-line : (l : Line) → Combination ns (l .choices) → l ≡ lineOf of-choices of-marks ns (l .choices) → isAllowed (of-choices (l .choices)) ≡ true
       → LineOf (c .text) base columns (c .request) l
   listed-line l ok e y =
       let d = over-attributes ok in
       let o : l .outcome ≡ outcomeOf (of-choices (l .choices)) = ap (λ (x : Line). x .outcome) e in
       let n : l .policy ≡ policyOf (of-choices (l .choices)) = ap (λ (x : Line). x .policy) e in
+      let m : l .mark ≡ of-marks (l .choices) = ap (λ (x : Line). x .mark) e in
       record {
         combination = ok;
         decided = rw (o, n, d) (outcome-there c h (attributes base columns (l .choices)));
+        marked = rw (m, marked-over ok) (marked-there c h (attributes base columns (l .choices)));
         yes = yes-by-outcome (of-choices (l .choices)) o .0 y;
       }
 
@@ -170,12 +184,13 @@ module _ (c : SheetCall) (h : Heard c) {base : Contents} {columns : List Column}
       let k = decided-as (c .text) (attributes base columns (l .choices)) (c .request) (r .decided) in
       let o : l .outcome ≡ outcomeOf (of-choices (l .choices)) = k .0 ∙ ap outcomeOf (sym d) in
       let n : l .policy ≡ policyOf (of-choices (l .choices)) = k .1 ∙ ap policyOf (sym d) in
-      lines-yes of-choices ns l .1 (r .combination, line-is (l .choices) o n, yes-by-outcome (of-choices (l .choices)) o .1 (r .yes))
+      let m : l .mark ≡ of-marks (l .choices) = marked-as (c .text) (attributes base columns (l .choices)) (c .request) (r .marked) ∙ sym (marked-over (r .combination)) in
+      lines-yes of-choices of-marks ns l .1 (r .combination, line-is (l .choices) o n m, yes-by-outcome (of-choices (l .choices)) o .1 (r .yes))
 
   is-sheet : Sheet (c .text) base columns (c .request) lines
   is-sheet = record {
-    lists = λ l. ((λ i. let y = lines-yes of-choices ns l .0 i in listed-line l (y .0) (y .1) (y .2)), line-listed l);
-    in-order = lines-ordered of-choices ns;
+    lists = λ l. ((λ i. let y = lines-yes of-choices of-marks ns l .0 i in listed-line l (y .0) (y .1) (y .2)), line-listed l);
+    in-order = lines-ordered of-choices of-marks ns;
   }
 
   pub no-other : (others : List Line) → Sheet (c .text) base columns (c .request) others → others ≡ lines
@@ -187,23 +202,27 @@ module _ (c : SheetCall) (h : Heard c) {base : Contents} {columns : List Column}
   pub decisions-are : decisions (c .text) (c .question) (c .request) ≡ decidedAt of-choices ns
   decisions-are = ap {B = ℕ → Decision} (λ ks row. of-choices (choicesAt ks row)) (counts-asked w)
 
+  marks-are : rowMarks (c .text) (c .question) (c .request) ≡ markedAt of-marks ns
+  marks-are = ap {B = ℕ → ℕ} (λ ks row. of-marks (choicesAt ks row)) (counts-asked w)
+
   -- what a call for a page of it writes
   page-there : (start : ℕ) (sheet : List ℕ) (at : ℕ) → pageFor (again c start sheet at) .refusal ≡ 0
-      → PageWritten (decidedAt of-choices ns) (product ns) start (drop at sheet)
+      → PageWritten (decidedAt of-choices ns) (markedAt of-marks ns) (product ns) start (drop at sheet)
       (record { written = pageFor (again c start sheet at) .written; next = pageFor (again c start sheet at) .next }) (drop at (sheetFor (again c start sheet at)))
   unfolding sheetSays
   page-there start sheet at e =
       let p : Page = record { written = pageFor (again c start sheet at) .written; next = pageFor (again c start sheet at) .next } in
       let after = drop at (sheetFor (again c start sheet at)) in
-      subst (λ (rows : ℕ). PageWritten (decidedAt of-choices ns) rows start (drop at sheet) p after) (rows-asked w)
-      (subst (λ (d : ℕ → Decision). PageWritten d (rowsAsked (c .question)) start (drop at sheet) p after) decisions-are
-      (sheets-proofs.page-written (c .text) (c .table) (c .question) (c .request) start sheet at e))
+      subst (λ (rows : ℕ). PageWritten (decidedAt of-choices ns) (markedAt of-marks ns) rows start (drop at sheet) p after) (rows-asked w)
+      (subst (λ (m : ℕ → ℕ). PageWritten (decidedAt of-choices ns) m (rowsAsked (c .question)) start (drop at sheet) p after) marks-are
+      (subst (λ (d : ℕ → Decision). PageWritten d (rowMarks (c .text) (c .question) (c .request)) (rowsAsked (c .question)) start (drop at sheet) p after) decisions-are
+      (sheets-proofs.page-written (c .text) (c .table) (c .question) (c .request) start sheet at e)))
 
   within : (start : ℕ) (sheet : List ℕ) (at : ℕ) → pageFor (again c start sheet at) .refusal ≡ 0 → start ≤ product ns
   unfolding sheetSays
   within start sheet at e = rw (rows-asked w) at (sheets-proofs.passed (c .text) (c .table) (c .question) (c .request) start sheet at e .1)
 
-  as-written : {start last : ℕ} {bytes : List ℕ} → Pages c start bytes last → Written (decidedAt of-choices ns) (product ns) start bytes last
+  as-written : {start last : ℕ} {bytes : List ℕ} → Pages c start bytes last → Written (decidedAt of-choices ns) (markedAt of-marks ns) (product ns) start bytes last
   as-written no-page = pages.nothing
   as-written (page {start = start} sheet at e more) = pages.page (within start sheet at e) (page-there start sheet at e) (as-written more)
 
@@ -214,20 +233,20 @@ module _ (c : SheetCall) (h : Heard c) {base : Contents} {columns : List Column}
 
   joined-from : (start : ℕ) (bytes : List ℕ) → Pages c start bytes (product ns) → bytes ≡ linesBytes ns (linesFrom ns start lines)
   joined-from start bytes p =
-      all-written (decidedAt of-choices ns) (product ns) (as-written p) ∙ lines-bytes of-choices ns start (starts-within (le-refl (product ns)) p)
+      all-written (decidedAt of-choices ns) (markedAt of-marks ns) (product ns) (as-written p) ∙ lines-bytes of-choices of-marks ns start (starts-within (le-refl (product ns)) p)
 
   joined : (bytes : List ℕ) → Pages c 0 bytes (product ns) → bytes ≡ linesBytes ns lines
-  joined bytes p = joined-from 0 bytes p ∙ ap (linesBytes ns) (lines-from of-choices ns 0 zero-le)
+  joined bytes p = joined-from 0 bytes p ∙ ap (linesBytes ns) (lines-from of-choices of-marks ns 0 zero-le)
 
   this-page : pageFor c .refusal ≡ 0 → PageOf c ns lines
   unfolding sheetSays
   this-page e =
       let room = roomIn (drop (c .at) (c .sheet)) in
       let p = page-there (c .start) (c .sheet) (c .at) e in
-      let k = page-lines of-choices ns (c .start) room (within (c .start) (c .sheet) (c .at) e) in
+      let k = page-lines of-choices of-marks ns (c .start) room (within (c .start) (c .sheet) (c .at) e) in
       let rows = pageRows (decidedAt of-choices ns) (product ns) (c .start) room in
-      let bytes = rowsBytes (decidedAt of-choices ns) rows in
-      let long : length bytes ≡ rowSize * pageFor c .written = bytes-length (decidedAt of-choices ns) rows ∙ ap (λ (n : ℕ). rowSize * n) (sym (p .written)) in
+      let bytes = rowsBytes (decidedAt of-choices ns) (markedAt of-marks ns) rows in
+      let long : length bytes ≡ rowSize * pageFor c .written = bytes-length (decidedAt of-choices ns) (markedAt of-marks ns) rows ∙ ap (λ (n : ℕ). rowSize * n) (sym (p .written)) in
       let others = sheets-proofs.others-there (c .text) (c .table) (c .question) (c .request) (c .start) (c .sheet) (c .at) e in
       record {
         written = p .written ∙ k .0;
@@ -258,9 +277,11 @@ the-sheet c e =
 pub decided-alike : (c : DecideCall) (contents base : Contents) (columns : List Column) (choices : List ℕ) → decisionFor c .refusal ≡ 0 → BagBytes (c .bag) contents
     → Shows contents base columns choices
     → OutcomeIs (c .text) (attributes base columns choices) (c .request) (decisionFor c .outcome) (decisionFor c .policy)
+    × MarkIs (c .text) (attributes base columns choices) (c .request) (decisionFor c .mark)
 decided-alike c contents base columns choices e w shows =
     let same : look (asBag contents) ≡ attributes base columns choices = fun-ext (λ root. fun-ext (shows root)) in
-    subst (λ (view : View). OutcomeIs (c .text) view (c .request) (decisionFor c .outcome) (decisionFor c .policy)) same (outcome-rightly c contents e w)
+    subst (λ (view : View). OutcomeIs (c .text) view (c .request) (decisionFor c .outcome) (decisionFor c .policy) × MarkIs (c .text) view (c .request) (decisionFor c .mark)) same
+    (outcome-rightly c contents e w, mark-exactly c contents e w)
 
 -- ---- to the last page
 

@@ -22,7 +22,7 @@ use Rattle.deciding.specs.Promise.{RequestRefused, bad-subject, bad-action, bad
 use Rattle.pages.specs.Rows.{Combination, choicesAt}
 use Rattle.pages.specs.Lines as pages-lines
 use Rattle.pages.specs.Lines.{Line, InOrder, counts}
-use Rattle.pages.specs.Listing.{listed}
+use Rattle.pages.specs.Listing.{rowSize, listed}
 use Rattle.pages.specs.Tally.{OneByOne, none, one, more, SoMany, sumOf, fromOn, groupSize, howMany, countsAt, tallyOf, Countable}
 use Rattle.pages.proofs.LineLaws.{one-list, lineAt, decidedAt, linesOf}
 use Rattle.pages.proofs.Tallying.{group-long, group-at, from-on-long}
@@ -44,7 +44,7 @@ use Rattle.desk.specs.Answers.{tallySays, refusalFor, countsFor}
 use Rattle.desk.specs.Promises.{OutcomeIs, attributes, Sheet, groupIn, ofOutcome, ofPolicy, TallyOf, TheTally}
 use Rattle.desk.proofs.RequestsPromised.{among, decidedOver, decided-as, policy-few}
 use Rattle.desk.proofs.SheetsPromised as sheets-desk
-use Rattle.desk.proofs.SheetsPromised.{Heard, of-the-system, of-another, outcome-there, of-choices, over-attributes, no-other, decisions-are}
+use Rattle.desk.proofs.SheetsPromised.{Heard, of-the-system, of-another, outcome-there, of-choices, of-marks, over-attributes, no-other, decisions-are}
 
 -- ---- the refusals
 
@@ -86,7 +86,7 @@ lent-one n bytes = tallies-proofs.one-lent n bytes
 -- ---- so many are one number
 
 abbrev asLine : List ℕ → Line
-asLine choices = record { choices = choices; outcome = 0; policy = 0 }
+asLine choices = record { choices = choices; outcome = 0; policy = 0; mark = 0 }
 
 in-order : {cs : List (List ℕ)} → OneByOne cs → InOrder (map asLine cs)
 in-order none = pages-lines.none
@@ -121,10 +121,10 @@ one-tally text base columns q group group′ a b k h = elim (decLt k 4) [
 module _ (text table question : List ℕ) (q : Request) (a : Passes text table q) {base : Contents} {columns : List Column} (w : QuestionBytes question base columns) where
   -- the first page of its sheet, which has the same rows
   abbrev call : SheetCall
-  call = record { text = text; table = table; question = question; request = q; start = 0; sheet = replicate 6 0; at = 0 }
+  call = record { text = text; table = table; question = question; request = q; start = 0; sheet = replicate rowSize 0; at = 0 }
 
   asked : Wellasked call
-  asked = record { room = omega (arith, length-replicate {A = ℕ} 6 0); base = base; columns = columns; question-says = w; within = zero-le }
+  asked = record { room = omega (arith, length-replicate {A = ℕ} rowSize 0); base = base; columns = columns; question-says = w; within = zero-le }
 
   heard-as : Passes text table q → Heard call
   heard-as (the-system s) = of-the-system asked s
@@ -189,7 +189,7 @@ module _ (text table question : List ℕ) (q : Request) (a : Passes text table q
 
   listed-as : (lines : List Line) → Sheet text base columns q lines → length lines ≡ ofOutcome group 1 + ofOutcome group 4
   listed-as lines s =
-      ap length (no-other call h w lines s) ∙ length-map (listed (decidedAt of ns) (product ns) 0) (lineAt of ns) ∙ listed-many (decidedAt of ns) (product ns)
+      ap length (no-other call h w lines s) ∙ length-map (listed (decidedAt of ns) (product ns) 0) (lineAt of (of-marks call h w) ns) ∙ listed-many (decidedAt of ns) (product ns)
       ∙ yes-counted (decidedAt of ns) (product ns)
       ∙ (let x = count-is 0 (omega arith) in let y = count-is 3 (omega arith) in omega (arith, x, y))
 

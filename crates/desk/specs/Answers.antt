@@ -53,9 +53,9 @@ beginsSays text table = compiling.beginsOf text table
 
 -- ---- decide(text, table, bag, subject, action, resource)
 
--- the refusal, or the outcome and the policy
+-- the refusal, or the outcome, the policy and the mark
 abbrev pub decidedAs : deciding.DecideSaid → DeskDecision
-decidedAs s = record { refusal = s .refusal; outcome = s .outcome; policy = s .policy }
+decidedAs s = record { refusal = s .refusal; outcome = s .outcome; policy = s .policy; mark = s .mark }
 
 -- what is answered
 unfoldable pub decideSays : List ℕ → List ℕ → List ℕ → Request → DeskDecision

@@ -1,4 +1,5 @@
--- Document 01's checked examples over the desk's answers: A to L as one statement, C to F with document 02's lengths, and the worked example. Definitions only.
+-- Document 01's checked examples over the desk's answers: A to L as one statement, C to F with document 02's lengths, decisions and rows with its marks; and
+-- the worked example. Definitions only.
 use mathlib.Core.Path.{_≡_}
 use mathlib.Core.List.{List, [], _∷_, _++_}
 use Prim.Native.Nat.{ℕ, zero, suc, _*_}
@@ -45,16 +46,16 @@ K7 = record { subject = bytes "person:K7"; action = bytes "teach"; resource = by
 abbrev pub decided : List ℕ → DeskDecision
 decided text = decideSays text (bytesFor text) (0 ∷ 0 ∷ 0 ∷ []) K7
 
--- an outcome with its policy
-abbrev pub outcome : ℕ → ℕ → DeskDecision
-outcome number policy = record { refusal = 0; outcome = number; policy = policy }
+-- an outcome with its policy and its mark
+abbrev pub outcome : ℕ → ℕ → ℕ → DeskDecision
+outcome number policy mark = record { refusal = 0; outcome = number; policy = policy; mark = mark }
 
 -- a condition is true: it makes policy 1 decide; or it is false: nothing is satisfied
 abbrev pub Holds : String → Type 0
-Holds condition = decided (P-when condition) ≡ outcome 1 1
+Holds condition = decided (P-when condition) ≡ outcome 1 1 1
 
 abbrev pub Fails : String → Type 0
-Fails condition = decided (P-when condition) ≡ outcome 3 0
+Fails condition = decided (P-when condition) ≡ outcome 3 0 0
 
 -- document 01's table, row by row
 pub record CasesAtoL : Type 0 where
@@ -69,7 +70,7 @@ pub record CasesAtoL : Type 0 where
   pub I : Fails "principal.a != \"x\"" × Holds "!(principal.a != \"x\")"
   pub J : Holds "\"shaft:A1\" like \"shaft:*\"" × Holds "\"shaft:\" like \"shaft:*\"" × Fails "\"shaft:b:A1\" like \"shaft:*\""
   pub K : Holds "\"A1A1\" like \"*A1\""
-  pub L : decided (P ++ bytes ";forbid(principal,action,resource);") ≡ outcome 2 2
+  pub L : decided (P ++ bytes ";forbid(principal,action,resource);") ≡ outcome 2 2 3
 
 -- ---- the worked example: document 01's two policies, and the request person:K7, teach, shaft:A
 
@@ -92,11 +93,12 @@ gradeThree = (1 ∷ 5 ∷ []) ++ bytes "grade" ++ (2 ∷ 0 ∷ 0 ∷ 0 ∷ 0 ∷
 
 -- what document 01 prints, by the sheet's answer and bytes
 pub record WorkedExample : Type 0 where
-  -- rows 9; 3 1 1; 4 1 1; allowed 2
+  -- rows 9; 3 1 1 1; 4 1 1 1; allowed 2
   pub rows : rowsSay question ≡ 9
-  pub listed : sheetSays rules (bytesFor rules) question K7 0 (zeros 54) 0 ≡ record { refusal = 0; written = 2; next = 9 }
-  pub written : take 12 (sheetLeaves rules (bytesFor rules) question K7 0 (zeros 54) 0) ≡ 3 ∷ 0 ∷ 0 ∷ 0 ∷ 1 ∷ 1 ∷ 4 ∷ 0 ∷ 0 ∷ 0 ∷ 1 ∷ 1 ∷ []
+  pub listed : sheetSays rules (bytesFor rules) question K7 0 (zeros 126) 0 ≡ record { refusal = 0; written = 2; next = 9 }
+  pub written : take 28 (sheetLeaves rules (bytesFor rules) question K7 0 (zeros 126) 0)
+      ≡ 3 ∷ 0 ∷ 0 ∷ 0 ∷ 1 ∷ 1 ∷ 1 ∷ 0 ∷ 0 ∷ 0 ∷ 0 ∷ 0 ∷ 0 ∷ 0 ∷ 4 ∷ 0 ∷ 0 ∷ 0 ∷ 1 ∷ 1 ∷ 1 ∷ 0 ∷ 0 ∷ 0 ∷ 0 ∷ 0 ∷ 0 ∷ 0 ∷ []
   -- row 3, second choice and first, is the bag that knows grade 3 and nothing else, and is decided so
   pub row-three : (contents base : Contents) (columns : List Column) → BagBytes gradeThree contents → QuestionBytes question base columns
       → (rowOf (counts columns) (1 ∷ 0 ∷ []) ≡ 3) × Shows contents base columns (1 ∷ 0 ∷ [])
-  pub decided-three : decideSays rules (bytesFor rules) gradeThree K7 ≡ outcome 1 1
+  pub decided-three : decideSays rules (bytesFor rules) gradeThree K7 ≡ outcome 1 1 1

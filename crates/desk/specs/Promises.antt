@@ -7,7 +7,7 @@ use mathlib.Core.Path.{_≡_}
 use mathlib.Core.Logic.{_⊎_, _↔_}
 use mathlib.Core.Bool.{Bool, true, false}
 use mathlib.Core.List.{List, [], _∷_, _++_, map, List·Memᴰ}
-use Prim.Native.Nat.{ℕ, suc, _+_, _-_, _*_, _≤_, _<_}
+use Prim.Native.Nat.{ℕ, suc, _+_, _-_, _*_, _^_, _≤_, _<_}
 use lib.ListN.{length, getD, take, drop}
 use denote.Ref.{RefT, now}
 use Rattle.slices.specs.Parts.{IsPart, part}
@@ -33,12 +33,13 @@ use Rattle.views.specs.Values.{stringAt, listAt}
 use Rattle.views.specs.Rows.{pickedAll}
 use Rattle.placing.specs.Said.{Word, wordsOf}
 use Rattle.meaning.specs.Targets.{Request, isSystem}
-use Rattle.meaning.specs.Decisions.{satisfied, Numbered, SomeSatisfied, LowestSatisfied}
+use Rattle.meaning.specs.Decisions.{satisfied, Numbered, SomeSatisfied, LowestSatisfied, BitSet, SatisfiedAt}
+use Rattle.meaning.specs.Decisions.{outcomeOf, policyOf, effectsOf, decidedBy}
 use Rattle.deciding.specs.Promise.{DecideCall, DecideRefused}
 use Rattle.lookups.specs.Lookups.{lookupOf, startOf, lengthOf}
 use Rattle.lookups.specs.Values.{nought, unit}
 use Rattle.pages.specs.Rows.{Combination, rowOf, choicesAt}
-use Rattle.pages.specs.Listing.{rowSize, roomIn, sixBytes}
+use Rattle.pages.specs.Listing.{rowSize, roomIn, listedBytes}
 use Rattle.pages.specs.Lines.{Line, Sooner, InOrder, counts, linesBytes, littleEndian, linesFrom, firstRow}
 use Rattle.pages.specs.Tally.{SoMany, sumOf, fromOn, groupSize}
 use Rattle.sheets.specs.Promise.{SheetCall, SheetRefused}
@@ -133,6 +134,14 @@ pub data OutcomeIs (text : List ℕ) (view : View) (q : Request) : ℕ → ℕ �
       → (SomeSatisfied view q (wordsOf text ps) false → ⊥) → (SomeSatisfied view q (wordsOf text ps) true → ⊥) → OutcomeIs text view q 3 0
   by-system : isSystem (q .subject) ≡ true → OutcomeIs text view q 4 0
 
+-- The decision carries a 64-bit mark, bit n-1 set exactly when policy n is satisfied; 0 for the system (document 02, request 6).
+
+-- the mark over these attributes
+pub data MarkIs (text : List ℕ) (view : View) (q : Request) : ℕ → Type 0 where
+  every-bit : {mark : ℕ} {ps : List Policy} → isSystem (q .subject) ≡ false → Says text ps
+      → ((n : ℕ) → BitSet mark n ↔ SatisfiedAt view q (wordsOf text ps) n) → MarkIs text view q mark
+  no-bit : isSystem (q .subject) ≡ true → MarkIs text view q 0
+
 pub record DemandTwo : Type 0 where
   pub accepted-exactly : (text table : List ℕ) → roomFor text ≤ length table → (compileSays text table .refusal ≡ 0) ↔ Belongs text
   -- what an accepted text gets: the number of its policies, and its compiled bytes at the table's start; the bytes past those stay
@@ -157,9 +166,18 @@ pub record DemandTwo : Type 0 where
       → OutcomeIs (c .text) (look (asBag contents)) (c .request) (decisionFor c .outcome) (decisionFor c .policy)
   pub one-outcome : (text : List ℕ) (view : View) (q : Request) (outcome outcome′ policy policy′ : ℕ)
       → OutcomeIs text view q outcome policy → OutcomeIs text view q outcome′ policy′ → (outcome ≡ outcome′) × (policy ≡ policy′)
-  pub system-names-none : (c : DecideCall) → isSystem (c .request .subject) ≡ true → decisionFor c ≡ record { refusal = 0; outcome = 4; policy = 0 }
+  pub system-names-none : (c : DecideCall) → isSystem (c .request .subject) ≡ true → decisionFor c ≡ record { refusal = 0; outcome = 4; policy = 0; mark = 0 }
   -- a text has at most 64 policies, so that a policy's number fits its byte in a sheet
   pub policy-few : (text : List ℕ) (view : View) (q : Request) (outcome policy : ℕ) → OutcomeIs text view q outcome policy → policy ≤ mostPolicies
+  -- the mark is that of the policies over what the bag holds, there is no other, and it has no bit beyond the 64
+  pub mark-exactly : (c : DecideCall) (contents : Contents) → decisionFor c .refusal ≡ 0 → BagBytes (c .bag) contents
+      → MarkIs (c .text) (look (asBag contents)) (c .request) (decisionFor c .mark)
+  pub one-mark : (text : List ℕ) (view : View) (q : Request) (mark mark′ : ℕ) → MarkIs text view q mark → MarkIs text view q mark′ → mark ≡ mark′
+  pub mark-few : (text : List ℕ) (view : View) (q : Request) (mark : ℕ) → MarkIs text view q mark → mark < 2 ^ mostPolicies
+  -- outcome and policy follow from the mark and the effects of the policies
+  pub mark-decides : (text : List ℕ) (view : View) (q : Request) (ps : List Policy) (outcome policy mark : ℕ) → isSystem (q .subject) ≡ false
+      → Says text ps → OutcomeIs text view q outcome policy → MarkIs text view q mark
+      → (outcome ≡ outcomeOf (decidedBy (effectsOf (wordsOf text ps)) mark)) × (policy ≡ policyOf (decidedBy (effectsOf (wordsOf text ps)) mark))
   -- the words that the policies say decide, without the text's other bytes: two texts that say the same, each with its table, get the same decisions
   pub words-decide : (text text′ table table′ bag : List ℕ) (q : Request) → SayAlike text text′ → Begun text table → Begun text′ table′
       → decideSays text table bag q ≡ decideSays text′ table′ bag q
@@ -171,10 +189,11 @@ pub record DemandTwo : Type 0 where
 abbrev pub attributes : Contents → List Column → List ℕ → View
 attributes base columns choices = look (rowBag (asBag base) (pickedAll columns choices))
 
--- a line of the sheet: a combination that demand 2 answers with yes, with its outcome and deciding policy
+-- a line of the sheet: a combination that demand 2 answers with yes, with its outcome, its deciding policy and its mark
 pub record LineOf (text : List ℕ) (base : Contents) (columns : List Column) (q : Request) (l : Line) : Type 0 where
   pub combination : Combination (counts columns) (l .choices)
   pub decided : OutcomeIs text (attributes base columns (l .choices)) q (l .outcome) (l .policy)
+  pub marked : MarkIs text (attributes base columns (l .choices)) q (l .mark)
   pub yes : Yes (l .outcome)
 
 -- the sheet: all these lines, and no other; the first column slowest, so that each is there exactly once
@@ -236,10 +255,11 @@ Shows contents base columns choices = (root : ℕ) (path : List ℕ) → look (a
 
 pub record DemandThree : Type 0 where
   pub the-sheet : (c : SheetCall) → pageFor c .refusal ≡ 0 → TheSheet c
-  -- a combination is decided as demand 2 decides over any bag that has its attributes
+  -- a combination is decided and marked as demand 2 decides and marks over any bag that has its attributes
   pub decided-alike : (c : DecideCall) (contents base : Contents) (columns : List Column) (choices : List ℕ) → decisionFor c .refusal ≡ 0
       → BagBytes (c .bag) contents → Shows contents base columns choices
       → OutcomeIs (c .text) (attributes base columns choices) (c .request) (decisionFor c .outcome) (decisionFor c .policy)
+      × MarkIs (c .text) (attributes base columns choices) (c .request) (decisionFor c .mark)
   -- a question has as many rows as its columns' candidates have combinations, at most 262,144
   pub rows-counted : (question : List ℕ) (base : Contents) (columns : List Column) → QuestionBytes question base columns
       → rowsSay question ≡ product (counts columns)
@@ -250,8 +270,9 @@ pub record DemandThree : Type 0 where
   pub one-row : (ns choices choices′ : List ℕ) → Combination ns choices → Combination ns choices′ → rowOf ns choices ≡ rowOf ns choices′ → choices ≡ choices′
   pub first-slowest : (ns choices choices′ : List ℕ) → Combination ns choices → Combination ns choices′
       → Sooner choices choices′ ↔ (rowOf ns choices < rowOf ns choices′)
-  -- the four bytes of a row say its number
-  pub row-read : (row outcome policy : ℕ) → row ≤ mostRows → littleEndian (take 4 (sixBytes row outcome policy)) ≡ row
+  -- the first four bytes of a row say its number, and the last eight its mark
+  pub row-read : (row outcome policy mark : ℕ) → row ≤ mostRows → littleEndian (take 4 (listedBytes row outcome policy mark)) ≡ row
+  pub mark-read : (row outcome policy mark : ℕ) → mark < 2 ^ mostPolicies → littleEndian (drop 6 (listedBytes row outcome policy mark)) ≡ mark
   -- whoever follows the pages gets on, is refused no page, and gets to the last row
   pub goes-on : (c : SheetCall) → pageFor c .refusal ≡ 0
       → (c .start < rowsSay (c .question) → c .start < pageFor c .next) × (pageFor c .next ≤ rowsSay (c .question))
@@ -398,7 +419,8 @@ pub record Refusals : Type 0 where
   pub begins-exactly : (text table : List ℕ) → (beginsSays text table ≡ true) ↔ Begun text table
   pub compile-zeros : (text table : List ℕ) → (compileSays text table .refusal ≡ 0 → ⊥)
       → (compileSays text table .policies ≡ 0) × (compileSays text table .bytes ≡ 0)
-  pub decide-zeros : (c : DecideCall) → (decisionFor c .refusal ≡ 0 → ⊥) → (decisionFor c .outcome ≡ 0) × (decisionFor c .policy ≡ 0)
+  pub decide-zeros : (c : DecideCall) → (decisionFor c .refusal ≡ 0 → ⊥)
+      → (decisionFor c .outcome ≡ 0) × (decisionFor c .policy ≡ 0) × (decisionFor c .mark ≡ 0)
   pub lookup-zeros : (bag : List ℕ) (root : ℕ) (path : List ℕ) → (lookupSays bag root path .refusal ≡ 0 → ⊥)
       → lookupSays bag root path ≡ record { refusal = 24; kind = 0; number = nought; place = 0 }
   pub sheet-zeros : (c : SheetCall) → (pageFor c .refusal ≡ 0 → ⊥) → (pageFor c .written ≡ 0) × (pageFor c .next ≡ 0)

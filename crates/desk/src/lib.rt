@@ -8,6 +8,7 @@ ghost use Rattle.desk.specs.Answers.{beginsSays, decidedAs, decideSays, 
 ghost use Rattle.desk.specs.Promises.{CompileAllows, SheetAllows, StringAllows, TallyAllows, LockAllows};
 use compiling::Compiled;
 use meaning::Decision;
+use meaning::Marked;
 
 // What compiling answers: the refusal with its line and column and how many bytes its token has, or the policies and the bytes of the table that they use.
 #[repr(C)]
@@ -20,12 +21,14 @@ pub struct DeskCompiled {
     pub bytes: usize,
 }
 
-// What deciding answers: outcome 1 allowed, 2 forbidden, 3 nothing satisfied, 4 system; and the policy that decided, 0 where none did.
+// What deciding answers: outcome 1 allowed, 2 forbidden, 3 nothing satisfied, 4 system; the policy that decided, 0 where none did; and the mark, of which bit n - 1 is set
+// exactly when policy n is satisfied, 0 for the system.
 #[repr(C)]
 pub struct DeskDecision {
     pub refusal: u32,
     pub outcome: u32,
     pub policy: usize,
+    pub mark: u64,
 }
 
 // An attribute: kind 0 absent, 1 string, 2 number, 3 flag, 4 list of strings; its number; the place of the byte after its kind byte.
@@ -85,30 +88,35 @@ pub extern "C" fn desk_begins(text: &[u8], table: &[u8]) -> bool
     compiling::begins(text, table)
 }
 
-// A decision by its outcome's number, with its policy.
-fn decided(d: Decision) -> DeskDecision
-    ensures { λ r. ⌜ r ≡ decidedAs (decideSaid (Decided d)) ⌝ }
+// A decision by its outcome's number, with its policy and its mark.
+fn decided(m: Marked) -> DeskDecision
+    ensures { λ r. ⌜ r ≡ decidedAs (decideSaid (Decided m)) ⌝ }
 {
+    let d = m.d;
     match d {
         Decision::Allowed(policy) => DeskDecision {
             refusal: 0,
             outcome: 1,
             policy: policy,
+            mark: m.mark,
         },
         Decision::Forbidden(policy) => DeskDecision {
             refusal: 0,
             outcome: 2,
             policy: policy,
+            mark: m.mark,
         },
         Decision::Nothing => DeskDecision {
             refusal: 0,
             outcome: 3,
             policy: 0,
+            mark: m.mark,
         },
         Decision::System => DeskDecision {
             refusal: 0,
             outcome: 4,
             policy: 0,
+            mark: m.mark,
         },
     }
 }
@@ -127,11 +135,12 @@ pub extern "C" fn desk_decide<'a>(
         (request (now (subject .entry)) (now (action .entry)) (now (resource .entry))) ⌝ }
 {
     match deciding::decide(text, table, bag, subject, action, resource) {
-        deciding::Answer::Decided(d) => decided(d),
+        deciding::Answer::Decided(m) => decided(m),
         deciding::Answer::Refused(number) => DeskDecision {
             refusal: number as u32,
             outcome: 0,
             policy: 0,
+            mark: 0,
         },
     }
 }

@@ -77,19 +77,24 @@ pub three-put : {a b c d : List ℕ} {at m n next : ℕ} (x y z : ℕ) → Added
 unfolding numbersLine
 three-put x y z p q r = simp append-assoc at (both-added p (both-added q r))
 
--- a row number of four bytes and two bytes take at most 19 bytes
-pub three-long : (x y z : ℕ) → x < 4294967296 → y < 256 → z < 256 → length (numbersLine (x ∷ y ∷ z ∷ [])) ≤ 19
+-- a number in front of three
+pub four-put : {a b c : List ℕ} {at m next : ℕ} (x y z w : ℕ) → Added a at (decimal x ++ (code " " ∷ [])) b m → Added b m (numbersLine (y ∷ z ∷ w ∷ [])) c next
+    → Added a at (numbersLine (x ∷ y ∷ z ∷ w ∷ [])) c next
 unfolding numbersLine
-three-long x y z f g h =
-    simp length-append (omega (arith, few-digits 9 x (omega arith), few-digits 2 y (omega arith), few-digits 2 z (omega arith)))
+four-put x y z w p q = simp append-assoc at (both-added p q)
 
--- the line of a refusal: its word, its number, and three numbers more
-pub refusal-put : {a b c d : List ℕ} {at m n next : ℕ} (number line column size : ℕ)
+-- a row number of four bytes, two bytes and a mark of eight take at most 40 bytes
+pub four-long : (x y z w : ℕ) → x < 4294967296 → y < 256 → z < 256 → w < 18446744073709551616 → length (numbersLine (x ∷ y ∷ z ∷ w ∷ [])) ≤ 40
+unfolding numbersLine
+four-long x y z w f g h k =
+    simp length-append (omega (arith, few-digits 9 x (omega arith), few-digits 2 y (omega arith), few-digits 2 z (omega arith), few-digits 19 w (omega arith)))
+
+-- the line of a refusal: its word, and four numbers
+pub refusal-put : {a b c : List ℕ} {at m next : ℕ} (number line column size : ℕ)
     → Added a at (code "r" ∷ code "e" ∷ code "f" ∷ code "u" ∷ code "s" ∷ code "e" ∷ code "d" ∷ code " " ∷ []) b m
-    → Added b m (decimal number ++ (code " " ∷ [])) c n → Added c n (numbersLine (line ∷ column ∷ size ∷ [])) d next
-    → Added a at (refusedLine number line column size) d next
-unfolding refusedLine numbersLine
-refusal-put number line column size w p q = simp append-assoc at (both-added w (both-added p q))
+    → Added b m (numbersLine (number ∷ line ∷ column ∷ size ∷ [])) c next → Added a at (refusedLine number line column size) c next
+unfolding refusedLine
+refusal-put number line column size w p = both-added w p
 
 -- a word, and one or two numbers
 pub one-number-put : {a b c word : List ℕ} {at m next : ℕ} (n : ℕ) → Added a at word b m → Added b m (decimal n ++ (code "\n" ∷ [])) c next

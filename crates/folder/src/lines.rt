@@ -86,6 +86,15 @@ pub fn put_three(out: &mut [u8], at: usize, n: usize, m: usize, o: usize) -> usi
     put_number(out, second, o, b'\n')
 }
 
+// A line of four numbers.
+pub fn put_four(out: &mut [u8], at: usize, n: usize, m: usize, o: usize, p: usize) -> usize
+    requires { ⌜ at + 84 ≤ length (now out) ⌝ }
+    ensures { λ r. ⌜ Added (now (out .entry)) at (numbersLine (n ∷ m ∷ o ∷ p ∷ [])) (now (out .exit)) r × (r ≤ at + 84) ⌝ }
+{
+    let first = put_number(out, at, n, b' ');
+    put_three(out, first, m, o, p)
+}
+
 // The line of a refusal: its number, line, column and length.
 pub fn put_refusal(
     out: &mut [u8],
@@ -99,6 +108,5 @@ pub fn put_refusal(
     ensures { λ r. ⌜ Added (now (out .entry)) at (refusedLine number line column size) (now (out .exit)) r × (r ≤ at + 92) ⌝ }
 {
     let word = put_word(out, at, b"refused ");
-    let first = put_number(out, word, number as usize, b' ');
-    put_three(out, first, line, column, size)
+    put_four(out, word, number as usize, line, column, size)
 }

@@ -19,7 +19,7 @@ use Rattle.meaning.specs.Values.{withAction}
 use Rattle.meaning.specs.Decisions.{targetMatches, conditionHolds, satisfied, Numbered}
 use Rattle.kept.specs.Notes.{Alike, Steady, ownOf, otherOf, aimOf, Depths, NoteSays, RowSays, satBy, Noted, Carried, ChosenThere, Met}
 use Rattle.meaning.proofs.Deciding.{numbered-some, numbered-few}
-use Rattle.kept.proofs.Numbering.{numbered-one}
+use Rattle.meaning.proofs.Marking.{numbered-one}
 
 -- ---- what policies look at, found from the last policy to the first
 

@@ -1,7 +1,7 @@
 -- Policies by their numbers. Assumes nothing.
-use mathlib.Core.Path.{_≡_, refl, subst, sym}
+use mathlib.Core.Path.{_≡_}
 use mathlib.Core.List.{List, [], _∷_, _++_}
-use Prim.Native.Nat.{ℕ, zero, suc, _-_, _≤_, _<_}
+use Prim.Native.Nat.{ℕ, zero, suc, _-_, _≤_}
 use native.Mathlib.Omega.{arith}
 use lib.ListN.{length}
 use Rattle.grammar.specs.Policies.{Policy}
@@ -9,7 +9,6 @@ use Rattle.table.specs.declared.Entry.{Entry}
 use Rattle.stored.specs.ReadBack.{policyAt, policiesUpTo, policiesAt}
 use Rattle.stored.specs.Ready.{ReadyPolicies, Last}
 use Rattle.meaning.specs.Decisions.{Numbered, first, later}
-use Rattle.meaning.proofs.Deciding.{numbered-some}
 use Rattle.deciding.proofs.Lowest.{some-left, number-falls}
 
 pub numbered-left : {n : ℕ} {p : Policy} {ps : List Policy} (qs : List Policy) → Numbered n p ps → Numbered n p (ps ++ qs)
@@ -19,22 +18,6 @@ numbered-left qs (later h) = later (numbered-left qs h)
 pub numbered-last : (ps : List Policy) (p : Policy) → Numbered (suc (length ps)) p (ps ++ p ∷ [])
 numbered-last [] p = first
 numbered-last (q ∷ ps) p = later (numbered-last ps p)
-
--- a number is that of one policy
-same-number : {n m : ℕ} {p : Policy} {ps : List Policy} → n ≡ m → Numbered n p ps → Numbered m p ps
-same-number {p = p} {ps = ps} e h = subst (λ (k : ℕ). Numbered k p ps) e h
-
-behind : {n m : ℕ} {p q : Policy} {ps : List Policy} → Numbered n p (q ∷ ps) → n ≡ suc m → 0 < m → Numbered m p ps
-behind first e l = absurd (omega arith)
-behind (later h) e l = same-number (omega arith) h
-
-front : {n : ℕ} {p q : Policy} {ps : List Policy} → Numbered n p (q ∷ ps) → n ≡ 1 → p ≡ q
-front first e = refl
-front (later h) e = let l = numbered-some h in absurd (omega arith)
-
-pub numbered-one : {n : ℕ} {p q : Policy} {ps : List Policy} → Numbered n p ps → Numbered n q ps → p ≡ q
-numbered-one first k = sym (front k refl)
-numbered-one (later h) k = numbered-one h (behind k refl (numbered-some h))
 
 -- ---- the policies left, as they are met from the last to the first
 

@@ -13,8 +13,8 @@ use Rattle.questions.specs.Sizes.{mostColumns, mostCandidates}
 use Rattle.views.specs.Rows.{rowView}
 use Rattle.placing.specs.Said.{policyWords, wordsOf}
 use Rattle.meaning.specs.Targets.{Request}
-use Rattle.meaning.specs.Decisions.{targetMatches, satisfied, Numbered, policiesDecide}
-use Rattle.meaning.specs.declared.Decision.{Decision}
+use Rattle.meaning.specs.Decisions.{targetMatches, satisfied, Numbered, policiesMarked}
+use Rattle.meaning.specs.declared.Marked.{Marked}
 use Rattle.kept.specs.declared.Walk.{Walk}
 
 -- ---- which choices matter
@@ -102,9 +102,9 @@ pub record Met (sat : ℕ → Bool) (i choice : ℕ) (before : List ℕ) (r : Bo
   pub others : (i′ c : ℕ) → (i′ ≡ i → ⊥) → c < mostCandidates → getD after (mostCandidates * i′ + c) 0 ≡ getD before (mostCandidates * i′ + c) 0
   pub long : length after ≡ notesSize
 
--- what the policies decide in the row, with all notes right for it
+-- what the policies decide in the row, with their mark, and all notes right for it
 pub record DecidedFrom (t s : List ℕ) (p : Sections) (n : ℕ) (heads : List ℕ) (q : Request) (ps : List Policy) (looks values : List ℕ)
-    (d : Decision) (notes : List ℕ) : Type 0 where
-  pub is : d ≡ policiesDecide (rowView s p n heads values) q (wordsOf t ps)
+    (r : Marked) (notes : List ℕ) : Type 0 where
+  pub is : r ≡ policiesMarked (rowView s p n heads values) q (wordsOf t ps)
   pub noted : Noted t s p n heads q ps looks values 0 (length ps) notes
   pub long : length notes ≡ notesSize

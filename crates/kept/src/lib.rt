@@ -20,8 +20,9 @@ use crate::depths::AIMS;
 use bags::sections::Sections;
 use deciding::row::by_numbers;
 use deciding::row::condition_holds;
+use deciding::row::mark_with;
 use deciding::row::number_if;
-use meaning::Decision;
+use meaning::Marked;
 use questions::sizes::MOST_CANDIDATES;
 use questions::sizes::MOST_COLUMNS;
 use table::Entry;
@@ -156,7 +157,7 @@ fn met<'a>(
     hit
 }
 
-// What the policies decide in the row. The notes are those of a row that chooses alike in the columns before number `from` of the walk, and are then this
+// What the policies decide in the row, with their mark. The notes are those of a row that chooses alike in the columns before number `from` of the walk, and are then this
 // row's; `looks` has what each policy looks at. The policies are met from the last to the first.
 pub fn decision_from<'a>(
     walk: Walk,
@@ -169,7 +170,7 @@ pub fn decision_from<'a>(
     heads: &[usize; MOST_COLUMNS],
     values: &[usize; MOST_COLUMNS],
     action: &'a [u8],
-) -> Decision
+) -> Marked
     requires { ⌜ ReadyPolicies (now text) (now table) (walk .entries) ⌝ }
     requires { ⌜ walk .policies ≡ length (policiesAt (now table) (walk .entries)) ⌝ }
     requires { ⌜ walk .policies ≤ mostPolicies ⌝ }
@@ -190,6 +191,7 @@ pub fn decision_from<'a>(
     let mut number = walk.policies;
     let mut forbid = 0;
     let mut permit = 0;
+    let mut mark = 0;
     while 0 < end {
         let x = entry_at(table, end - 1);
         let i = number - 1;
@@ -220,8 +222,10 @@ pub fn decision_from<'a>(
         let permits = x.kind == entries::PERMIT;
         forbid = number_if(satisfied & !permits, number, forbid);
         permit = number_if(satisfied & permits, number, permit);
+        mark = mark_with(satisfied, mark);
         end = x.first;
         number = i;
     }
-    by_numbers(forbid, permit)
+    let d = by_numbers(forbid, permit);
+    Marked { d: d, mark: mark }
 }

@@ -1,8 +1,8 @@
--- Document 01's cases G, H, I and L, and rules of 'Deciding', computed from the definitions. Assumes nothing.
+-- Document 01's cases G, H, I and L, rules of 'Deciding', and marks (document 02, request 6), computed from the definitions. Assumes nothing.
 use mathlib.Core.Path.{_≡_, refl}
 use mathlib.Core.Bool.{true, cond, _&&_}
-use mathlib.Core.List.{List, [], _∷_}
-use Prim.Native.Nat.{ℕ}
+use mathlib.Core.List.{List, [], _∷_, _++_}
+use Prim.Native.Nat.{ℕ, zero, suc}
 use Prim.Native.String.{String}
 use lib.Dec.{eqb}
 use lib.Ieee.{binary64, ofBits}
@@ -17,7 +17,7 @@ use Rattle.views.specs.Meaning.{text, number, flag, texts, absent, View}
 use Rattle.meaning.specs.Values.{withAction}
 use Rattle.meaning.specs.Conditions.{verdict}
 use Rattle.meaning.specs.Targets.{Request}
-use Rattle.meaning.specs.Decisions.{decisionOf, outcomeOf, policyOf}
+use Rattle.meaning.specs.Decisions.{decisionOf, outcomeOf, policyOf, decidedMark}
 use Rattle.meaning.specs.declared.Verdict.{Verdict}
 use Rattle.meaning.specs.declared.Verdict.the-variants.{Yes, No, Missing}
 use Rattle.meaning.specs.declared.Decision.{Decision}
@@ -65,6 +65,31 @@ getsFor subject resource s =
 -- what person:K7 gets, who wants to teach shaft:A
 abbrev pub gets : String → Decision
 gets s = getsFor "person:K7" "shaft:A" s
+
+-- the mark of policies that were read
+abbrev pub markIn : List ℕ → View → Request → Answer (List Policy) → ℕ
+markIn t view q (took ps r) = decidedMark view q (wordsOf t ps)
+markIn t view q (refuse n r) = 0
+
+-- the mark for a subject who wants to teach shaft:A under a text, where no attribute is known
+abbrev pub marksFor : String → List ℕ → ℕ
+marksFor subject t =
+    markIn t nothing (record { subject = bytes subject; action = bytes "teach"; resource = bytes "shaft:A" }) (read-text (tokensOf t))
+
+-- so many times the same bytes
+abbrev pub times : ℕ → List ℕ → List ℕ
+times zero s = []
+times (suc n) s = s ++ times n s
+
+-- a policy that is satisfied, one that is, and forbids, and one that is not
+abbrev pub some-permit : List ℕ
+some-permit = bytes "permit(principal,action,resource);"
+
+abbrev pub some-forbid : List ℕ
+some-forbid = bytes "forbid(principal,action,resource);"
+
+abbrev pub tools-only : List ℕ
+tools-only = bytes "permit(principal is tool,action,resource);"
 
 pub record Computed : Type 0 where
   pub case-g : found nothing "true || false && false" ≡ Yes
@@ -130,6 +155,12 @@ pub record Computed : Type 0 where
       × Holds "principal.a like \"shaft:*\""
       × Holds "action has name && action.name == \"teach\" && action.name in [\"store\", \"teach\"]"
       × Fails "action.name.containsAny([\"teach\"])"
+  -- the mark has every satisfied policy, those before and behind a forbid too; with 64 policies of which the first and the last are satisfied its lowest and its highest
+  -- bit are set; the system's has none
+  pub marks :
+      (marksFor "person:K7" (some-permit ++ tools-only ++ some-forbid ++ tools-only ++ some-permit) ≡ 21)
+      × (marksFor "person:K7" (some-permit ++ times 62 tools-only ++ some-permit) ≡ 9223372036854775809)
+      × (marksFor "system" some-permit ≡ 0)
   -- targets: `is` by what stands before the first colon, `==` the whole string, the action list; the system first
   pub targets :
       (gets "permit(principal is tool,action,resource);permit(principal is person,action in [\"teach\"],resource is shaft);" ≡ Allowed 2)
@@ -154,5 +185,6 @@ computed = record {
   in-attributes = (refl, refl, refl, refl, refl);
   contents = (refl, refl, refl, refl, refl);
   others = (refl, refl, refl, refl);
+  marks = (refl, refl, refl);
   targets = (refl, refl, refl, refl, refl, refl, refl);
 }

@@ -1,4 +1,5 @@
 pub mod Deciding
+pub mod Marking
 pub mod Paths
 pub mod WordLaws
 pub mod Opened

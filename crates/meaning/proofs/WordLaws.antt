@@ -7,7 +7,7 @@ use lib.ListN.{length}
 use Rattle.grammar.specs.Policies.{LiteralOf, Literal, Which, Which.All, Which.Any, PolicyOf, Policy}
 use Rattle.placing.specs.Said.{Word, literalWords, listWords, policyWords, wordsOf}
 use Rattle.meaning.specs.Conditions.{some, all, asked}
-use Rattle.meaning.specs.Decisions.{firstOf}
+use Rattle.meaning.specs.Decisions.{firstOf, markBy}
 
 module _ (t : List ℕ) where
   pub some-words : (test : LiteralOf Word → Bool) (ls : List Literal) → some test (listWords t ls) ≡ some (λ l. test (literalWords t l)) ls
@@ -28,6 +28,11 @@ module _ (t : List ℕ) where
   unfolding firstOf wordsOf
   first-words test n [] = refl
   first-words test n (p ∷ ps) = rw (first-words test (suc n) ps)
+
+  pub mark-words : (test : PolicyOf Word → Bool) (ps : List Policy) → markBy test (wordsOf t ps) ≡ markBy (λ p. test (policyWords t p)) ps
+  unfolding markBy wordsOf
+  mark-words test [] = refl
+  mark-words test (p ∷ ps) = rw (mark-words test ps)
 
   pub many-words : (ps : List Policy) → length (wordsOf t ps) ≡ length ps
   unfolding wordsOf

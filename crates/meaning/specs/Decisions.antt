@@ -1,10 +1,11 @@
--- When a policy is satisfied, and what is decided (document 01, 'Deciding'; demand 2). Definitions only.
+-- When a policy is satisfied, what is decided, and the mark (document 01, 'Deciding'; demand 2; document 02, request 6). Definitions only.
 use mathlib.Core.Path.{_≡_}
 use mathlib.Core.Logic.{_⊎_, _↔_}
 use mathlib.Core.Bool.{Bool, true, false, cond, not, _&&_}
-use mathlib.Core.List.{List, [], _∷_}
+use mathlib.Core.List.{List, [], _∷_, map}
 use mathlib.Core.Option.{Option, none, some}
-use Prim.Native.Nat.{ℕ, zero, suc, _≤_}
+use Prim.Native.Nat.{ℕ, zero, suc, _+_, _-_, _*_, _/_, _%_, _^_, _≤_, _<_}
+use lib.Dec.{eqb}
 use Rattle.grammar.specs.Policies.{TreeOf, PolicyOf}
 use Rattle.grammar.specs.Rules.{principalTypes, resourceTypes}
 use Rattle.placing.specs.Said.{Word}
@@ -14,6 +15,7 @@ use Rattle.meaning.specs.Conditions.{verdict, isYes}
 use Rattle.meaning.specs.Targets.{Request, isSystem, partMatches, actionMatches}
 use Rattle.meaning.specs.declared.Decision.{Decision}
 use Rattle.meaning.specs.declared.Decision.the-variants.{Allowed, Forbidden, Nothing, System}
+use Rattle.meaning.specs.declared.Marked.{Marked}
 
 -- ---- satisfied policies
 
@@ -80,6 +82,46 @@ isAllowed (Forbidden n) = false
 isAllowed Nothing = false
 isAllowed System = true
 
+-- ---- the mark
+
+-- the mark of a list: bit n - 1 is set exactly when number n of it passes the test
+unfoldable pub markBy : {A : Type 0} → (A → Bool) → List A → ℕ
+markBy test [] = 0
+markBy test (p ∷ ps) = cond (test p) 1 0 + 2 * markBy test ps
+
+-- that of the satisfied policies
+abbrev pub markOf : View → Request → List (PolicyOf Word) → ℕ
+markOf view q ps = markBy (satisfied view q) ps
+
+-- a decision's mark: none for the system
+unfoldable pub decidedMark : View → Request → List (PolicyOf Word) → ℕ
+decidedMark view q ps = cond (isSystem (q .subject)) 0 (markOf view q ps)
+
+-- what the policies decide, with their mark
+abbrev pub policiesMarked : View → Request → List (PolicyOf Word) → Marked
+policiesMarked view q ps = record { d = policiesDecide view q ps; mark = markOf view q ps }
+
+-- the same, the system first
+abbrev pub markedOf : View → Request → List (PolicyOf Word) → Marked
+markedOf view q ps = record { d = decisionOf view q ps; mark = decidedMark view q ps }
+
+-- the system's
+abbrev pub systemMarked : Marked
+systemMarked = record { d = System; mark = 0 }
+
+-- whether each policy permits
+abbrev pub effectsOf : List (PolicyOf Word) → List Bool
+effectsOf ps = map (λ p. p .permits) ps
+
+-- the number of the first policy of this effect whose bit is set, where they count from n on; 0 where there is none
+unfoldable pub firstMarked : (Bool → Bool) → ℕ → List Bool → ℕ → ℕ
+firstMarked effect n [] mark = 0
+firstMarked effect n (permits ∷ rest) mark = cond (effect permits && eqb (mark % 2) 1) n (firstMarked effect (suc n) rest (mark / 2))
+
+-- the decision by the mark and the effects alone: the lowest-numbered forbid whose bit is set, else the lowest-numbered such permit
+unfoldable pub decidedBy : List Bool → ℕ → Decision
+decidedBy effects mark = byNumbers (firstMarked not 1 effects mark) (firstMarked (λ permits. permits) 1 effects mark)
+
 -- ---- demand 2, without computing
 
 -- number n of a list, from 1 on
@@ -123,3 +165,34 @@ NamedRightly = (view : View) (q : Request) (ps : List (PolicyOf Word)) → Names
 -- And there is one such number.
 unfoldable pub OneName : Type 0
 OneName = (view : View) (q : Request) (ps : List (PolicyOf Word)) (m n : ℕ) → NamesPolicy view q ps m → NamesPolicy view q ps n → m ≡ n
+
+-- ---- the mark, without computing
+
+-- bit n - 1 of a mark is set, n from 1 on
+pub record BitSet (mark n : ℕ) : Type 0 where
+  pub some : 0 < n
+  pub set : mark / 2 ^ (n - 1) % 2 ≡ 1
+
+-- policy number n is satisfied
+pub record SatisfiedAt (view : View) (q : Request) (ps : List (PolicyOf Word)) (n : ℕ) : Type 0 where
+  pub policy : PolicyOf Word
+  pub numbered : Numbered n policy ps
+  pub satisfied-there : satisfied view q policy ≡ true
+
+-- A mark for any subject but the system: bit n - 1 is set exactly when policy n is satisfied, for every n. For the system no bit is.
+pub data MarksExactly (view : View) (q : Request) (ps : List (PolicyOf Word)) : ℕ → Type 0 where
+  for-the-system : isSystem (q .subject) ≡ true → MarksExactly view q ps 0
+  for-another : {mark : ℕ} → isSystem (q .subject) ≡ false → ((n : ℕ) → BitSet mark n ↔ SatisfiedAt view q ps n) → MarksExactly view q ps mark
+
+-- A decision's mark marks so.
+unfoldable pub MarkedRightly : Type 0
+MarkedRightly = (view : View) (q : Request) (ps : List (PolicyOf Word)) → MarksExactly view q ps (decidedMark view q ps)
+
+-- And there is one such number.
+unfoldable pub OneMark : Type 0
+OneMark = (view : View) (q : Request) (ps : List (PolicyOf Word)) (m n : ℕ) → MarksExactly view q ps m → MarksExactly view q ps n → m ≡ n
+
+-- Outcome and policy follow from mark and effects.
+unfoldable pub MarkDecides : Type 0
+MarkDecides = (view : View) (q : Request) (ps : List (PolicyOf Word)) (mark : ℕ) → isSystem (q .subject) ≡ false → MarksExactly view q ps mark
+    → decisionOf view q ps ≡ decidedBy (effectsOf ps) mark

@@ -14,3 +14,9 @@ pub enum Decision {
     Nothing,
     System,
 }
+
+// A decision with its mark: bit n - 1 is set exactly when policy n is satisfied, and none for the system.
+pub struct Marked {
+    pub d: Decision,
+    pub mark: u64,
+}

@@ -3,7 +3,7 @@ use mathlib.Core.Path.{_≡_, refl, sym, ap, _∙_, subst}
 use mathlib.Core.Logic.{_↔_, ⊎-elim}
 use mathlib.Core.Bool.{Bool, true, false}
 use mathlib.Core.List.{List, [], _∷_, map, List·Memᴰ, List·Memᴰ·head, List·Memᴰ·tail, List·Memᴰ·not-nil, List·Memᴰ·cases-cons, Memᴰ·map, Memᴰ·of-map, Memᴰ·cast}
-use Prim.Native.Nat.{ℕ, zero, suc, _+_, _≤_, _<_, zero-le}
+use Prim.Native.Nat.{ℕ, zero, suc, _+_, _/_, _^_, _≤_, _<_, zero-le}
 use native.Mathlib.Decide.{decLt, ℕ-discrete}
 use native.Mathlib.Omega.{arith}
 use borrow.Author.Tests.{le-leb, lt-leb}
@@ -12,7 +12,7 @@ use Rattle.questions.specs.Questions.{product}
 use Rattle.meaning.specs.Decisions.{outcomeOf, policyOf, isAllowed}
 use Rattle.meaning.specs.declared.Decision.{Decision}
 use Rattle.pages.specs.Rows.{Combination, none, chosen, rowOf, choicesAt}
-use Rattle.pages.specs.Listing.{consIf, yesOf, listed, pageRows, nextRow, sixBytes, rowsBytes}
+use Rattle.pages.specs.Listing.{consIf, yesOf, listed, pageRows, nextRow, lowFirst, listedBytes, rowsBytes}
 use Rattle.pages.specs.Lines as lines
 use Rattle.pages.specs.Lines.{Line, Sooner, here, later, InOrder, one, more, linesBytes, littleEndian, linesFrom, firstRow}
 use Rattle.pages.proofs.Combinations.{row-below, choices-of-row, choices-combine, row-of-choices, first-slowest}
@@ -113,14 +113,18 @@ among-taken (suc n) (y ∷ l) i = ⊎-elim List·Memᴰ·head (λ k. List·Mem�
 
 -- ---- the lines of the listed rows
 
-module _ (f : List ℕ → Decision) (ns : List ℕ) where
+-- a row's decision
+abbrev pub decidedAt : (List ℕ → Decision) → List ℕ → ℕ → Decision
+decidedAt f ns row = f (choicesAt ns row)
+
+-- and its mark
+abbrev pub markedAt : (List ℕ → ℕ) → List ℕ → ℕ → ℕ
+markedAt g ns row = g (choicesAt ns row)
+
+module _ (f : List ℕ → Decision) (g : List ℕ → ℕ) (ns : List ℕ) where
   -- a combination's line
   abbrev pub lineOf : List ℕ → Line
-  lineOf choices = record { choices = choices; outcome = outcomeOf (f choices); policy = policyOf (f choices) }
-
-  -- a row's decision
-  abbrev pub decidedAt : ℕ → Decision
-  decidedAt row = f (choicesAt ns row)
+  lineOf choices = record { choices = choices; outcome = outcomeOf (f choices); policy = policyOf (f choices); mark = g choices }
 
   -- a row's line
   abbrev pub lineAt : ℕ → Line
@@ -128,7 +132,7 @@ module _ (f : List ℕ → Decision) (ns : List ℕ) where
 
   -- the listed rows, as lines
   abbrev pub linesOf : List Line
-  linesOf = map lineAt (listed decidedAt (product ns) 0)
+  linesOf = map lineAt (listed (decidedAt f ns) (product ns) 0)
 
   -- a line is listed exactly if it is that of a combination that is answered with yes
   pub lines-yes : (l : Line) → List·Memᴰ l linesOf ↔ ((Combination ns (l .choices)) × (l ≡ lineOf (l .choices)) × (isAllowed (f (l .choices)) ≡ true))
@@ -136,14 +140,14 @@ module _ (f : List ℕ → Decision) (ns : List ℕ) where
     where
       to : List·Memᴰ l linesOf → (Combination ns (l .choices)) × (l ≡ lineOf (l .choices)) × (isAllowed (f (l .choices)) ≡ true)
       to i =
-          let r = Memᴰ·of-map lineAt (listed decidedAt (product ns) 0) i in
-          let h = lists-yes decidedAt (product ns) 0 (r .0) .0 (r .1) in
+          let r = Memᴰ·of-map lineAt (listed (decidedAt f ns) (product ns) 0) i in
+          let h = lists-yes (decidedAt f ns) (product ns) 0 (r .0) .0 (r .1) in
           rw (← r .2) (choices-combine ns (r .0) (h .1), refl, h .2)
 
       from : (Combination ns (l .choices)) × (l ≡ lineOf (l .choices)) × (isAllowed (f (l .choices)) ≡ true) → List·Memᴰ l linesOf
       from h =
           let back = choices-of-row (h .0) in
-          let m = lists-yes decidedAt (product ns) 0 (rowOf ns (l .choices)) .1 (zero-le, row-below (h .0), rw back (h .2)) in
+          let m = lists-yes (decidedAt f ns) (product ns) 0 (rowOf ns (l .choices)) .1 (zero-le, row-below (h .0), rw back (h .2)) in
           Memᴰ·cast (h .1 ∙ ap lineOf (sym back)) (Memᴰ·map lineAt m)
 
   -- rows that ascend have lines in order
@@ -160,9 +164,9 @@ module _ (f : List ℕ → Decision) (ns : List ℕ) where
 
   pub lines-ordered : InOrder linesOf
   lines-ordered =
-      rising (listed decidedAt (product ns) 0) (λ row i. lists-yes decidedAt (product ns) 0 row .0 i .1) (list-ascends decidedAt (product ns) 0)
+      rising (listed (decidedAt f ns) (product ns) 0) (λ row i. lists-yes (decidedAt f ns) (product ns) 0 row .0 i .1) (list-ascends (decidedAt f ns) (product ns) 0)
 
-  row-bytes : (rows : List ℕ) → ((row : ℕ) → List·Memᴰ row rows → row < product ns) → rowsBytes decidedAt rows ≡ linesBytes ns (map lineAt rows)
+  row-bytes : (rows : List ℕ) → ((row : ℕ) → List·Memᴰ row rows → row < product ns) → rowsBytes (decidedAt f ns) (markedAt g ns) rows ≡ linesBytes ns (map lineAt rows)
   unfolding rowsBytes linesBytes
   row-bytes [] below = refl
   row-bytes (r ∷ rows) below =
@@ -184,27 +188,27 @@ module _ (f : List ℕ → Decision) (ns : List ℕ) where
   passed-over start row true rows h k = rw (row-of-choices ns row k, lt-leb start row h)
 
   from-row : (start n row : ℕ) → row ≤ start → start ≤ product ns → row + n ≡ product ns
-      → linesFrom ns start (map lineAt (yesOf decidedAt row n)) ≡ map lineAt (listed decidedAt (product ns) start)
+      → linesFrom ns start (map lineAt (yesOf (decidedAt f ns) row n)) ≡ map lineAt (listed (decidedAt f ns) (product ns) start)
   unfolding yesOf linesFrom
-  from-row start zero row l h e = let q : start + 0 ≡ product ns = omega arith in rw (listed-at decidedAt (product ns) 0 start q)
+  from-row start zero row l h e = let q : start + 0 ≡ product ns = omega arith in rw (listed-at (decidedAt f ns) (product ns) 0 start q)
   from-row start (suc n) row l h e = elim (ℕ-discrete row start) [
     | yes q ↦
-        let k : listed decidedAt (product ns) start ≡ yesOf decidedAt row (suc n) = rw (← q) (listed-at decidedAt (product ns) (suc n) row e) in
+        let k : listed (decidedAt f ns) (product ns) start ≡ yesOf (decidedAt f ns) row (suc n) = rw (← q) (listed-at (decidedAt f ns) (product ns) (suc n) row e) in
         ap (λ (rows : List ℕ). linesFrom ns start (map lineAt rows)) (sym k)
-        ∙ kept-all start (listed decidedAt (product ns) start) (λ row i. let y = lists-yes decidedAt (product ns) start row .0 i in (y .0, y .1))
+        ∙ kept-all start (listed (decidedAt f ns) (product ns) start) (λ row i. let y = lists-yes (decidedAt f ns) (product ns) start row .0 i in (y .0, y .1))
     | no q ↦
-        passed-over start row (isAllowed (decidedAt row)) (yesOf decidedAt (suc row) n) (omega arith) (omega arith)
+        passed-over start row (isAllowed (decidedAt f ns row)) (yesOf (decidedAt f ns) (suc row) n) (omega arith) (omega arith)
         ∙ from-row start n (suc row) (omega arith) h (omega arith)
   ]
 
   -- the lines from a start row on are those of the rows listed from there
-  pub lines-from : (start : ℕ) → start ≤ product ns → linesFrom ns start linesOf ≡ map lineAt (listed decidedAt (product ns) start)
-  lines-from start h = rw (listed-at decidedAt (product ns) (product ns) 0 (omega arith)) (from-row start (product ns) 0 zero-le h (omega arith))
+  pub lines-from : (start : ℕ) → start ≤ product ns → linesFrom ns start linesOf ≡ map lineAt (listed (decidedAt f ns) (product ns) start)
+  lines-from start h = rw (listed-at (decidedAt f ns) (product ns) (product ns) 0 (omega arith)) (from-row start (product ns) 0 zero-le h (omega arith))
 
   -- and have their bytes
-  pub lines-bytes : (start : ℕ) → start ≤ product ns → rowsBytes decidedAt (listed decidedAt (product ns) start) ≡ linesBytes ns (linesFrom ns start linesOf)
+  pub lines-bytes : (start : ℕ) → start ≤ product ns → rowsBytes (decidedAt f ns) (markedAt g ns) (listed (decidedAt f ns) (product ns) start) ≡ linesBytes ns (linesFrom ns start linesOf)
   lines-bytes start h =
-      row-bytes (listed decidedAt (product ns) start) (λ row i. lists-yes decidedAt (product ns) start row .0 i .1) ∙ ap (linesBytes ns) (sym (lines-from start h))
+      row-bytes (listed (decidedAt f ns) (product ns) start) (λ row i. lists-yes (decidedAt f ns) (product ns) start row .0 i .1) ∙ ap (linesBytes ns) (sym (lines-from start h))
 
   -- ---- a page of them
 
@@ -217,21 +221,29 @@ module _ (f : List ℕ → Decision) (ns : List ℕ) where
 
   -- as many lines as there is room for, their bytes, and the row of the first that has none
   pub page-lines : (start room : ℕ) → start ≤ product ns
-      → (length (pageRows decidedAt (product ns) start room) ≡ length (take room (linesFrom ns start linesOf)))
-      × (rowsBytes decidedAt (pageRows decidedAt (product ns) start room) ≡ linesBytes ns (take room (linesFrom ns start linesOf)))
-      × (nextRow decidedAt (product ns) start room ≡ firstRow ns (drop room (linesFrom ns start linesOf)))
+      → (length (pageRows (decidedAt f ns) (product ns) start room) ≡ length (take room (linesFrom ns start linesOf)))
+      × (rowsBytes (decidedAt f ns) (markedAt g ns) (pageRows (decidedAt f ns) (product ns) start room) ≡ linesBytes ns (take room (linesFrom ns start linesOf)))
+      × (nextRow (decidedAt f ns) (product ns) start room ≡ firstRow ns (drop room (linesFrom ns start linesOf)))
   unfolding pageRows nextRow
   page-lines start room h =
-      let rows = listed decidedAt (product ns) start in
-      let below : (row : ℕ) → List·Memᴰ row rows → row < product ns = λ row i. lists-yes decidedAt (product ns) start row .0 i .1 in
+      let rows = listed (decidedAt f ns) (product ns) start in
+      let below : (row : ℕ) → List·Memᴰ row rows → row < product ns = λ row i. lists-yes (decidedAt f ns) (product ns) start row .0 i .1 in
       rw (lines-from start h, ← map-take lineAt room rows) (
         sym (length-map (take room rows) lineAt),
         row-bytes (take room rows) (λ row i. below row (among-taken room rows i)),
         sym (first-there rows room below),
       )
 
--- ---- the bytes of a row number
+-- ---- the bytes of a number
 
--- the four bytes give the row number back
-pub row-read : (row outcome policy : ℕ) → row ≤ 262144 → littleEndian (take 4 (sixBytes row outcome policy)) ≡ row
-row-read row outcome policy h = omega arith
+-- so many bytes give the number back that has no more of them
+pub low-first-read : (k n : ℕ) → n < 256 ^ k → littleEndian (lowFirst k n) ≡ n
+low-first-read zero n h = omega arith
+low-first-read (suc k) n h = let r = low-first-read k (n / 256) (omega arith) in omega arith
+
+-- the four bytes of a row give its number back, and the eight its mark
+pub row-read : (row outcome policy mark : ℕ) → row ≤ 262144 → littleEndian (take 4 (listedBytes row outcome policy mark)) ≡ row
+row-read row outcome policy mark h = low-first-read 4 row (omega arith)
+
+pub mark-read : (row outcome policy mark : ℕ) → mark < 2 ^ 64 → littleEndian (drop 6 (listedBytes row outcome policy mark)) ≡ mark
+mark-read row outcome policy mark h = low-first-read 8 mark (omega arith)

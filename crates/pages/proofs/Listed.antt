@@ -201,28 +201,28 @@ lists-combinations f {counts} {choices} ok =
 
 -- ---- what is written, page by page
 
-module _ (d : ℕ → Decision) (rows : ℕ) where
-  module _ (start : ℕ) (before : List ℕ) (p : Page) (after : List ℕ) (within : start ≤ rows) (w : PageWritten d rows start before p after) where
-    page-bytes : take (rowSize * p .written) after ≡ rowsBytes d (pageRows d rows start (roomIn before))
+module _ (d : ℕ → Decision) (m : ℕ → ℕ) (rows : ℕ) where
+  module _ (start : ℕ) (before : List ℕ) (p : Page) (after : List ℕ) (within : start ≤ rows) (w : PageWritten d m rows start before p after) where
+    page-bytes : take (rowSize * p .written) after ≡ rowsBytes d m (pageRows d rows start (roomIn before))
     page-bytes =
         let l = pageRows d rows start (roomIn before) in
-        rw (w .bytes) (take-at (rowsBytes d l) (drop (length (rowsBytes d l)) before) (rowSize * p .written) (bytes-length d l ∙ ap (λ (n : ℕ). rowSize * n) (sym (w .written))))
+        rw (w .bytes) (take-at (rowsBytes d m l) (drop (length (rowsBytes d m l)) before) (rowSize * p .written) (bytes-length d m l ∙ ap (λ (n : ℕ). rowSize * n) (sym (w .written))))
 
     -- what a page wrote, with what is listed from there on
-    page-lists : take (rowSize * p .written) after ++ rowsBytes d (listed d rows (p .next)) ≡ rowsBytes d (listed d rows start)
+    page-lists : take (rowSize * p .written) after ++ rowsBytes d m (listed d rows (p .next)) ≡ rowsBytes d m (listed d rows start)
     unfolding pageRows
     page-lists =
         let room = roomIn before in
-        rw (page-bytes, w .next, next-lists d rows start room within, ← bytes-append d (take room (listed d rows start)) (drop room (listed d rows start)), take-append-drop)
+        rw (page-bytes, w .next, next-lists d rows start room within, ← bytes-append d m (take room (listed d rows start)) (drop room (listed d rows start)), take-append-drop)
 
-  written-so-far : {start : ℕ} {bytes : List ℕ} {last : ℕ} → Written d rows start bytes last → bytes ++ rowsBytes d (listed d rows last) ≡ rowsBytes d (listed d rows start)
+  written-so-far : {start : ℕ} {bytes : List ℕ} {last : ℕ} → Written d m rows start bytes last → bytes ++ rowsBytes d m (listed d rows last) ≡ rowsBytes d m (listed d rows start)
   written-so-far nothing = refl
   written-so-far (page {start = start} {before = before} {p = p} {after = after} h w more) = rw (append-assoc, written-so-far more) (page-lists start before p after h w)
 
-  no-bytes : rowsBytes d (listed d rows rows) ≡ []
+  no-bytes : rowsBytes d m (listed d rows rows) ≡ []
   unfolding rowsBytes
   no-bytes = rw (listed-none d rows)
 
   -- from any start row to the last row, what the pages wrote, joined, is the bytes of the list
-  pub all-written : {start : ℕ} {bytes : List ℕ} → Written d rows start bytes rows → bytes ≡ rowsBytes d (listed d rows start)
+  pub all-written : {start : ℕ} {bytes : List ℕ} → Written d m rows start bytes rows → bytes ≡ rowsBytes d m (listed d rows start)
   all-written w = rw (no-bytes, append-nil) at (written-so-far w)

@@ -59,29 +59,33 @@ module _ (test : List ℕ → Bool) (ns : List ℕ) where
   abbrev chosen-by : List ℕ → Decision
   chosen-by choices = asYes (test choices)
 
+  -- their marks do not matter
+  abbrev unmarked : List ℕ → ℕ
+  unmarked choices = 0
+
   abbrev those : List (List ℕ)
-  those = map (λ l. l .choices) (linesOf chosen-by ns)
+  those = map (λ l. l .choices) (linesOf chosen-by unmarked ns)
 
   listed-there : (choices : List ℕ) → List·Memᴰ choices those ↔ (Combination ns choices × (test choices ≡ true))
   listed-there choices = (to, from)
     where
       to : List·Memᴰ choices those → Combination ns choices × (test choices ≡ true)
       to i =
-          let r = Memᴰ·of-map (λ l. l .choices) (linesOf chosen-by ns) i in
-          let y = lines-yes chosen-by ns (r .0) .0 (r .1) in
+          let r = Memᴰ·of-map (λ l. l .choices) (linesOf chosen-by unmarked ns) i in
+          let y = lines-yes chosen-by unmarked ns (r .0) .0 (r .1) in
           rw (← r .2) (y .0, sym (yes-is (test (r .0 .choices))) ∙ y .2)
 
       from : Combination ns choices × (test choices ≡ true) → List·Memᴰ choices those
-      from h = Memᴰ·map (λ l. l .choices) (lines-yes chosen-by ns (lineOf chosen-by ns choices) .1 (h .0, refl, yes-is (test choices) ∙ h .1))
+      from h = Memᴰ·map (λ l. l .choices) (lines-yes chosen-by unmarked ns (lineOf chosen-by unmarked ns choices) .1 (h .0, refl, yes-is (test choices) ∙ h .1))
 
   -- as many as rows whose choices pass it
   pub so-many : SoMany ns (λ choices. test choices ≡ true) (howMany (λ row. test (choicesAt ns row)) (product ns))
   so-many = record {
     those = those;
     lists = listed-there;
-    in-order = in-turn (lines-ordered chosen-by ns);
+    in-order = in-turn (lines-ordered chosen-by unmarked ns);
     many =
-        length-map (linesOf chosen-by ns) (λ l. l .choices) ∙ length-map (listed (decidedAt chosen-by ns) (product ns) 0) (lineAt chosen-by ns)
+        length-map (linesOf chosen-by unmarked ns) (λ l. l .choices) ∙ length-map (listed (decidedAt chosen-by ns) (product ns) 0) (lineAt chosen-by unmarked ns)
         ∙ listed-many (decidedAt chosen-by ns) (product ns)
         ∙ how-many-same (λ row. isAllowed (decidedAt chosen-by ns row)) (λ row. test (choicesAt ns row)) (product ns) (λ row h. yes-is (test (choicesAt ns row)));
   }

@@ -1,4 +1,5 @@
--- The sheet as lines: a combination with its outcome and its deciding policy, the order of lines, and their bytes (document 01, 'The sheet'). Definitions only.
+-- The sheet as lines: a combination with its outcome, its deciding policy and its mark, the order of lines, and their bytes (document 01, 'The sheet'; document
+-- 02, request 6). Definitions only.
 use Prim.Native.Nat.{ℕ, _+_, _*_, _<_}
 use mathlib.Core.Bool.{cond}
 use mathlib.Core.List.{List, [], _∷_, _++_, map}
@@ -7,13 +8,14 @@ use lib.ListN.{length}
 use Rattle.questions.specs.Questions.{product}
 use Rattle.questions.specs.Forms.{Column}
 use Rattle.pages.specs.Rows.{rowOf}
-use Rattle.pages.specs.Listing.{sixBytes}
+use Rattle.pages.specs.Listing.{listedBytes}
 
--- a line: what is chosen in each column, the outcome there, and the policy that decided
+-- a line: what is chosen in each column, the outcome there, the policy that decided, and the mark
 pub record Line : Type 0 where
   pub choices : List ℕ
   pub outcome : ℕ
   pub policy : ℕ
+  pub mark : ℕ
 
 -- first column slowest: of two combinations that one comes first which has the earlier choice in the first column where they differ
 pub data Sooner : List ℕ → List ℕ → Type 0 where
@@ -30,9 +32,9 @@ pub data InOrder : List Line → Type 0 where
 abbrev pub counts : List Column → List ℕ
 counts = map (λ c. length (c .choices))
 
--- a line's bytes, where the columns have so many candidates: the number of the combination's row, the outcome and the policy
+-- a line's bytes, where the columns have so many candidates: the number of the combination's row, the outcome, the policy and the mark
 abbrev pub lineBytes : List ℕ → Line → List ℕ
-lineBytes ns l = sixBytes (rowOf ns (l .choices)) (l .outcome) (l .policy)
+lineBytes ns l = listedBytes (rowOf ns (l .choices)) (l .outcome) (l .policy) (l .mark)
 
 -- the bytes of lines, one after the other
 unfoldable pub linesBytes : List ℕ → List Line → List ℕ

@@ -1,5 +1,5 @@
--- The sheet: which rows are listed, a page of them, and their bytes (document 01, 'The sheet'). All is said over `d`, any function that gives each row its
--- decision. Definitions only.
+-- The sheet: which rows are listed, a page of them, and their bytes (document 01, 'The sheet'; document 02, request 6). All is said over `d`, any function that
+-- gives each row its decision, and the bytes over `m` beside it, which gives each row its mark. Definitions only.
 use mathlib.Core.Path.{_≡_}
 use Prim.Native.Nat.{ℕ, zero, suc, _-_, _/_, _%_}
 use mathlib.Core.Bool.{Bool, true, false}
@@ -31,21 +31,26 @@ pageRows d rows start room = take room (listed d rows start)
 unfoldable pub nextRow : (ℕ → Decision) → ℕ → ℕ → ℕ → ℕ
 nextRow d rows start room = getD (listed d rows start) room rows
 
--- a listed row has six bytes: row number, four bytes, little-endian; outcome; policy
+-- so many bytes of a number, the lowest first
+abbrev pub lowFirst : ℕ → ℕ → List ℕ
+lowFirst zero n = []
+lowFirst (suc k) n = n % 256 ∷ lowFirst k (n / 256)
+
+-- a listed row has so many bytes: row number, four bytes, little-endian; outcome; policy; mark, eight bytes, little-endian
 abbrev pub rowSize : ℕ
-rowSize = 6
+rowSize = 14
 
-abbrev pub sixBytes : ℕ → ℕ → ℕ → List ℕ
-sixBytes row outcome policy = row % 256 ∷ row / 256 % 256 ∷ row / 65536 % 256 ∷ row / 16777216 % 256 ∷ outcome ∷ policy ∷ []
+abbrev pub listedBytes : ℕ → ℕ → ℕ → ℕ → List ℕ
+listedBytes row outcome policy mark = lowFirst 4 row ++ outcome ∷ policy ∷ lowFirst 8 mark
 
--- the bytes of a row with its decision
-abbrev pub rowBytes : ℕ → Decision → List ℕ
-rowBytes row d = sixBytes row (outcomeOf d) (policyOf d)
+-- the bytes of a row with its decision and mark
+abbrev pub rowBytes : ℕ → Decision → ℕ → List ℕ
+rowBytes row d mark = listedBytes row (outcomeOf d) (policyOf d) mark
 
 -- and of rows, one after the other
-unfoldable pub rowsBytes : (ℕ → Decision) → List ℕ → List ℕ
-rowsBytes d [] = []
-rowsBytes d (row ∷ rows) = rowBytes row (d row) ++ rowsBytes d rows
+unfoldable pub rowsBytes : (ℕ → Decision) → (ℕ → ℕ) → List ℕ → List ℕ
+rowsBytes d m [] = []
+rowsBytes d m (row ∷ rows) = rowBytes row (d row) (m row) ++ rowsBytes d m rows
 
 -- a part with some bytes written over its start
 abbrev pub over : List ℕ → List ℕ → List ℕ
@@ -56,7 +61,7 @@ abbrev pub roomIn : List ℕ → ℕ
 roomIn part = length part / rowSize
 
 -- what writing a page into a part does: the answer, and the part's bytes after it
-pub record PageWritten (d : ℕ → Decision) (rows start : ℕ) (before : List ℕ) (page : Page) (after : List ℕ) : Type 0 where
+pub record PageWritten (d : ℕ → Decision) (m : ℕ → ℕ) (rows start : ℕ) (before : List ℕ) (page : Page) (after : List ℕ) : Type 0 where
   pub written : page .written ≡ length (pageRows d rows start (roomIn before))
   pub next : page .next ≡ nextRow d rows start (roomIn before)
-  pub bytes : after ≡ over (rowsBytes d (pageRows d rows start (roomIn before))) before
+  pub bytes : after ≡ over (rowsBytes d m (pageRows d rows start (roomIn before))) before

@@ -24,8 +24,8 @@ pub data EachHasRoom : List ℕ → Type 0 where
   a-page : {room : ℕ} {rooms : List ℕ} → 1 ≤ room → EachHasRoom rooms → EachHasRoom (room ∷ rooms)
 
 -- pages written into parts of their own: from a start row, what they wrote, joined, and where the last one says to go on
-pub data Written (d : ℕ → Decision) (rows : ℕ) : ℕ → List ℕ → ℕ → Type 0 where
-  nothing : {start : ℕ} → Written d rows start [] start
+pub data Written (d : ℕ → Decision) (m : ℕ → ℕ) (rows : ℕ) : ℕ → List ℕ → ℕ → Type 0 where
+  nothing : {start : ℕ} → Written d m rows start [] start
   page : {start : ℕ} {before : List ℕ} {p : Page} {after bytes : List ℕ} {last : ℕ}
-      → start ≤ rows → PageWritten d rows start before p after → Written d rows (p .next) bytes last
-      → Written d rows start (take (rowSize * p .written) after ++ bytes) last
+      → start ≤ rows → PageWritten d m rows start before p after → Written d m rows (p .next) bytes last
+      → Written d m rows start (take (rowSize * p .written) after ++ bytes) last

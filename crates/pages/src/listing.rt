@@ -45,18 +45,36 @@ fn policy(d: Decision) -> u8
 }
 
 // How many bytes a listed row takes.
-pub const ROW_SIZE: usize = 6;
+pub const ROW_SIZE: usize = 14;
 
-// A row's six bytes at the start of the part that is lent; the bytes after them stay.
-pub fn put_row(tail: &mut [u8], row: usize, d: Decision)
+// A row's bytes at the start of the part that is lent; the bytes after them stay.
+pub fn put_row(tail: &mut [u8], row: usize, d: Decision, mark: u64)
     requires { ⌜ rowSize ≤ length (now tail) ⌝ }
     requires { ⌜ policyOf d < 256 ⌝ }
-    ensures { λ _. ⌜ now (tail .exit) ≡ rowBytes row d ++ drop rowSize (now (tail .entry)) ⌝ }
+    ensures { λ _. ⌜ now (tail .exit) ≡ rowBytes row d mark ++ drop rowSize (now (tail .entry)) ⌝ }
 {
+    let row1 = row / 256;
+    let row2 = row1 / 256;
+    let row3 = row2 / 256;
+    let mark1 = mark / 256;
+    let mark2 = mark1 / 256;
+    let mark3 = mark2 / 256;
+    let mark4 = mark3 / 256;
+    let mark5 = mark4 / 256;
+    let mark6 = mark5 / 256;
+    let mark7 = mark6 / 256;
     tail[0] = (row % 256) as u8;
-    tail[1] = (row / 256 % 256) as u8;
-    tail[2] = (row / 65536 % 256) as u8;
-    tail[3] = (row / 16777216 % 256) as u8;
+    tail[1] = (row1 % 256) as u8;
+    tail[2] = (row2 % 256) as u8;
+    tail[3] = (row3 % 256) as u8;
     tail[4] = outcome(d);
     tail[5] = policy(d);
+    tail[6] = (mark % 256) as u8;
+    tail[7] = (mark1 % 256) as u8;
+    tail[8] = (mark2 % 256) as u8;
+    tail[9] = (mark3 % 256) as u8;
+    tail[10] = (mark4 % 256) as u8;
+    tail[11] = (mark5 % 256) as u8;
+    tail[12] = (mark6 % 256) as u8;
+    tail[13] = (mark7 % 256) as u8;
 }

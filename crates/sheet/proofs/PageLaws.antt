@@ -9,7 +9,7 @@ use lib.ListN.{length, length-take, length-drop}
 use Rattle.questions.specs.Questions.{isQuestion}
 use Rattle.meaning.specs.Targets.{Request}
 use Rattle.meaning.specs.declared.Decision.{Decision}
-use Rattle.pages.specs.Listing.{yesOf, listed, pageRows, nextRow}
+use Rattle.pages.specs.Listing.{yesOf, listed, pageRows, nextRow, rowSize}
 use Rattle.pages.specs.declared.Page.{Page}
 use Rattle.pages.proofs.Listed.{next-lists, next-within, next-past}
 use Rattle.sheets.specs.Sheets.{rowsAsked, decisions, requestRefusal, refusalOf, unless, sheetAnswer, SheetListed}
@@ -32,15 +32,15 @@ told-by zero w o = refl
 told-by (suc n) w o = refl
 
 module _ {text table s : List ℕ} {q : Request} {start : ℕ} {page after : List ℕ} {answer : Answer} (l : SheetListed text table s q start page 0 answer after) where
-  refusal-is : 6 ≤ length page → start ≤ rowsAsked s → refusalOf text table s q start page 0 ≡ sheetRefusal text table s q
+  refusal-is : rowSize ≤ length page → start ≤ rowsAsked s → refusalOf text table s q start page 0 ≡ sheetRefusal text table s q
   unfolding refusalOf sheetRefusal
-  refusal-is long h = rw (le-leb 6 (length page) long, le-leb start (rowsAsked s) h)
+  refusal-is long h = rw (le-leb rowSize (length page) long, le-leb start (rowsAsked s) h)
 
-  pub refusal-told : 6 ≤ length page → start ≤ rowsAsked s → {a : Answer} → answer ≡ a → refusedBy a ≡ sheetRefusal text table s q
+  pub refusal-told : rowSize ≤ length page → start ≤ rowsAsked s → {a : Answer} → answer ≡ a → refusedBy a ≡ sheetRefusal text table s q
   unfolding sheetAnswer
   refusal-told long h e = ap refusedBy (sym e ∙ l .answered) ∙ told-by (refusalOf text table s q start page 0) _ _ ∙ refusal-is long h
 
-  module _ {rows : ℕ} (a : Accepted text table s q rows) (h : start ≤ rows) (long : length page ≡ 60000) where
+  module _ {rows : ℕ} (a : Accepted text table s q rows) (h : start ≤ rows) (long : length page ≡ rowSize * pageRoom) where
     answer-is : answer ≡ Listed (length (pageRows (decisions text s q) rows start pageRoom)) (nextRow (decisions text s q) rows start pageRoom)
     unfolding sheetAnswer unless
     answer-is = l .answered ∙ rw (refusal-is (omega arith) (rw (← a .counted) (omega arith)), a .no-refusal, a .counted, long) refl
@@ -51,7 +51,7 @@ module _ {text table s : List ℕ} {q : Request} {start : ℕ} {page after : Lis
     pub never-refused : {number : ℕ} {A : Type 0} → answer ≡ Refused number → A
     never-refused e = absurd (let i = answer-is in let z : _≡_ {A = ℕ} 0 1 = cc in omega arith)
 
-    pub rows-fit : {written next : ℕ} → answer ≡ Listed written next → 6 * written ≤ 60000
+    pub rows-fit : {written next : ℕ} → answer ≡ Listed written next → rowSize * written ≤ rowSize * pageRoom
     unfolding pageRows
     rows-fit e = omega (arith, page-printed e .written, length-take pageRoom (listed (decisions text s q) rows start))
 
@@ -76,7 +76,7 @@ refused-as (suc n) a w o told same e = cc
 
 -- what is refused on its first page
 pub refusal-printed : {text table s : List ℕ} {q : Request} {page after : List ℕ} {answer : Answer} {number : ℕ} → SheetListed text table s q 0 page 0 answer after
-    → 6 ≤ length page → answer ≡ Refused number → Refusal number ≡ printedFor text table s q
+    → rowSize ≤ length page → answer ≡ Refused number → Refusal number ≡ printedFor text table s q
 unfolding printedFor sheetAnswer
 refusal-printed l long e = refused-as _ _ _ _ (l .answered) (refusal-is l long (omega arith)) e
 
@@ -122,7 +122,7 @@ first-counted w = record { all = rows-joined w (omega arith); within = goes-with
 
 -- what is listed on its first page is accepted, and that page is the sheet's
 module _ {text table s : List ℕ} {q : Request} {page after : List ℕ} {answer : Answer} {written next rows : ℕ} (l : SheetListed text table s q 0 page 0 answer after)
-    (long : length page ≡ 60000) (e : answer ≡ Listed written next) (counted : rows ≡ cond (isQuestion s) (rowsAsked s) 0) (few : rows ≤ 262144) where
+    (long : length page ≡ rowSize * pageRoom) (e : answer ≡ Listed written next) (counted : rows ≡ cond (isQuestion s) (rowsAsked s) 0) (few : rows ≤ 262144) where
   pub first-accepted : Accepted text table s q rows
   first-accepted = accepted (refusal-told l (omega arith) (omega arith) e) (omega arith) counted few
 

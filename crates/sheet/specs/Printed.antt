@@ -9,6 +9,7 @@ use Rattle.folder.specs.Decimals.{numbersLine}
 use Rattle.questions.specs.Questions.{isQuestion}
 use Rattle.meaning.specs.Targets.{Request}
 use Rattle.pages.specs.Listing.{listed, pageRows, nextRow, rowSize}
+use Rattle.pages.specs.Lines.{littleEndian}
 use Rattle.pages.specs.declared.Page.{Page}
 use Rattle.sheets.specs.Sheets.{decisions, rowsAsked, requestRefusal, unless}
 use Rattle.sheet.specs.declared.Printed.{Printed}
@@ -43,9 +44,9 @@ pub record ListedBefore (text s : List ℕ) (q : Request) (rows start before : �
   pub within : start ≤ rows
   pub few : before ≤ pageRoom * start + pageRoom
 
--- the line of the row whose six bytes come first: row number, outcome and policy, in decimal digits
+-- the line of the row whose bytes come first: row number, outcome, policy and mark, in decimal digits
 unfoldable pub rowAt : List ℕ → List ℕ
-rowAt s = numbersLine ((getD s 0 0 + 256 * getD s 1 0 + 65536 * getD s 2 0 + 16777216 * getD s 3 0) ∷ getD s 4 0 ∷ getD s 5 0 ∷ [])
+rowAt s = numbersLine (littleEndian (take 4 s) ∷ getD s 4 0 ∷ getD s 5 0 ∷ littleEndian (take 8 (drop 6 s)) ∷ [])
 
 -- the lines of so many rows
 unfoldable pub rowLines : ℕ → List ℕ → List ℕ

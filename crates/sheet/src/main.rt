@@ -1,7 +1,8 @@
 // The sheet program. It reads policy.txt, question.bin and request.txt in the folder where it is started, and prints the rows that are answered with yes.
 ghost use mathlib.Core.Path.{_≡_};
 ghost use Prim.Native.Nat.{_+_, _*_, _≤_, _<_};
-ghost use lib.ListN.{length, drop};
+ghost use lib.ListN.{length, take, drop};
+ghost use Rattle.pages.specs.Lines.{littleEndian};
 ghost use Rattle.pages.specs.Listing.{rowSize};
 ghost use Rattle.folder.specs.Added.{Added};
 ghost use Rattle.targets.specs.Matching.{request};
@@ -10,9 +11,9 @@ ghost use Rattle.sheet.specs.Printed.{Accepted, PagePrinted, ListedBefor
 use compiling::Compiled;
 use compiling::compile;
 use folder::cases::wide;
+use folder::lines::put_four;
 use folder::lines::put_one;
 use folder::lines::put_refusal;
-use folder::lines::put_three;
 use folder::read_file;
 use libc::STDOUT_FILENO;
 use pages::Page;
@@ -72,20 +73,39 @@ fn number4(a: u8, b: u8, c: u8, d: u8) -> usize
     wide(a) + 256 * wide(b) + 65536 * wide(c) + 16777216 * wide(d)
 }
 
-// The line of the row that lies at a byte of a page: row number, outcome and policy.
-fn put_row(page: &[u8], at: usize, out: &mut [u8], filled: usize) -> usize
-    requires { ⌜ (at + rowSize ≤ length (now page)) × (filled + 63 ≤ length (now out)) ⌝ }
-    ensures { λ r. ⌜ Added (now (out .entry)) filled (rowAt (drop at (now (page .entry)))) (now (out .exit)) r × (r ≤ filled + 19) ⌝ }
+// The number in the four bytes from a place of a page on.
+fn four_at(page: &[u8], at: usize) -> usize
+    requires { ⌜ at + 4 ≤ length (now page) ⌝ }
+    ensures { λ r. ⌜ (r ≡ littleEndian (take 4 (drop at (now (page .entry))))) × (r < 4294967296) ⌝ }
 {
-    let row = number4(page[at], page[at + 1], page[at + 2], page[at + 3]);
+    number4(page[at], page[at + 1], page[at + 2], page[at + 3])
+}
+
+// The number in the eight bytes from a place of a page on.
+fn eight_at(page: &[u8], at: usize) -> usize
+    requires { ⌜ at + 8 ≤ length (now page) ⌝ }
+    ensures { λ r. ⌜ (r ≡ littleEndian (take 8 (drop at (now (page .entry))))) × (r < 18446744073709551616) ⌝ }
+{
+    let low = four_at(page, at);
+    let high = four_at(page, at + 4);
+    low + 4294967296 * high
+}
+
+// The line of the row that lies at a byte of a page: row number, outcome, policy and mark.
+fn put_row(page: &[u8], at: usize, out: &mut [u8], filled: usize) -> usize
+    requires { ⌜ (at + rowSize ≤ length (now page)) × (filled + 84 ≤ length (now out)) ⌝ }
+    ensures { λ r. ⌜ Added (now (out .entry)) filled (rowAt (drop at (now (page .entry)))) (now (out .exit)) r × (r ≤ filled + 40) ⌝ }
+{
+    let row = four_at(page, at);
     let outcome = wide(page[at + 4]);
     let policy = wide(page[at + 5]);
-    put_three(out, filled, row, outcome, policy)
+    let mark = eight_at(page, at + 6);
+    put_four(out, filled, row, outcome, policy, mark)
 }
 
 // The lines of so many rows of a page.
 fn put_rows(page: &[u8], written: usize, out: &mut [u8]) -> usize
-    requires { ⌜ (rowSize * written ≤ length (now page)) × (19 * written + 63 ≤ length (now out)) ⌝ }
+    requires { ⌜ (rowSize * written ≤ length (now page)) × (40 * written + 84 ≤ length (now out)) ⌝ }
     ensures { λ r. ⌜ RowsPut (now (page .entry)) written (now (out .exit)) r ⌝ }
 {
     let mut left = written;
@@ -103,7 +123,7 @@ fn put_rows(page: &[u8], written: usize, out: &mut [u8]) -> usize
 fn print_rows(page: &[u8], written: usize)
     requires { ⌜ (rowSize * written ≤ length (now page)) × (written ≤ pageRoom) ⌝ }
 {
-    let mut out = [0u8; 190063]; // 19 bytes for each of 10,000 rows, and room for a line of any numbers
+    let mut out = [0u8; 400084]; // 40 bytes for each of 10,000 rows, and room for a line of any numbers
     let n = put_rows(page, written, &mut out);
     io::write_all(STDOUT_FILENO, &out[..n]);
 }
@@ -124,7 +144,7 @@ fn print_page<'a>(
     ensures { λ r. ⌜ PagePrinted (now (text .entry)) (now (question .entry))
         (request (now (subject .entry)) (now (action .entry)) (now (resource .entry))) rows start r ⌝ }
 {
-    let mut page = [0u8; 60000]; // room for 10,000 rows
+    let mut page = [0u8; 140000]; // room for 10,000 rows
     match sheet(
         text,
         table,
@@ -196,7 +216,7 @@ fn print_sheet<'a>(
     ensures { λ r. ⌜ r ≡ printedFor (now (text .entry)) (now (table .entry)) (now (question .entry))
         (request (now (subject .entry)) (now (action .entry)) (now (resource .entry))) ⌝ }
 {
-    let mut page = [0u8; 60000]; // room for 10,000 rows
+    let mut page = [0u8; 140000]; // room for 10,000 rows
     match sheet(
         text,
         table,

@@ -20,7 +20,7 @@ use Rattle.views.specs.Meaning.{View, asBag, look, rowBag}
 use Rattle.views.specs.Rows.{pickedAll}
 use Rattle.placing.specs.Said.{Word}
 use Rattle.meaning.specs.Targets.{Request, isSystem, isSubject, isAction, isResource}
-use Rattle.meaning.specs.Decisions.{decisionOf}
+use Rattle.meaning.specs.Decisions.{decisionOf, decidedMark}
 use Rattle.meaning.specs.declared.Decision.{Decision}
 use Rattle.deciding.specs.Promise.{Wellformed, RequestRefused, bad-subject, bad-action, bad-resource}
 use Rattle.deciding.proofs.Promised.{begun, begins-then, not-begun, begins-not}
@@ -30,7 +30,7 @@ use Rattle.pages.specs.Listing.{listed, pageRows, nextRow, rowSize, rowsBytes, 
 use Rattle.pages.proofs.Progress.{bytes-length}
 use Rattle.pages.proofs.Listed.{next-within, next-past}
 use Rattle.pages.proofs.AskedForms.{counts-are, combination-shows}
-use Rattle.sheets.specs.Sheets.{countsIn, sectionsIn, dividedAs, decisionBy, decisions, rowsAsked, requestRefusal, refusalOf, unless, writtenOver, sheetAnswer, sheetAfter, SheetSaid, sheetSaid, saidTo}
+use Rattle.sheets.specs.Sheets.{countsIn, sectionsIn, dividedAs, decisionBy, markThere, decisions, rowMarks, rowsAsked, requestRefusal, refusalOf, unless, writtenOver, sheetAnswer, sheetAfter, SheetSaid, sheetSaid, saidTo}
 use Rattle.sheets.specs.Promise.{SheetCall, Wellasked, SheetRefused, no-room, no-question, above, never-the-system, bad-request, not-compiled, none-wrong, SheetRefusedExactly, ListedAlike}
 use Rattle.sheets.specs.declared.Answer.the-variants.{Listed, Refused}
 
@@ -62,6 +62,12 @@ module _ {s : List ℕ} {base : Contents} {cs : List Column} (w : QuestionBytes 
   unfolding decisionBy
   decision-asked ok q ps = rw sections-are (ap (λ (view : View). decisionOf view q ps) (combination-shows (question-stands w .places) divided w ok))
 
+  -- and marked
+  pub mark-asked : {choices : List ℕ} → Combination (counts cs) choices → (q : Request) (ps : List (PolicyOf Word))
+      → markThere s (sectionsIn s) q ps choices ≡ decidedMark (look (rowBag (asBag base) (pickedAll cs choices))) q ps
+  unfolding markThere
+  mark-asked ok q ps = rw sections-are (ap (λ (view : View). decidedMark view q ps) (combination-shows (question-stands w .places) divided w ok))
+
 -- ---- a call that lists
 
 none-refused : (n w o : ℕ) → sheetSaid (unless n (Listed w o) Refused) .refusal ≡ 0 → n ≡ 0
@@ -78,6 +84,9 @@ tests-pass false b c n e = absurd (let z : _≡_ {A = ℕ} 25 0 = e in omega ari
 module _ (text table s : List ℕ) (q : Request) (start : ℕ) (sheet : List ℕ) (at : ℕ) (e : saidTo text table s q start sheet at .refusal ≡ 0) where
   abbrev d : ℕ → Decision
   d = decisions text s q
+
+  abbrev m : ℕ → ℕ
+  m = rowMarks text s q
 
   abbrev room : ℕ
   room = roomIn (drop at sheet)
@@ -103,18 +112,18 @@ module _ (text table s : List ℕ) (q : Request) (start : ℕ) (sheet : List ℕ
   unfolding sheetAnswer unless sheetSaid
   next-is = rw accepted
 
-  after-is : sheetAfter text table s q start sheet at ≡ take at sheet ++ writtenOver d (rowsAsked s) start (drop at sheet)
+  after-is : sheetAfter text table s q start sheet at ≡ take at sheet ++ writtenOver d m (rowsAsked s) start (drop at sheet)
   unfolding sheetAfter unless
   after-is = rw accepted
 
   front : length (take at sheet) ≡ at
   front = length-take-le at sheet (omega (arith, passed .0))
 
-  part-is : drop at (sheetAfter text table s q start sheet at) ≡ writtenOver d (rowsAsked s) start (drop at sheet)
-  part-is = rw after-is (drop-at (take at sheet) (writtenOver d (rowsAsked s) start (drop at sheet)) at front)
+  part-is : drop at (sheetAfter text table s q start sheet at) ≡ writtenOver d m (rowsAsked s) start (drop at sheet)
+  part-is = rw after-is (drop-at (take at sheet) (writtenOver d m (rowsAsked s) start (drop at sheet)) at front)
 
   -- the page on the part
-  pub page-written : PageWritten (decisions text s q) (rowsAsked s) start (drop at sheet)
+  pub page-written : PageWritten (decisions text s q) (rowMarks text s q) (rowsAsked s) start (drop at sheet)
       (record { written = saidTo text table s q start sheet at .written; next = saidTo text table s q start sheet at .next }) (drop at (sheetAfter text table s q start sheet at))
   page-written = record { written = sym written-is; next = sym next-is; bytes = part-is }
 
@@ -127,14 +136,14 @@ module _ (text table s : List ℕ) (q : Request) (start : ℕ) (sheet : List ℕ
   unfolding pageRows
   fits-there = omega (arith, written-is, length-take room (listed d (rowsAsked s) start), passed .0, length-drop at sheet)
 
-  bytes-long : length (rowsBytes d (pageRows d (rowsAsked s) start room)) ≡ rowSize * said .written
-  bytes-long = bytes-length d (pageRows d (rowsAsked s) start room) ∙ ap (λ (n : ℕ). rowSize * n) written-is
+  bytes-long : length (rowsBytes d m (pageRows d (rowsAsked s) start room)) ≡ rowSize * said .written
+  bytes-long = bytes-length d m (pageRows d (rowsAsked s) start room) ∙ ap (λ (n : ℕ). rowSize * n) written-is
 
   pub others-there : (take at (sheetAfter text table s q start sheet at) ≡ take at sheet)
       × (drop (at + rowSize * said .written) (sheetAfter text table s q start sheet at) ≡ drop (at + rowSize * said .written) sheet)
   others-there =
-      let bytes = rowsBytes d (pageRows d (rowsAsked s) start room) in (
-        rw after-is (take-at (take at sheet) (writtenOver d (rowsAsked s) start (drop at sheet)) at front),
+      let bytes = rowsBytes d m (pageRows d (rowsAsked s) start room) in (
+        rw after-is (take-at (take at sheet) (writtenOver d m (rowsAsked s) start (drop at sheet)) at front),
         sym (drop-drop (rowSize * said .written) at (sheetAfter text table s q start sheet at)) ∙ ap (drop (rowSize * said .written)) part-is
             ∙ drop-at bytes (drop (length bytes) (drop at sheet)) (rowSize * said .written) bytes-long ∙ ap (λ (n : ℕ). drop n (drop at sheet)) bytes-long ∙ drop-drop (rowSize * said .written) at sheet,
       )

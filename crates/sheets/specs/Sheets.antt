@@ -14,8 +14,8 @@ use Rattle.questions.specs.Questions.{isQuestion}
 use Rattle.meaning.specs.Targets.{Request, isSystem, isSubject, isAction, isResource}
 use Rattle.meaning.specs.declared.Decision.{Decision}
 use Rattle.deciding.specs.Answers.{wordsIn}
-pub use Rattle.turns.specs.Rows.{columnsIn, firstIn, countsIn, rowsIn, decisionAt}
-unfoldable pub use Rattle.turns.specs.Rows.{decisionBy}
+pub use Rattle.turns.specs.Rows.{columnsIn, firstIn, countsIn, rowsIn, viewBy, decisionAt, rowMark}
+unfoldable pub use Rattle.turns.specs.Rows.{decisionBy, markThere}
 use Rattle.pages.specs.Listing.{pageRows, nextRow, rowSize, rowsBytes, over, roomIn}
 use Rattle.sheets.specs.declared.Answer.{Answer}
 use Rattle.sheets.specs.declared.Answer.the-variants.{Listed, Refused}
@@ -56,19 +56,24 @@ abbrev pub listedOn : (ℕ → Decision) → ℕ → ℕ → List ℕ → Answer
 listedOn d rows start part = Listed (length (pageRows d rows start (roomIn part))) (nextRow d rows start (roomIn part))
 
 -- the part afterwards
-abbrev pub writtenOver : (ℕ → Decision) → ℕ → ℕ → List ℕ → List ℕ
-writtenOver d rows start part = over (rowsBytes d (pageRows d rows start (roomIn part))) part
+abbrev pub writtenOver : (ℕ → Decision) → (ℕ → ℕ) → ℕ → ℕ → List ℕ → List ℕ
+writtenOver d m rows start part = over (rowsBytes d m (pageRows d rows start (roomIn part))) part
 
 -- a page for a question whose sections are p
 pub record PartListed (text table s : List ℕ) (p : Sections) (q : Request) (start : ℕ) (before : List ℕ) (answer : Answer) (after : List ℕ) : Type 0 where
   pub answered : answer ≡ unless (requestRefusal text table q) (listedOn (decisionAt s p q (wordsIn text)) (rowsIn s p) start before) Refused
-  pub bytes : after ≡ unless (requestRefusal text table q) (writtenOver (decisionAt s p q (wordsIn text)) (rowsIn s p) start before) (λ _. before)
+  pub bytes : after ≡ unless (requestRefusal text table q)
+      (writtenOver (decisionAt s p q (wordsIn text)) (rowMark s p q (wordsIn text)) (rowsIn s p) start before) (λ _. before)
 
 -- ---- the call
 
 -- the decision of each row of the question
 abbrev pub decisions : List ℕ → List ℕ → Request → ℕ → Decision
 decisions text s q = decisionAt s (sectionsIn s) q (wordsIn text)
+
+-- and its mark
+abbrev pub rowMarks : List ℕ → List ℕ → Request → ℕ → ℕ
+rowMarks text s q = rowMark s (sectionsIn s) q (wordsIn text)
 
 -- how many rows the question has
 abbrev pub rowsAsked : List ℕ → ℕ
@@ -82,7 +87,8 @@ sheetAnswer text table s q start sheet at =
 -- the sheet afterwards: the page is written into the part from the named byte on; a refusal changes nothing
 unfoldable pub sheetAfter : List ℕ → List ℕ → List ℕ → Request → ℕ → List ℕ → ℕ → List ℕ
 sheetAfter text table s q start sheet at =
-    unless (refusalOf text table s q start sheet at) (take at sheet ++ writtenOver (decisions text s q) (rowsAsked s) start (drop at sheet)) (λ _. sheet)
+    unless (refusalOf text table s q start sheet at) (take at sheet ++ writtenOver (decisions text s q) (rowMarks text s q) (rowsAsked s) start (drop at sheet))
+    (λ _. sheet)
 
 -- what the call promises
 pub record SheetListed (text table s : List ℕ) (q : Request) (start : ℕ) (before : List ℕ) (at : ℕ) (answer : Answer) (after : List ℕ) : Type 0 where

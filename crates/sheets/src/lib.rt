@@ -180,7 +180,7 @@ pub fn sheet<'a>(
     if sheet.len() < at {
         return Answer::Refused(25);
     }
-    // no room for the six bytes of a row
+    // no room for the bytes of a row
     if sheet.len() - at < ROW_SIZE {
         return Answer::Refused(25);
     }

@@ -4,7 +4,7 @@ ghost use Rattle.targets.specs.Matching.{request};
 ghost use Rattle.pages.specs.Listing.{PageWritten};
 ghost use Rattle.placing.specs.Said.{wordsOf};
 ghost use Rattle.meaning.specs.Targets.{Request};
-ghost use Rattle.sheets.specs.Sheets.{decisionAt};
+ghost use Rattle.sheets.specs.Sheets.{decisionAt, rowMark};
 ghost use Rattle.sheets.specs.Asked.{Asked, RulesFor, RowsAsked, WalkFor, WalkForSome};
 use bags::sections::Sections;
 use kept::NOTES;
@@ -50,7 +50,8 @@ fn write_rows<'a>(
     requires { ⌜ RowsAsked (now text) (now table) (now s) walk (now starts) grid (now ends) (now looks) all start ⌝ }
     requires { ⌜ WalkForSome (now text) (now table) walk (now looks) (now action) ⌝ }
     ensures { λ r. ⌜ ((q : Request) → WalkFor (now (text .entry)) (now (table .entry)) walk (now (looks .entry)) (now (action .entry)) q
-        → PageWritten (decisionAt (now (s .entry)) (walk .p) q (wordsOf (now (text .entry)) (policiesAt (now (table .entry)) (walk .entries)))) all start
+        → PageWritten (decisionAt (now (s .entry)) (walk .p) q (wordsOf (now (text .entry)) (policiesAt (now (table .entry)) (walk .entries))))
+        (rowMark (now (s .entry)) (walk .p) q (wordsOf (now (text .entry)) (policiesAt (now (table .entry)) (walk .entries)))) all start
         (now (part .entry)) r (now (part .exit))) ⌝ }
 {
     let p = walk.p;
@@ -86,6 +87,7 @@ fn write_rows<'a>(
             action,
         );
         let d = t.d;
+        let mark = t.mark;
         from = t.from;
         row += 1;
         if is_allowed(d) {
@@ -95,7 +97,7 @@ fn write_rows<'a>(
                     next: here,
                 };
             }
-            put_row(&mut part[at..], here, d);
+            put_row(&mut part[at..], here, d, mark);
             at += ROW_SIZE;
             written += 1;
         }
@@ -124,6 +126,8 @@ pub fn write_page<'a>(
     requires { ⌜ Asked (now s) p all start ⌝ }
     requires { ⌜ RulesFor rules (now text) (now table) (now subject) (now resource) types ⌝ }
     ensures { λ r. ⌜ PageWritten (decisionAt (now (s .entry)) p (request (now (subject .entry)) (now (action .entry)) (now (resource .entry)))
+        (wordsOf (now (text .entry)) (policiesAt (now (table .entry)) (rules .entries))))
+        (rowMark (now (s .entry)) p (request (now (subject .entry)) (now (action .entry)) (now (resource .entry)))
         (wordsOf (now (text .entry)) (policiesAt (now (table .entry)) (rules .entries)))) all start (now (part .entry)) r (now (part .exit)) ⌝ }
 {
     let at = p.end;

@@ -25,9 +25,9 @@ use Rattle.views.specs.Rows.{rowView, RowStands, bagOfRow, Chooses}
 use Rattle.views.proofs.RowLaws.{row-stands, row-shows}
 use Rattle.placing.specs.Said.{Word, wordsOf}
 use Rattle.meaning.specs.Targets.{Request, isSystem}
-use Rattle.meaning.specs.Decisions.{decisionOf, policiesDecide, policyOf, NamesPolicy, the-system, a-forbid, a-permit, none-named, NamedRightly}
-use Rattle.meaning.specs.declared.Decision.{Decision}
+use Rattle.meaning.specs.Decisions.{decisionOf, policiesDecide, policyOf, markOf, decidedMark, systemMarked, NamesPolicy, the-system, a-forbid, a-permit, none-named, NamedRightly}
 use Rattle.meaning.specs.declared.Decision.the-variants.{System}
+use Rattle.meaning.specs.declared.Marked.{Marked}
 use Rattle.meaning.proofs.Deciding.{numbered-few, named-rightly}
 use Rattle.meaning.proofs.WordLaws.{many-words}
 use Rattle.pages.specs.Rows.{countsOf, Combination, rowOf, choicesAt, countsBy, Few, Counted, Picked, RowPlaced, Moved}
@@ -37,7 +37,7 @@ use Rattle.kept.proofs.Noting.{zeros-say}
 use Rattle.pages.proofs.Combinations.{choices-combine, row-of-choices, choice-below}
 use Rattle.pages.proofs.Digits.{counts-length, count-is, rows-some}
 use Rattle.pages.proofs.SixColumns.{heads-counted, rows-are, row-chooses, lasts-few, six-rows, six-choices}
-use Rattle.turns.specs.Rows.{columnsIn, firstIn, rowsIn, decisionBy, decisionAt}
+use Rattle.turns.specs.Rows.{columnsIn, firstIn, rowsIn, decisionBy, decisionAt, markThere, rowMark}
 use Rattle.turns.specs.Turns.{Laid, Walked, Standing, AtRow}
 
 -- ---- the row at which the choices stand
@@ -89,7 +89,7 @@ module _ {text s : List ℕ} {w : Walk} {starts : List ℕ} {q : Request} {ps : 
   }
 
   -- the next row chooses alike in the columns before the one that moves
-  pub kept-next : {grid : List (List ℕ)} {ends choices choices' values values' notes notes' : List ℕ} {from column : ℕ} {d : Decision} → w .policies ≡ length ps
+  pub kept-next : {grid : List (List ℕ)} {ends choices choices' values values' notes notes' : List ℕ} {from column : ℕ} {d : Marked} → w .policies ≡ length ps
       → Kept text s w starts q ps looks values from notes → DecidedFrom text s (w .p) (w .n) starts q ps looks values d notes'
       → Picked grid choices values → Moved grid ends choices column choices' values' → Kept text s w starts q ps looks values' column notes'
   kept-next {grid = grid} {values = values} many k d v m = record {
@@ -177,6 +177,17 @@ module _ {s : List ℕ} {p : Sections} {n : ℕ} {starts ends : List ℕ} {grid 
         → cond system System (policiesDecide (rowView s p n starts values) q ps) ≡ decisionAt s p q ps row
     unfolding decisionBy decisionOf
     decides-there system q ps e = rw (e, shows)
+
+    -- and its mark
+    pub marks-there : (system : Bool) (q : Request) (ps : List (PolicyOf Word)) → system ≡ isSystem (q .subject)
+        → cond system 0 (markOf (rowView s p n starts values) q ps) ≡ rowMark s p q ps row
+    unfolding markThere decidedMark
+    marks-there system q ps e = rw (e, shows)
+
+-- the decision and the mark, where the system comes first
+pub of-system : (system : Bool) (m : Marked) → (cond system systemMarked m .d ≡ cond system System (m .d)) × (cond system systemMarked m .mark ≡ cond system 0 (m .mark))
+of-system true m = (refl, refl)
+of-system false m = (refl, refl)
 
 -- ---- a policy's number is at most 64, and fits a byte
 

@@ -1,15 +1,15 @@
--- The rows of a question by its sections, and what is decided in each (document 01, 'The sheet'). Definitions only.
+-- The rows of a question by its sections, and what is decided in each, with its mark (document 01, 'The sheet'; document 02, request 6). Definitions only.
 use mathlib.Core.List.{List}
 use Prim.Native.Nat.{ℕ, _+_}
 use Rattle.grammar.specs.Policies.{PolicyOf}
 use Rattle.bags.specs.Reading.{byte}
 use Rattle.bags.specs.declared.sections.Sections.{Sections}
 use Rattle.questions.specs.Questions.{rowsOf}
-use Rattle.views.specs.Meaning.{look}
+use Rattle.views.specs.Meaning.{View, look}
 use Rattle.views.specs.Rows.{bagOfRow}
 use Rattle.placing.specs.Said.{Word}
 use Rattle.meaning.specs.Targets.{Request}
-use Rattle.meaning.specs.Decisions.{decisionOf}
+use Rattle.meaning.specs.Decisions.{decisionOf, decidedMark}
 use Rattle.meaning.specs.declared.Decision.{Decision}
 use Rattle.pages.specs.Rows.{countsOf, choicesAt}
 
@@ -29,10 +29,20 @@ countsIn s p = countsOf (columnsIn s p) s (firstIn p)
 abbrev pub rowsIn : List ℕ → Sections → ℕ
 rowsIn s p = rowsOf (columnsIn s p) s (firstIn p)
 
--- what is decided where the columns have these choices: a row's bag is the base with each column's attribute set to its choice or removed
-unfoldable pub decisionBy : List ℕ → Sections → Request → List (PolicyOf Word) → List ℕ → Decision
-decisionBy s p q ps choices = decisionOf (look (bagOfRow s p (columnsIn s p) (firstIn p) choices)) q ps
+-- the attributes where the columns have these choices: a row's bag is the base with each column's attribute set to its choice or removed
+abbrev pub viewBy : List ℕ → Sections → List ℕ → View
+viewBy s p choices = look (bagOfRow s p (columnsIn s p) (firstIn p) choices)
 
--- the decision of each row
+-- what is decided there, and the mark
+unfoldable pub decisionBy : List ℕ → Sections → Request → List (PolicyOf Word) → List ℕ → Decision
+decisionBy s p q ps choices = decisionOf (viewBy s p choices) q ps
+
+unfoldable pub markThere : List ℕ → Sections → Request → List (PolicyOf Word) → List ℕ → ℕ
+markThere s p q ps choices = decidedMark (viewBy s p choices) q ps
+
+-- the decision of each row, and its mark
 abbrev pub decisionAt : List ℕ → Sections → Request → List (PolicyOf Word) → ℕ → Decision
 decisionAt s p q ps row = decisionBy s p q ps (choicesAt (countsIn s p) row)
+
+abbrev pub rowMark : List ℕ → Sections → Request → List (PolicyOf Word) → ℕ → ℕ
+rowMark s p q ps row = markThere s p q ps (choicesAt (countsIn s p) row)

@@ -16,7 +16,7 @@ use Rattle.meaning.specs.Targets.{Request, isSystem}
 use Rattle.pages.specs.Rows.{choicesAt, countsBy, Picked}
 use Rattle.kept.specs.Notes.{Depths, Kept}
 use Rattle.kept.specs.declared.Walk.{Walk}
-use Rattle.turns.specs.Rows.{columnsIn, firstIn, rowsIn, decisionAt}
+use Rattle.turns.specs.Rows.{columnsIn, firstIn, rowsIn, decisionAt, rowMark}
 use Rattle.turns.specs.declared.Turn.{Turn}
 
 -- the places of the question's columns and candidates, and the last choice of each column
@@ -55,8 +55,9 @@ pub record AtRow (text table s : List ℕ) (w : Walk) (starts : List ℕ) (grid 
   pub standing : Standing grid ends choices values row
   pub kept : Kept text s w starts q (policiesAt table (w .entries)) looks values from notes
 
--- A row's turn: its decision is given, and the walk stands at the next row.
+-- A row's turn: its decision and its mark are given, and the walk stands at the next row.
 pub record Turned (text table s : List ℕ) (w : Walk) (starts : List ℕ) (grid : List (List ℕ)) (ends looks action : List ℕ) (q : Request) (row : ℕ) (r : Turn)
     (choices values notes : List ℕ) : Type 0 where
   pub decided : r .d ≡ decisionAt s (w .p) q (wordsOf text (policiesAt table (w .entries))) row
+  pub marked : r .mark ≡ rowMark s (w .p) q (wordsOf text (policiesAt table (w .entries))) row
   pub next : AtRow text table s w starts grid ends looks action q (row + 1) choices values (r .from) notes

@@ -4,7 +4,7 @@ ghost use mathlib.Core.Bool.{cond};
 ghost use Prim.Native.Nat.{ℕ, _<_};
 ghost use lib.ListN.{length};
 ghost use Rattle.meaning.specs.Targets.{Request};
-ghost use Rattle.meaning.specs.declared.Decision.the-variants.{System};
+ghost use Rattle.meaning.specs.Decisions.{systemMarked};
 ghost use Rattle.kept.specs.Notes.{notesSize};
 ghost use Rattle.turns.specs.Rows.{rowsIn};
 ghost use Rattle.turns.specs.Turns.{Walked, Somewhere, AtRow, Turned};
@@ -12,25 +12,30 @@ use kept::NOTES;
 use kept::Walk;
 use kept::decision_from;
 use meaning::Decision;
+use meaning::Marked;
 use pages::rows::step;
 use questions::sizes::MOST_CANDIDATES;
 use questions::sizes::MOST_COLUMNS;
 use tokens::sizes::MOST_POLICIES;
 
-// What a turn gives: the row's decision, and the first column in which the next row may choose otherwise.
+// What a turn gives: the row's decision, its mark, and the first column in which the next row may choose otherwise.
 pub struct Turn {
     pub d: Decision,
+    pub mark: u64,
     pub from: usize,
 }
 
 // The system may do all.
-fn unless_system(system: bool, d: Decision) -> Decision
-    ensures { λ r. ⌜ r ≡ cond system System d ⌝ }
+fn unless_system(system: bool, m: Marked) -> Marked
+    ensures { λ r. ⌜ r ≡ cond system systemMarked m ⌝ }
 {
     if system {
-        return Decision::System;
+        return Marked {
+            d: Decision::System,
+            mark: 0,
+        };
     }
-    d
+    m
 }
 
 // A row's turn. `looks` has what each policy looks at, `notes` what is kept of the rows before; `choices` and `values` are the row's, and then the next row's.
@@ -69,7 +74,12 @@ pub fn take_turn<'a>(
         values,
         action,
     );
-    let d = unless_system(walk.system, decided);
+    let marked = unless_system(walk.system, decided);
     let from = step(grid, ends, choices, values);
-    Turn { d: d, from: from }
+    let d = marked.d;
+    Turn {
+        d: d,
+        mark: marked.mark,
+        from: from,
+    }
 }

@@ -1,7 +1,7 @@
 //! What the program `ask` prints: whether a rule text compiles, what is decided of cases, one after the other, and the tally of requests.
 
 use crate::compile::{compile, Refusal, ROOM_FOR_EACH_BYTE};
-use crate::deciding::{decide, Request};
+use crate::deciding::{decide, Decision, Request};
 use crate::questions::read_question;
 use crate::tallies::{read_requests, requests_lent, tally, Counts};
 
@@ -62,7 +62,7 @@ pub fn printed_decide(text: &[u8], cases: &[Case]) -> String {
     for case in cases {
         let [subject, action, resource] = &case.request;
         let line = match decide(text, &compiled.table, &case.bag, Request { subject, action, resource }) {
-            Ok(decision) => format!("decided {} {}\n", decision.outcome, decision.policy),
+            Ok(Decision { outcome, policy, mark }) => format!("decided {} {} {}\n", outcome, policy, mark),
             Err(number) => Refusal::without_place(number).printed(),
         };
         lines.push_str(&line);
@@ -130,7 +130,7 @@ mod tests {
         assert_eq!(printed_check(b"permit"), "refused 10 1 7 0\n");
         let cases =
             [case("person:K7", &[0, 0, 0]), case("dog:1", &[0, 0, 0]), case("system", &[]), case("tool:1", &[])];
-        assert_eq!(printed_decide(text, &cases), "decided 1 1\nrefused 21 0 0 0\ndecided 4 0\nrefused 24 0 0 0\n");
+        assert_eq!(printed_decide(text, &cases), "decided 1 1 1\nrefused 21 0 0 0\ndecided 4 0 0\nrefused 24 0 0 0\n");
         assert_eq!(printed_decide(b"permit", &cases), "refused 10 1 7 0\n");
     }
 

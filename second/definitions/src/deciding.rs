@@ -59,15 +59,22 @@ fn text_before_colon(name: &[u8]) -> &[u8] {
     &name[..length]
 }
 
-/// The outcome and the policy's number, which is 0 for outcomes 3 and 4.
+/// The outcome, the policy's number, which is 0 for outcomes 3 and 4, and the mark of the satisfied policies.
 #[derive(Clone, Copy, PartialEq, Eq, Debug)]
 pub struct Decision {
     pub outcome: u8,
     pub policy: usize,
+    /// 02, request 6: bit n-1 is set exactly when policy n is satisfied; 0 for the system.
+    pub mark: u64,
 }
 
 /// The decision about a request of the system.
-pub const SYSTEM_DECISION: Decision = Decision { outcome: SYSTEM, policy: 0 };
+pub const SYSTEM_DECISION: Decision = Decision { outcome: SYSTEM, policy: 0, mark: 0 };
+
+/// Whether a mark says that the policy of this number, from 1, is satisfied.
+pub fn is_marked(mark: u64, policy: usize) -> bool {
+    mark >> (policy - 1) & 1 == 1
+}
 
 /// Decide, or the refusal's number. 01, "Refusal numbers": system first, with nothing else looked at; then 21, 22, 23,
 /// 24, 20.
@@ -93,15 +100,18 @@ pub struct Facts<'a> {
 }
 
 impl Facts<'_> {
-    /// The lowest-numbered satisfied forbid, else the lowest-numbered satisfied permit, else none.
+    /// The lowest-numbered satisfied forbid, else the lowest-numbered satisfied permit, else none; and the mark of all that are
+    /// satisfied.
     pub fn decision(&self, policies: &[Policy]) -> Decision {
+        let satisfied: Vec<bool> = policies.iter().map(|policy| self.is_satisfied(policy)).collect();
+        let mark = satisfied.iter().enumerate().filter(|(_, is_so)| **is_so).map(|(index, _)| 1_u64 << index).sum();
         for (outcome, effect) in [(FORBIDDEN, Effect::Forbid), (ALLOWED, Effect::Permit)] {
-            let found = policies.iter().position(|policy| policy.effect == effect && self.is_satisfied(policy));
+            let found = (0..policies.len()).find(|index| policies[*index].effect == effect && satisfied[*index]);
             if let Some(index) = found {
-                return Decision { outcome, policy: index + 1 };
+                return Decision { outcome, policy: index + 1, mark };
             }
         }
-        Decision { outcome: NOTHING_SATISFIED, policy: 0 }
+        Decision { outcome: NOTHING_SATISFIED, policy: 0, mark }
     }
 
     /// A policy is satisfied if its target parts match and its condition, if any, is true.
@@ -353,6 +363,41 @@ mod tests {
         assert_eq!(decided(&policy("forbid", "false"), &[0, 0, 0], REQUEST), (3, 0));
     }
 
+    // Worked by hand out of 02, request 6: bit n-1 for policy n, forbids and permits alike, before and after the one that decides.
+    #[test]
+    fn the_mark_has_every_satisfied_policy() {
+        let marked = |effects: &str| {
+            let policy = |effect: char| match effect {
+                'p' => format!("{};", P),
+                'f' => "forbid(principal,action,resource);".to_string(),
+                'P' => "permit(principal is tool,action,resource);".to_string(),
+                _ => "forbid(principal,action,resource)when{false};".to_string(),
+            };
+            let text: String = effects.chars().map(policy).collect();
+            let Decision { outcome, policy, mark } =
+                decide(text.as_bytes(), &table_of(&text), &[0, 0, 0], REQUEST).unwrap();
+            (outcome, policy, mark)
+        };
+        assert_eq!(marked(""), (3, 0, 0));
+        assert_eq!(marked("PF"), (3, 0, 0));
+        assert_eq!(marked("p"), (1, 1, 1));
+        assert_eq!(marked("Pp"), (1, 2, 2));
+        assert_eq!(marked("pFpP"), (1, 1, 0b101));
+        assert_eq!(marked("pfpf"), (2, 2, 0b1111));
+        assert_eq!(marked("fPp"), (2, 1, 0b101));
+        assert_eq!(marked(&["p", &"P".repeat(62), "p"].concat()), (1, 1, 0x8000_0000_0000_0001));
+        assert_eq!(marked(&["f", &"P".repeat(62), "p"].concat()), (2, 1, 0x8000_0000_0000_0001));
+        assert_eq!(marked(&["p", &"F".repeat(62), "f"].concat()), (2, 64, 0x8000_0000_0000_0001));
+        assert_eq!(marked(&["F".repeat(63), "p".to_string()].concat()), (1, 64, 1 << 63));
+        assert_eq!(marked(&"p".repeat(64)), (1, 1, u64::MAX));
+        assert_eq!(marked(&"f".repeat(64)), (2, 1, u64::MAX));
+        assert!(is_marked(1 << 63, 64) && !is_marked(1 << 63, 63) && is_marked(1, 1) && !is_marked(2, 1));
+        // The system has no mark, whatever the rules say.
+        let text = format!("{};", P);
+        let by_system = Request { subject: b"system", ..REQUEST };
+        assert_eq!(decide(text.as_bytes(), &table_of(&text), &[0, 0, 0], by_system).unwrap().mark, 0);
+    }
+
     #[test]
     fn comparisons_need_one_kind() {
         for condition in [
@@ -532,10 +577,13 @@ mod tests {
         assert_eq!(refused(b":", bad, bad, REQUEST), Err(24));
         assert_eq!(refused(b":", bad, &[0, 0, 0, 0], REQUEST), Err(24));
         assert_eq!(refused(b":", bad, &[0, 0, 0], REQUEST), Err(20));
-        assert_eq!(refused(b" ", bad, &[0, 0, 0], REQUEST), Ok(Decision { outcome: 3, policy: 0 }));
+        assert_eq!(refused(b" ", bad, &[0, 0, 0], REQUEST), Ok(Decision { outcome: 3, policy: 0, mark: 0 }));
         let text = format!("{};", P);
         let table = table_of(&text);
-        assert_eq!(refused(text.as_bytes(), &table, &[0, 0, 0], REQUEST), Ok(Decision { outcome: 1, policy: 1 }));
+        assert_eq!(
+            refused(text.as_bytes(), &table, &[0, 0, 0], REQUEST),
+            Ok(Decision { outcome: 1, policy: 1, mark: 1 })
+        );
         assert_eq!(refused(text.as_bytes(), &table[..19], &[0, 0, 0], REQUEST), Err(20));
         assert_eq!(
             refused(text.as_bytes(), &[&table[..], &[7]].concat(), &[0, 0, 0], REQUEST).map(|it| it.outcome),

@@ -456,9 +456,9 @@ impl Permit {
         }
         let bag = read_bag(bag).ok_or(24)?;
         if self.holds(&bag, request) {
-            Ok(Decision { outcome: ALLOWED, policy: 1 })
+            Ok(Decision { outcome: ALLOWED, policy: 1, mark: 1 })
         } else {
-            Ok(Decision { outcome: NOTHING_SATISFIED, policy: 0 })
+            Ok(Decision { outcome: NOTHING_SATISFIED, policy: 0, mark: 0 })
         }
     }
 }

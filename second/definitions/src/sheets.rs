@@ -1,13 +1,13 @@
 //! Sheets: the listed rows of a question, page by page, and what the sheet program prints (01, "The sheet" and "Checked
-//! examples").
+//! examples"; 02, request 6).
 
 use crate::compile::{compile, policies_said_by, Refusal, ROOM_FOR_EACH_BYTE};
 use crate::deciding::{Decision, Facts, Request, ALLOWED, SYSTEM, SYSTEM_DECISION};
 use crate::policies::Policy;
 use crate::questions::{read_question, Question};
 
-/// A listed row is 6 bytes.
-pub const ROW_BYTES: usize = 6;
+/// A listed row is 14 bytes.
+pub const ROW_BYTES: usize = 14;
 
 /// What a call answers: the rows written, and the first listed row at or after the start that was not written, else the
 /// number of rows.
@@ -79,10 +79,21 @@ pub fn decision_of_row(
     Facts { text, request, look_up: &look_up }.decision(policies)
 }
 
-/// The row number (4 bytes, little-endian), outcome, policy.
+/// The row number (4 bytes, little-endian), outcome, policy, and the mark (8 bytes, little-endian).
 fn bytes_of_row(row: usize, decision: Decision) -> [u8; ROW_BYTES] {
-    let number = (row as u32).to_le_bytes();
-    [number[0], number[1], number[2], number[3], decision.outcome, decision.policy as u8]
+    let mut bytes = [0; ROW_BYTES];
+    bytes[..4].copy_from_slice(&(row as u32).to_le_bytes());
+    bytes[4] = decision.outcome;
+    bytes[5] = decision.policy as u8;
+    bytes[6..].copy_from_slice(&decision.mark.to_le_bytes());
+    bytes
+}
+
+/// A written row: its number, outcome, policy and mark.
+fn row_of_bytes(bytes: &[u8]) -> (u32, u8, u8, u64) {
+    let number = u32::from_le_bytes([bytes[0], bytes[1], bytes[2], bytes[3]]);
+    let mark = bytes[6..ROW_BYTES].iter().rev().fold(0, |mark, byte| mark << 8 | u64::from(*byte));
+    (number, bytes[4], bytes[5], mark)
 }
 
 /// The request out of `request.txt`: subject, action, resource, each up to a line feed, a missing line being empty.
@@ -110,8 +121,8 @@ pub fn printed(text: &[u8], question: &[u8], request: &[u8], page_bytes: usize) 
             Err(number) => return Refusal::without_place(number).printed(),
             Ok(page) => {
                 for row in sheet.chunks(ROW_BYTES).take(page.written) {
-                    let number = u32::from_le_bytes([row[0], row[1], row[2], row[3]]);
-                    lines.push_str(&format!("{} {} {}\n", number, row[4], row[5]));
+                    let (number, outcome, policy, mark) = row_of_bytes(row);
+                    lines.push_str(&format!("{} {} {} {}\n", number, outcome, policy, mark));
                 }
                 listed += page.written;
                 start_row = page.next;
@@ -128,7 +139,7 @@ pub fn printed(text: &[u8], question: &[u8], request: &[u8], page_bytes: usize) 
 mod tests {
     use super::*;
     use crate::example::{example_question, EXAMPLE};
-    use crate::plans::{Column, Plan};
+    use crate::plans::{number_value, Column, Plan};
 
     const REQUEST: &[u8] = b"person:K7\nteach\nshaft:A\n";
 
@@ -147,10 +158,11 @@ mod tests {
 
     #[test]
     fn the_worked_example_is_printed() {
-        for page_bytes in [6, 7, 12, 1_000] {
+        for page_bytes in [14, 15, 28, 1_000] {
             let lines = printed(EXAMPLE.as_bytes(), &example_question(), REQUEST, page_bytes);
-            assert_eq!(lines, "rows 9\n3 1 1\n4 1 1\nallowed 2\n");
+            assert_eq!(lines, "rows 9\n3 1 1 1\n4 1 1 1\nallowed 2\n");
         }
+        assert_eq!(printed(EXAMPLE.as_bytes(), &example_question(), REQUEST, 13), "refused 25 0 0 0\n");
     }
 
     #[test]
@@ -164,7 +176,7 @@ mod tests {
         assert_eq!(printed(b"", &question, b"tool:1\na\n", 60), "refused 23 0 0 0\n");
         assert_eq!(printed(b"", &question, b"tool:1\r\na\nshaft:1\nmore", 60), "rows 9\nallowed 0\n");
         assert_eq!(printed(b"", &question, b"system\r\na\nshaft:1", 60), "refused 21 0 0 0\n");
-        assert_eq!(printed(b"", &[0, 0, 0, 0], b"system", 60), "rows 1\n0 4 0\nallowed 1\n");
+        assert_eq!(printed(b"", &[0, 0, 0, 0], b"system", 60), "rows 1\n0 4 0 0\nallowed 1\n");
     }
 
     // Every start row, and every number of rows that fit.
@@ -174,15 +186,15 @@ mod tests {
         for start_row in 0..=9 {
             for fitting in 1..4 {
                 for (before, after) in [(0, 0), (5, 3)] {
-                    let (answer, lent) = page(b"person:K7", before + 6 * fitting + after, before, start_row);
+                    let (answer, lent) = page(b"person:K7", before + 14 * fitting + after, before, start_row);
                     let from_start: Vec<_> = listed.iter().filter(|row| usize::from(row.0) >= start_row).collect();
                     let written = from_start.len().min(fitting);
                     let next = from_start.get(written).map_or(9, |row| usize::from(row.0));
                     assert_eq!(answer, Ok(Page { written, next }));
                     let mut expected = vec![99; lent.len()];
                     for (index, row) in from_start.iter().take(written).enumerate() {
-                        let bytes = [row.0, 0, 0, 0, row.1, row.2];
-                        expected[before + 6 * index..before + 6 * index + 6].copy_from_slice(&bytes);
+                        let bytes = [row.0, 0, 0, 0, row.1, row.2, 1, 0, 0, 0, 0, 0, 0, 0];
+                        expected[before + 14 * index..before + 14 * index + 14].copy_from_slice(&bytes);
                     }
                     assert_eq!(lent, expected);
                 }
@@ -192,11 +204,42 @@ mod tests {
 
     #[test]
     fn rows_of_the_system_are_all_listed() {
-        let (answer, lent) = page(b"system", 20, 1, 7);
+        let (answer, lent) = page(b"system", 36, 1, 7);
         assert_eq!(answer, Ok(Page { written: 2, next: 9 }));
-        assert_eq!(lent, [&[99][..], &[7, 0, 0, 0, 4, 0, 8, 0, 0, 0, 4, 0], &[99; 7]].concat());
-        assert_eq!(page(b"system", 6, 0, 0).0, Ok(Page { written: 1, next: 1 }));
-        assert_eq!(page(b"system", 6, 0, 9).0, Ok(Page { written: 0, next: 9 }));
+        let row = |number: u8| [&[number, 0, 0, 0, 4, 0][..], &[0; 8]].concat();
+        assert_eq!(lent, [&[99][..], &row(7), &row(8), &[99; 7]].concat());
+        assert_eq!(page(b"system", 14, 0, 0).0, Ok(Page { written: 1, next: 1 }));
+        assert_eq!(page(b"system", 14, 0, 9).0, Ok(Page { written: 0, next: 9 }));
+    }
+
+    // By hand: policies 1 and 64 are satisfied in row 0, policies 1, 2 and 9 in row 1; row 2 has a forbid, and is not listed.
+    #[test]
+    fn rows_carry_their_marks() {
+        let policy =
+            |effect: &str, condition: &str| format!("{}(principal,action,resource)when{{{}}};", effect, condition);
+        let mut policies = vec![policy("permit", "false"); 64];
+        policies[0] = policy("permit", "true");
+        policies[63] = policy("permit", "!(env has a)");
+        policies[1] = policy("permit", "env.a==1");
+        policies[8] = policy("permit", "env.a<=1");
+        policies[2] = policy("forbid", "env.a==2");
+        let text = policies.concat();
+        let candidates = vec![vec![0], number_value(1.0_f64.to_bits()), number_value(2.0_f64.to_bits())];
+        let columns = Some(vec![Column { root: 3, path: b"a".to_vec(), candidates }]);
+        let question = Plan { sections: [Vec::new(), Vec::new(), Vec::new()], columns }.bytes();
+        let request = Request { subject: b"person:K7", action: b"teach", resource: b"shaft:A" };
+        let mut lent = [99; 30];
+        let wanted = PageWanted { lent: &mut lent, named_byte: 1, start_row: 0 };
+        assert_eq!(
+            write_page(text.as_bytes(), &table_of(&text), &question, request, wanted),
+            Ok(Page { written: 2, next: 3 })
+        );
+        let rows = [[0, 0, 0, 0, 1, 1, 1, 0, 0, 0, 0, 0, 0, 0x80], [1, 0, 0, 0, 1, 1, 3, 1, 0, 0, 0, 0, 0, 0]];
+        assert_eq!(lent.to_vec(), [&[99][..], &rows.concat(), &[99]].concat());
+        assert_eq!(
+            printed(text.as_bytes(), &question, REQUEST, 14),
+            "rows 3\n0 1 1 9223372036854775809\n1 1 1 259\nallowed 2\n"
+        );
     }
 
     // 25, 24, 26, for the system too; then 21, 22, 23, 20, which the system never gets.
@@ -213,15 +256,16 @@ mod tests {
         };
         for subject in [&b""[..], b"system"] {
             assert_eq!(refused(subject, b"", b"", true, 0, 10), Err(25));
-            assert_eq!(refused(subject, b"", b"", true, 6, 10), Err(25));
-            assert_eq!(refused(subject, b"", b"", true, 7, 10), Err(24));
-            assert_eq!(refused(subject, b"", b"", false, 7, 10), Err(26));
+            assert_eq!(refused(subject, b"", b"", true, 7, 10), Err(25));
+            assert_eq!(refused(subject, b"", b"", true, 14, 10), Err(25));
+            assert_eq!(refused(subject, b"", b"", true, 15, 10), Err(24));
+            assert_eq!(refused(subject, b"", b"", false, 15, 10), Err(26));
         }
-        assert_eq!(refused(b"system", b"", b"", false, 7, 8), Ok(1));
-        assert_eq!(refused(b"", b"", b"", false, 7, 9), Err(21));
-        assert_eq!(refused(b"tool:1", b"", b"", false, 7, 9), Err(22));
-        assert_eq!(refused(b"tool:1", b"a", b"", false, 7, 9), Err(23));
-        assert_eq!(refused(b"tool:1", b"a", b"record:1", false, 7, 9), Err(20));
+        assert_eq!(refused(b"system", b"", b"", false, 15, 8), Ok(1));
+        assert_eq!(refused(b"", b"", b"", false, 15, 9), Err(21));
+        assert_eq!(refused(b"tool:1", b"", b"", false, 15, 9), Err(22));
+        assert_eq!(refused(b"tool:1", b"a", b"", false, 15, 9), Err(23));
+        assert_eq!(refused(b"tool:1", b"a", b"record:1", false, 15, 9), Err(20));
     }
 
     // More than 32 entries in a section are decided alike.
@@ -234,6 +278,6 @@ mod tests {
         }
         plan.columns = Some(vec![Column { root: 1, path: b"q".to_vec(), candidates: vec![vec![0], vec![3, 1]] }]);
         let text = "permit(principal,action,resource)when{principal.p31==true&&principal.q==true};";
-        assert_eq!(printed(text.as_bytes(), &plan.bytes(), REQUEST, 60), "rows 2\n1 1 1\nallowed 1\n");
+        assert_eq!(printed(text.as_bytes(), &plan.bytes(), REQUEST, 60), "rows 2\n1 1 1 1\nallowed 1\n");
     }
 }

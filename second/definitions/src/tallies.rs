@@ -1,10 +1,10 @@
 //! Tallies: for one to eight requests over one question, how many rows have each outcome and how many each policy decides
-//! (02, request 1).
+//! (02, request 1); and in how many rows a policy is satisfied though another decides (02, request 6).
 
 use std::array::from_fn;
 
 use crate::compile::{policies_said_by, MOST_POLICIES};
-use crate::deciding::{Decision, Request};
+use crate::deciding::{is_marked, Decision, Request};
 use crate::questions::read_question;
 use crate::sheets::decision_of_row;
 
@@ -66,7 +66,7 @@ fn refusal(text: &[u8], table: &[u8], question: &[u8], request: Request) -> Opti
 }
 
 /// The decision of each row, for a request that is not refused.
-fn decisions(text: &[u8], table: &[u8], question: &[u8], request: Request) -> Vec<Decision> {
+pub fn decisions(text: &[u8], table: &[u8], question: &[u8], request: Request) -> Vec<Decision> {
     // The system's rows are decided without a look at the policies.
     let policies = policies_said_by(text, table).unwrap_or_default();
     match read_question(question) {
@@ -78,12 +78,18 @@ fn decisions(text: &[u8], table: &[u8], question: &[u8], request: Request) -> Ve
 }
 
 /// Each is a count of its own over the rows.
-fn counts_of(decisions: &[Decision]) -> Counts {
+pub fn counts_of(decisions: &[Decision]) -> Counts {
     let rows = |is_such: &dyn Fn(&Decision) -> bool| decisions.iter().filter(|d| is_such(d)).count() as u32;
     Counts {
         outcomes: from_fn(|index| rows(&|decision| usize::from(decision.outcome) == index + 1)),
         policies: from_fn(|index| rows(&|decision| decision.policy == index + 1)),
     }
+}
+
+/// How many rows policy 1, 2 and so on is satisfied in though another decides. No call counts this: it is made of the rows' marks.
+pub fn satisfied_beside(decisions: &[Decision]) -> [u32; MOST_POLICIES] {
+    let beside = |decision: &Decision, policy: usize| is_marked(decision.mark, policy) && decision.policy != policy;
+    from_fn(|index| decisions.iter().filter(|decision| beside(decision, index + 1)).count() as u32)
 }
 
 /// Requests as they are lent: for each its subject, action and resource, each behind a length byte. Bytes behind the last are not
@@ -202,6 +208,22 @@ mod tests {
             assert_eq!(told.outcomes.iter().sum::<u32>(), 9);
             assert_eq!(told.policies.iter().sum::<u32>(), told.outcomes[0] + told.outcomes[1]);
         }
+    }
+
+    // By hand, as above: row 5 alone has both, and policy 2 decides it. To read, policy 1 decides what it is satisfied in.
+    #[test]
+    fn a_policy_may_be_satisfied_though_another_decides() {
+        let beside = |text: &str, question: &[u8], request: Request| {
+            satisfied_beside(&decisions(text.as_bytes(), &table_of(text.as_bytes()), question, request))
+        };
+        let first = |counts: [u32; MOST_POLICIES]| (counts[0], counts[1], counts[2..].iter().sum::<u32>());
+        assert_eq!(first(beside(EXAMPLE, &example_question(), TEACH)), (1, 0, 0));
+        assert_eq!(first(beside(EXAMPLE, &example_question(), READ)), (0, 0, 0));
+        assert_eq!(first(beside(EXAMPLE, &example_question(), BY_SYSTEM)), (0, 0, 0));
+        let all = "permit(principal,action,resource);".repeat(64);
+        assert_eq!(first(beside(&all, &example_question(), TEACH)), (0, 9, 62 * 9));
+        let forbid = [&all[..34 * 63], "forbid(principal,action,resource);"].concat();
+        assert_eq!(first(beside(&forbid, &[0, 0, 0, 0], TEACH)), (1, 1, 61));
     }
 
     #[test]

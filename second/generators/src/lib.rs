@@ -6,6 +6,7 @@ pub mod damaged_texts;
 pub mod examples;
 pub mod literals;
 pub mod lock_bytes;
+pub mod marks;
 pub mod policy_texts;
 pub mod random;
 pub mod requests;

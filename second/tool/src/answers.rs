@@ -134,7 +134,7 @@ pub struct Refused {
 /// What is decided of a case.
 #[derive(Clone, Copy, PartialEq, Eq, Debug)]
 pub enum Answer {
-    Decided { outcome: usize, policy: usize },
+    Decided { outcome: usize, policy: usize, mark: u64 },
     Refused(Refused),
 }
 
@@ -145,13 +145,20 @@ pub fn numbers<const N: usize>(line: &str, word: &str) -> Option<[usize; N]> {
     numbers?.try_into().ok()
 }
 
+/// A line that ends in a mark: what stands before it, and the mark.
+pub fn before_mark(line: &str) -> Option<(&str, u64)> {
+    let (before, mark) = line.rsplit_once(' ')?;
+    Some((before, mark.parse().ok()?))
+}
+
 /// The refusal that a line says.
 pub fn read_refused(line: &str) -> Option<Refused> {
     numbers(line, "refused").map(|[number, line, column, length]| Refused { number, line, column, length })
 }
 
 fn read_answer(line: &str) -> Option<Answer> {
-    let decided = numbers(line, "decided").map(|[outcome, policy]| Answer::Decided { outcome, policy });
+    let (before, mark) = before_mark(line)?;
+    let decided = numbers(before, "decided").map(|[outcome, policy]| Answer::Decided { outcome, policy, mark });
     decided.or_else(|| read_refused(line).map(Answer::Refused))
 }
 
@@ -288,10 +295,20 @@ pub mod tests {
         let text = b"permit(principal,action,resource);";
         let case = Case { request: [b"tool:1".to_vec(), b"a".to_vec(), b"shaft:1".to_vec()], bag: vec![0, 0, 0] };
         assert_eq!(check(&StandIn, text), Ok(Ok(1)));
-        assert_eq!(decide(&StandIn, text, &[case.clone()]), Ok(Ok(vec![Answer::Decided { outcome: 1, policy: 1 }])));
+        let decided = Answer::Decided { outcome: 1, policy: 1, mark: 1 };
+        assert_eq!(decide(&StandIn, text, &[case.clone()]), Ok(Ok(vec![decided])));
         let refused = Refused { number: 4, line: 1, column: 1, length: 1 };
         assert_eq!(decide(&StandIn, b":", &[case.clone()]), Ok(Err(refused)));
-        for wrong in ["", "compiled 2 20\n", "refused 10 1 1 6\n", "decided 1 2\n", "decided 1 1\ndecided 1 1\n"] {
+        for wrong in [
+            "",
+            "compiled 2 20\n",
+            "refused 10 1 1 6\n",
+            "decided 1 1\n",
+            "decided 1 1 2\n",
+            "decided 1 1 3\n",
+            "decided 1 2 1\n",
+            "decided 1 1 1\ndecided 1 1 1\n",
+        ] {
             assert!(check(&Wrong(wrong), text).is_err(), "{}", wrong);
             assert!(decide(&Wrong(wrong), text, &[case.clone()]).is_err(), "{}", wrong);
         }

@@ -88,7 +88,7 @@ fn every_command_has_help() {
 fn the_worked_example_is_answered() {
     let folder = worked();
     let said = folder.says(&["sheet", "@"]);
-    assert_eq!((said.out.as_str(), said.status), ("rows 9\n3 1 1\n4 1 1\nallowed 2\n", 0));
+    assert_eq!((said.out.as_str(), said.status), ("rows 9\n3 1 1 1\n4 1 1 1\nallowed 2\n", 0));
     assert!(said.warnings.is_empty(), "{:?}", said.warnings);
     assert_eq!(folder.says(&["sheet", "@question.txt"]).out, said.out);
     let table = folder.says(&["sheet", "@", "--table"]).out;
@@ -103,6 +103,60 @@ fn the_worked_example_is_answered() {
     let said = folder.says(&["sheet", "@", "--html", "@page.html", "--forbidden"]);
     assert_eq!((said.out, said.status), (format!("wrote {}\n", page), 0));
     assert!(fs::read_to_string(page).unwrap().contains("Rows that are not allowed"));
+}
+
+// Two permits and two forbids: in row 0 policies 1 and 4 are satisfied, in row 1 all.
+#[test]
+fn the_other_rules_that_applied_are_shown() {
+    let rules = "permit(principal, action, resource);\nforbid(principal, action, resource) when { env.a == 1 };\n\
+        forbid(principal, action, resource) when { env has a };\npermit(principal, action, resource) when { true };\n";
+    let folder = with_question(rules, &[REQUEST, "column env.a = absent | 1\n"].concat());
+    assert_eq!(folder.says(&["sheet", "@"]).out, "rows 2\n0 1 1 9\nallowed 1\n");
+    let table = folder.says(&["sheet", "@", "--table", "--forbidden"]).out;
+    for line in [
+        "    row  env.a      outcome  policy                                                             also",
+        "!!    0  ABSENT !!  allowed  1 permit(principal, action, resource);                             4",
+        "      1  1          forbidden  2 forbid(principal, action, resource) when { env.a == 1 };    1, 3, 4",
+        "also: other policies that are satisfied in the row, though they do not decide it.",
+    ] {
+        assert!(table.lines().any(|said| said == line), "{}\n{}", line, table);
+    }
+    assert_eq!(folder.says(&["sheet", "@", "--html", "@page.html", "--forbidden"]).status, 0);
+    let page = fs::read_to_string(folder.path("page.html")).unwrap();
+    for part in ["<th class=\"also\">also</th>", "<td class=\"also\">4</td>", "<td class=\"also\">1, 3, 4</td>"] {
+        assert!(page.contains(part), "{}\n{}", part, page);
+    }
+    let tally = folder.says(&["tally", "@"]).out;
+    let counted: Vec<&str> = tally.split("another decides (counted by the tool):").nth(1).unwrap().lines().collect();
+    assert_eq!(&counted[1..3], ["", "policy  line  rows"]);
+    for (line, start) in
+        counted[4..].iter().zip(["     1     1     1  ", "     3     3     1  ", "     4     4     2  "])
+    {
+        assert!(line.starts_with(start), "{}", tally);
+    }
+    assert_eq!(counted.len(), 7, "{}", tally);
+    let also = "\nSatisfied too, but not deciding: policy 4 in line 4 (permit).\n";
+    assert!(folder.says(&["explain", "@", "--row", "0"]).out.ends_with(also));
+    let also = "\nSatisfied too, but not deciding: policy 1 in line 1 (permit), policy 3 in line 3 (forbid), policy 4 in line 4 (permit).\n";
+    assert!(folder.says(&["explain", "@", "--row", "1"]).out.ends_with(also));
+    fs::write(folder.path("bag.txt"), ["bag\n", REQUEST, "env.a = 2\n"].concat()).unwrap();
+    let said = folder.says(&["decide", "@bag.txt"]);
+    assert_eq!(
+        said.out,
+        "Forbidden by policy 3 in line 3: it is the first forbid that is satisfied.\n    forbid(principal, action, resource) \
+         when { env has a };\nSatisfied too, but not deciding: policy 1 in line 1 (permit), policy 4 in line 4 (permit).\n"
+    );
+    fs::write(folder.path("policy.txt"), "permit(principal, action, resource);").unwrap();
+    let table = folder.says(&["sheet", "@", "--table"]).out;
+    assert!(table.contains("\nIn none of these rows is another policy satisfied.\n"), "{}", table);
+    assert!(table.contains("\nNo policy is satisfied in a row that another decides.\n"), "{}", table);
+    assert!(!table.contains("also"), "{}", table);
+    assert!(folder.says(&["explain", "@", "--row", "0"]).out.ends_with("\nNo other policy is satisfied.\n"));
+    // The system's rows have no mark, and nothing is said of other policies.
+    fs::write(folder.path("question.txt"), "subject = \"system\"\ncolumn env.a = absent | 1\n").unwrap();
+    assert_eq!(folder.says(&["sheet", "@"]).out, "rows 2\n0 4 0 0\n1 4 0 0\nallowed 2\n");
+    let table = folder.says(&["sheet", "@", "--table"]).out;
+    assert!(!table.contains("another policy") && !table.contains("another decides"), "{}", table);
 }
 
 #[test]
@@ -223,7 +277,7 @@ fn what_was_made_of_the_text_must_be_what_it_says() {
     // Without the text the bytes are what is asked.
     fs::remove_file(folder.path("question.txt")).unwrap();
     fs::write(folder.path("request.txt"), "system").unwrap();
-    assert_eq!(folder.says(&["sheet", "@"]).out, "rows 1\n0 4 0\nallowed 1\n");
+    assert_eq!(folder.says(&["sheet", "@"]).out, "rows 1\n0 4 0 0\nallowed 1\n");
 }
 
 #[test]
@@ -302,7 +356,7 @@ fn a_request_of_more_lines_is_warned_of() {
         ("request.txt", "person:K7\r\nteach\r\nshaft:A\r\nmore\r\n"),
     ];
     let said = Folder::new(&files).says(&["sheet", "@"]);
-    assert_eq!(said.out, "rows 9\n3 1 1\n4 1 1\n5 1 1\nallowed 3\n");
+    assert_eq!(said.out, "rows 9\n3 1 1 1\n4 1 1 1\n5 1 1 1\nallowed 3\n");
     let text = all(&said);
     assert!(
         text.contains("request.txt has more than three lines: only subject, action and resource are read"),
@@ -433,7 +487,14 @@ fn one_request_is_tallied() {
     assert!(said.out.starts_with("Tally for person:K7, teach, shaft:A\n\nThe tally of 9 rows:\n"), "{}", said.out);
     assert!(said.out.contains("\n      2          3              4       0\n"), "{}", said.out);
     assert!(
-        said.out.ends_with("\n     2     3     3  forbid(principal, action in [\"teach\"], resource)\n"),
+        said.out
+            .contains("\n     2     3     3  forbid(principal, action in [\"teach\"], resource)\n\nIn how many rows"),
+        "{}",
+        said.out
+    );
+    // Row 5 is forbidden by policy 2, though policy 1 is satisfied in it.
+    assert!(
+        said.out.ends_with("\n     1     1     1  permit(principal is person, action, resource is shaft)\n"),
         "{}",
         said.out
     );
@@ -464,6 +525,8 @@ fn several_requests_are_tallied() {
         "   sums                                     2          6             10       0",
         "     1     1  2  0     2  permit(principal is person, action, resource is shaft)",
         "     2     3  3  3     6  forbid(principal, action in [\"teach\"], resource)",
+        "In how many rows a policy is satisfied though another decides, for each request and in sum (counted",
+        "     1     1  1  0     1  permit(principal is person, action, resource is shaft)",
     ] {
         assert!(said.out.lines().any(|said| said == line), "{}\n{}", line, said.out);
     }
@@ -480,7 +543,7 @@ fn several_requests_are_tallied() {
             said.status == 2 && all(&said).contains("there is no request 3: ") && all(&said).contains("has 2 requests")
         );
     }
-    assert_eq!(folder.says(&["sheet", "@", "--request", "1"]).out, "rows 9\n3 1 1\n4 1 1\nallowed 2\n");
+    assert_eq!(folder.says(&["sheet", "@", "--request", "1"]).out, "rows 9\n3 1 1 1\n4 1 1 1\nallowed 2\n");
     assert_eq!(folder.says(&["sheet", "@", "--request", "2"]).out, "rows 9\nallowed 0\n");
     let table = folder.says(&["sheet", "@", "--request", "2", "--table"]).out;
     assert!(
@@ -627,7 +690,9 @@ fn a_bag_is_not_spoken_of_as_rows_and_a_disarmed_forbid_is_shown() {
         "{}",
         said.out
     );
-    assert!(of("4", &["explain", "@k7.txt"]).out.contains("!! disarmed: it could forbid if principal.hired were there"));
+    assert!(of("4", &["explain", "@k7.txt"])
+        .out
+        .contains("!! disarmed: it could forbid if principal.hired were there"));
     assert_eq!(said.warnings, ["policy 2 asks for principal.hired, which is given nowhere: it is absent"]);
     let said = of("\"4\"\nprincipal.hired = \"own\"", &["decide", "@k7.txt"]);
     assert_eq!(said.out, "Not permitted: no policy is satisfied.\n");

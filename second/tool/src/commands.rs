@@ -13,7 +13,7 @@ use crate::bytes::read_bytes;
 use crate::command::{not_asked, read_file, Done, Said, Words};
 use crate::diffing::{diff, diff_text};
 use crate::doubts::{doubts, doubts_of_all};
-use crate::explaining::{conclusion, disarmed, explained};
+use crate::explaining::{also_satisfied, conclusion, disarmed, explained};
 use crate::lock_reasons::{doubts_of, no_room, sentence_of};
 use crate::locking::{read_locks, LockFile, LockLine};
 use crate::page;
@@ -24,7 +24,7 @@ use crate::record::record_of;
 use crate::refusals::{Files, RefusalShown};
 use crate::report::{report, tally_report};
 use crate::rules::{condition_lines, policy_texts};
-use crate::tallies::{self, check_lists, RefusedTally, TallyShown};
+use crate::tallies::{self, check_lists, check_marks, RefusedTally, TallyShown};
 use crate::tally_page::tally_page;
 use crate::tally_text::tally_text;
 use crate::testing::{answer_text, read_tests};
@@ -57,7 +57,8 @@ pub fn sheet(desk: &dyn Answers, words: &[&str]) -> Done<Said> {
     };
     let chosen = words.request.unwrap_or(1);
     check_lists(&tally.requests[chosen - 1], &listed)?;
-    let report = report(desk, &asked, &listed, TallyShown::new(&asked, tally, Some(chosen)), words.forbidden)?;
+    check_marks(&asked, &listed)?;
+    let report = report(desk, &asked, &listed, TallyShown::new(&asked, tally, Some(chosen))?, words.forbidden)?;
     let mut said = Said::default();
     if let Some(name) = &words.html {
         put_page(name, &page::sheet_page(&report, &record_of(&recorded(&asked))))?;
@@ -286,10 +287,11 @@ pub fn decide(desk: &dyn Answers, words: &[&str]) -> Done<Said> {
     };
     let mut said = match answer {
         Answer::Refused(refused) => Said::refused(refusal_shown(&asked, refused)?.text(&asked.rules_name)),
-        Answer::Decided { outcome, policy } => {
+        Answer::Decided { outcome, policy, .. } => {
             let texts = policy_texts(&asked.rules);
             let mut lines = conclusion(answer, &texts);
             lines.extend(texts.iter().filter(|text| text.number == policy).flat_map(|text| condition_lines(text)));
+            lines.extend(also_satisfied(answer, &texts));
             if outcome == 1 {
                 let policies = policies_of(&asked.rules).unwrap_or_default();
                 lines.extend(disarmed(&asked.rules, &policies, &texts, &case));

@@ -59,7 +59,7 @@ pub fn diff(desk: &dyn Answers, before: &Asked, after: &Asked, listed: [&[Listed
 
 fn yes(listed: Option<Listed>) -> Done<Answer> {
     match listed {
-        Some(Listed { outcome, policy, .. }) => Ok(Answer::Decided { outcome, policy }),
+        Some(Listed { outcome, policy, mark, .. }) => Ok(Answer::Decided { outcome, policy, mark }),
         None => not_asked("a row is missing on a sheet"),
     }
 }

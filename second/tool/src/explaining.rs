@@ -6,7 +6,7 @@ use definitions::deciding::{Facts, Request};
 use definitions::policies::{Condition, Disjunction, Effect, Policy};
 
 use crate::answers::Answer;
-use crate::report::outcome_text;
+use crate::report::{others_marked, outcome_text};
 use crate::rules::{
     attribute_text, attributes, condition_text, disjunction_text, effect_text, leaves, path_of, section_of,
     target_texts, PolicyText,
@@ -19,6 +19,7 @@ pub fn explained(text: &[u8], policies: &[Policy], texts: &[PolicyText], case: &
     over(text, case, |explaining| {
         let mut lines = explaining.policies(policies, texts);
         lines.extend(conclusion(answer, texts));
+        lines.extend(also_satisfied(answer, texts));
         lines
     })
 }
@@ -56,12 +57,12 @@ pub fn conclusion(answer: Answer, texts: &[PolicyText]) -> Vec<String> {
     let line = |policy: usize| texts.get(policy - 1).map_or(0, |text| text.line);
     let said = match answer {
         Answer::Refused(refused) => format!("Refused, number {}.", refused.number),
-        Answer::Decided { outcome: 1, policy } => format!(
+        Answer::Decided { outcome: 1, policy, .. } => format!(
             "Allowed by policy {} in line {}: no forbid is satisfied, and it is the first permit that is.",
             policy,
             line(policy)
         ),
-        Answer::Decided { outcome: 2, policy } => {
+        Answer::Decided { outcome: 2, policy, .. } => {
             format!(
                 "Forbidden by policy {} in line {}: it is the first forbid that is satisfied.",
                 policy,
@@ -74,6 +75,23 @@ pub fn conclusion(answer: Answer, texts: &[PolicyText]) -> Vec<String> {
         }
     };
     vec![said]
+}
+
+/// Which policies are satisfied beside the one that decides, in a sentence; nothing where none decides.
+pub fn also_satisfied(answer: Answer, texts: &[PolicyText]) -> Option<String> {
+    let others = match answer {
+        Answer::Decided { outcome: 1 | 2, policy, mark } => others_marked(mark, policy),
+        _ => return None,
+    };
+    let named: Vec<String> = texts
+        .iter()
+        .filter(|text| others.contains(&text.number))
+        .map(|text| format!("policy {} in line {} ({})", text.number, text.line, text.effect()))
+        .collect();
+    Some(match named.is_empty() {
+        true => "No other policy is satisfied.".to_string(),
+        false => format!("Satisfied too, but not deciding: {}.", named.join(", ")),
+    })
 }
 
 struct Explaining<'a> {
@@ -311,15 +329,37 @@ policy 2 in line 3, forbid: not satisfied
     principal.hired != \"own\": false   (principal.hired is absent)
     !! disarmed: it could forbid if principal.hired were there
 
-Allowed by policy 1 in line 1: no forbid is satisfied, and it is the first permit that is.";
-        assert_eq!(of(EXAMPLE, &[1, 0], Answer::Decided { outcome: 1, policy: 1 }), expected);
+Allowed by policy 1 in line 1: no forbid is satisfied, and it is the first permit that is.
+No other policy is satisfied.";
+        assert_eq!(of(EXAMPLE, &[1, 0], Answer::Decided { outcome: 1, policy: 1, mark: 1 }), expected);
+    }
+
+    #[test]
+    fn the_other_satisfied_policies_are_named() {
+        let said = of(EXAMPLE, &[1, 2], Answer::Decided { outcome: 2, policy: 2, mark: 3 });
+        assert!(
+            said.ends_with(
+                "\nForbidden by policy 2 in line 3: it is the first forbid that is satisfied.\n\
+                 Satisfied too, but not deciding: policy 1 in line 1 (permit)."
+            ),
+            "{}",
+            said
+        );
+        let rules = "permit(principal,action,resource);\nforbid(principal,action,resource);\nforbid(principal,action,resource);";
+        let said = of(rules, &[0, 0], Answer::Decided { outcome: 2, policy: 2, mark: 7 });
+        let others = "policy 1 in line 1 (permit), policy 3 in line 3 (forbid).";
+        assert!(said.ends_with(&format!("\nSatisfied too, but not deciding: {}", others)), "{}", said);
+        let said = of(EXAMPLE, &[0, 0], Answer::Decided { outcome: 3, policy: 0, mark: 0 });
+        assert!(said.ends_with("\nNot permitted: no policy is satisfied."), "{}", said);
+        let said = of(EXAMPLE, &[0, 0], Answer::Decided { outcome: 4, policy: 0, mark: 0 });
+        assert!(said.ends_with("\nYes, for the system: the rules are not looked at."), "{}", said);
     }
 
     #[test]
     fn conditions_show_their_parts() {
         let rules = "forbid(principal is tool,action,resource);permit(principal,action,resource)when{(principal.grade>3||!(principal has x))\
             &&if true then principal.hired==\"own\" else false};";
-        let said = of(rules, &[1, 1], Answer::Decided { outcome: 1, policy: 2 });
+        let said = of(rules, &[1, 1], Answer::Decided { outcome: 1, policy: 2, mark: 2 });
         for line in [
             "    all of these must be true: true",
             "        ( principal.grade > 3 || !(principal has x) ): true",

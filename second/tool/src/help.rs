@@ -17,7 +17,7 @@ pub const COMMANDS: [Help; 10] = [
 WHERE is a folder with policy.txt and question.txt, or a question's text file with policy.txt beside it.
   --rules FILE   take the rules from FILE
   --request N    of a question with several requests, the sheet of request N, from 1
-  --table        a table with the attributes' values, the tally, marks and holes, instead of plain lines
+  --table        a table with the attributes' values, the other policies that applied, the tally and holes, instead of plain lines
   --html FILE    a page for paper, written to FILE: with the tally, the rules, the day, the sums of the files and a line to sign
   --forbidden    with --table or --html, the rows that are not allowed too, and what decides them",
     },
@@ -33,6 +33,7 @@ request, or several after lines request:
     action = \"teach\"
     resource = \"shaft:N3\"
 What stands before the first request holds for all. Each request is counted over all rows, and the sums are over the requests.
+Below them stands in how many rows a policy is satisfied though another decides: the tool counts this, and it is not proved.
   --rules FILE   take the rules from FILE
   --lines        plain lines: rows N; for each request, and for the sums: outcome 1 to 4 and policy 1 to the last, each with its rows
   --html FILE    a page for paper, written to FILE",
@@ -49,7 +50,8 @@ What stands before the first request holds for all. Each request is counted over
         line: "what is decided of one request over a bag",
         more: "\
 WHERE is a text file that begins with bag, says subject, action and resource, and has attributes; or a folder whose question
-has no columns. The rules are policy.txt beside it, or FILE. Of a question with several requests N is one, from 1.",
+has no columns. The rules are policy.txt beside it, or FILE. Of a question with several requests N is one, from 1. Said are the
+outcome, the policy that decides, the other policies that are satisfied, and which forbid an absence disarms.",
     },
     Help {
         name: "explain",
@@ -57,8 +59,8 @@ has no columns. The rules are policy.txt beside it, or FILE. Of a question with 
         line: "why a row, or one request, is decided as it is",
         more: "\
 Each policy whose target matches, with the parts of its condition, the values met, what is absent, and which forbid an
-absence disarms. N is a row's number as the sheet has it, from 0; a question without columns, or a bag, needs none. Of a
-question with several requests K is one, from 1.",
+absence disarms; then what is decided, and which other policies are satisfied. N is a row's number as the sheet has it, from
+0; a question without columns, or a bag, needs none. Of a question with several requests K is one, from 1.",
     },
     Help {
         name: "test",

@@ -3,9 +3,9 @@
 
 use crate::record::Record;
 use crate::refusals::RefusalShown;
-use crate::report::{title_of, ColumnShown, Mark, PolicyShown, Report, RowShown};
+use crate::report::{has_others, said_of_others, title_of, Absence, ColumnShown, PolicyShown, Report, RowShown};
 use crate::tally_page::{lies_on_its_side, tally_section};
-use crate::words::{count_of, grouped, sentence};
+use crate::words::{count_of, grouped, ranges, sentence};
 
 /// With more columns the page lies on its side.
 const MOST_COLUMNS_UPRIGHT: usize = 3;
@@ -204,27 +204,30 @@ fn table(report: &Report, rows: &[RowShown], title: &str) -> String {
     for column in &report.columns {
         text += &format!("<th>{}</th>", broken_at_dots(&column.name));
     }
-    text += "<th class=\"short\">outcome</th><th class=\"policy\">policy</th></tr></thead>\n";
+    let has_others = has_others(rows);
+    let also = if has_others { "<th class=\"also\">also</th>" } else { "" };
+    text += &format!("<th class=\"short\">outcome</th><th class=\"policy\">policy</th>{}</tr></thead>\n", also);
     for group in report.groups(rows) {
         text += "<tbody>\n";
-        text += &group_heading(report, group);
+        text += &group_heading(report, group, has_others);
         for row in group {
-            text += &row_text(report, row);
+            text += &row_text(report, row, has_others);
         }
         text += "</tbody>\n";
     }
-    text + "</table>\n"
+    let said = said_of_others(rows).map_or(String::new(), |said| format!("<p>{}</p>\n", said));
+    text + "</table>\n" + &said
 }
 
 /// The first column's choice over the rows of a group.
-fn group_heading(report: &Report, group: &[RowShown]) -> String {
+fn group_heading(report: &Report, group: &[RowShown], has_others: bool) -> String {
     let (column, choice) = match (report.columns.first(), group.first().and_then(|row| row.choices.first())) {
         (Some(column), Some(choice)) => (column, *choice),
         _ => return String::new(),
     };
     format!(
         "<tr class=\"group\"><th colspan=\"{}\">{} = {}: {} of {} rows</th></tr>\n",
-        report.columns.len() + 4,
+        report.columns.len() + 4 + usize::from(has_others),
         escaped(&column.name),
         value(&column.candidates[choice]),
         grouped(group.len()),
@@ -232,16 +235,18 @@ fn group_heading(report: &Report, group: &[RowShown]) -> String {
     )
 }
 
-fn row_text(report: &Report, row: &RowShown) -> String {
-    let mut text = format!("<tr><td class=\"mark\">{}</td><td class=\"number\">{}</td>", row.mark().text(), row.number);
-    for ((column, choice), mark) in report.columns.iter().zip(&row.choices).zip(&row.marks) {
-        let class = if *mark == Mark::Hole { " class=\"hole\"" } else { "" };
+fn row_text(report: &Report, row: &RowShown, has_others: bool) -> String {
+    let absence = row.absence().text();
+    let mut text = format!("<tr><td class=\"mark\">{}</td><td class=\"number\">{}</td>", absence, row.number);
+    for ((column, choice), absence) in report.columns.iter().zip(&row.choices).zip(&row.absences) {
+        let class = if *absence == Absence::Hole { " class=\"hole\"" } else { "" };
         text += &format!("<td{}>{}</td>", class, value(&column.candidates[*choice]));
     }
     let policy = report
         .policy(row.policy)
         .map_or(String::new(), |policy| format!("<b>{}</b> {}", policy.text.number, escaped(&policy.text.lines[0])));
-    text + &format!("<td class=\"short\">{}</td><td class=\"policy\">{}</td></tr>\n", row.outcome, policy)
+    let also = if has_others { format!("<td class=\"also\">{}</td>", ranges(&row.also)) } else { String::new() };
+    text + &format!("<td class=\"short\">{}</td><td class=\"policy\">{}</td>{}</tr>\n", row.outcome, policy, also)
 }
 
 /// The rules with their lines numbered: the lines of policies that decide, and of those that an absence disarms, are marked.

@@ -1,8 +1,8 @@
 //! The printed sheet as plain text: aligned, and no line longer than 100 characters where that can be helped.
 
-use crate::report::{title_of, ColumnShown, Mark, Report, RowShown};
+use crate::report::{has_others, said_of_others, title_of, Absence, ColumnShown, Report, RowShown};
 use crate::tally_text::tally_lines;
-use crate::words::{count_of, grouped, sentence};
+use crate::words::{count_of, grouped, ranges, sentence};
 
 /// The width of the page.
 pub const WIDTH: usize = 100;
@@ -93,13 +93,18 @@ fn base(report: &Report) -> Vec<String> {
     lines
 }
 
-/// The widths of the table: rows' numbers, each column, outcome, and the policy with its first line.
+/// The widths of the table: rows' numbers, each column, outcome, the policy with its first line, and the other policies if there are any.
 struct Widths {
     row: usize,
     columns: Vec<usize>,
     outcome: usize,
     policy: usize,
+    also: Option<usize>,
 }
+
+/// The other policies' numbers go over several lines where they need more.
+const MOST_ALSO: usize = 12;
+const ALSO: &str = "also";
 
 /// The width of `!!`.
 const MARK: usize = 2;
@@ -107,7 +112,8 @@ const MARK: usize = 2;
 impl Widths {
     /// Of all columns of the table, from the left.
     fn all(&self) -> Vec<usize> {
-        [&[MARK, self.row][..], &self.columns, &[self.outcome, self.policy]].concat()
+        let widths = [&[MARK, self.row][..], &self.columns, &[self.outcome, self.policy]].concat();
+        widths.into_iter().chain(self.also).collect()
     }
 }
 
@@ -118,14 +124,16 @@ fn widths(report: &Report, rows: &[RowShown]) -> Widths {
     let full: Vec<usize> = report.columns.iter().map(|column| length(&column.name).max(longest_cell(column))).collect();
     let unbroken: Vec<usize> =
         report.columns.iter().map(|column| longest_part(column).max(longest_cell(column))).collect();
-    let others = MARK + GAP + row + GAP + outcome + GAP + full.len() * GAP;
+    let also = rows.iter().map(|row| ranges(&row.also).len()).max().unwrap_or(0);
+    let also = Some(also.clamp(ALSO.len(), MOST_ALSO)).filter(|_| has_others(rows));
+    let others = MARK + GAP + row + GAP + outcome + GAP + full.len() * GAP + also.map_or(0, |width| width + GAP);
     let with_policies = fitted(&full, &unbroken, WIDTH.saturating_sub(others + ROOM_FOR_POLICY));
     let columns = with_policies.unwrap_or_else(|| {
         let narrowest: Vec<usize> = full.iter().map(|width| NARROWEST.min(*width)).collect();
         fitted(&full, &narrowest, WIDTH.saturating_sub(others + number)).unwrap_or(narrowest)
     });
     let left = WIDTH.saturating_sub(others + columns.iter().sum::<usize>());
-    Widths { row, columns, outcome, policy: left.max(number) }
+    Widths { row, columns, outcome, policy: left.max(number), also }
 }
 
 /// The most characters of a column's values.
@@ -153,7 +161,7 @@ fn table(report: &Report, rows: &[RowShown]) -> Vec<String> {
     let widths = widths(report, rows);
     let mut names: Vec<String> = vec![String::new(), "row".to_string()];
     names.extend(report.columns.iter().map(|column| column.name.clone()));
-    names.extend(["outcome".to_string(), "policy".to_string()]);
+    names.extend(["outcome".to_string(), "policy".to_string(), ALSO.to_string()]);
     let mut lines = laid_out(&names, &widths);
     let mut rules: Vec<String> = widths.all().iter().map(|width| "-".repeat(*width)).collect();
     rules[0].clear();
@@ -166,15 +174,16 @@ fn table(report: &Report, rows: &[RowShown]) -> Vec<String> {
             lines.extend(laid_out(&cells(report, row, widths.policy), &widths));
         }
     }
+    lines.extend(said_of_others(rows).map(str::to_string));
     lines.push(String::new());
     lines
 }
 
-/// The texts of a row of the table.
+/// The texts of a row of the table, the other policies last: where no row has any, there is no column for them.
 fn cells(report: &Report, row: &RowShown, policy_width: usize) -> Vec<String> {
-    let mut cells = vec![row.mark().text().to_string(), row.number.to_string()];
-    for ((column, choice), mark) in report.columns.iter().zip(&row.choices).zip(&row.marks) {
-        let absent = if *mark == Mark::Hole { HOLE } else { ABSENT };
+    let mut cells = vec![row.absence().text().to_string(), row.number.to_string()];
+    for ((column, choice), absence) in report.columns.iter().zip(&row.choices).zip(&row.absences) {
+        let absent = if *absence == Absence::Hole { HOLE } else { ABSENT };
         cells.push(column.candidates[*choice].clone().unwrap_or_else(|| absent.to_string()));
     }
     cells.push(row.outcome.to_string());
@@ -183,6 +192,7 @@ fn cells(report: &Report, row: &RowShown, policy_width: usize) -> Vec<String> {
         Some(policy) if policy_width < ROOM_FOR_POLICY => policy.text.number.to_string(),
         Some(policy) => cut(&format!("{} {}", policy.text.number, policy.text.lines[0]), policy_width),
     });
+    cells.push(ranges(&row.also));
     cells
 }
 
@@ -213,8 +223,8 @@ fn policies(report: &Report) -> Vec<String> {
             lines.push(format!("The policies of {} that decide these rows:", report.rules_name));
         }
         let rows = count_of(policy.sums.listed, "row", "rows");
-        let marks = format!("! {}, !! {}", grouped(policy.sums.absent), grouped(policy.sums.holes));
-        lines.push(format!("    {}  in line {}, {} ({})", policy.text.number, policy.text.line, rows, marks));
+        let absent = format!("! {}, !! {}", grouped(policy.sums.absent), grouped(policy.sums.holes));
+        lines.push(format!("    {}  in line {}, {} ({})", policy.text.number, policy.text.line, rows, absent));
         lines.extend(policy_lines(&policy.text.lines));
     }
     if !lines.is_empty() {

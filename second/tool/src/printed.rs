@@ -1,6 +1,8 @@
-//! What the sheet program printed, read (01, "Checked examples").
+//! What the sheet program printed, read (01, "Checked examples"; 02, request 6).
 
-use crate::answers::{read_refused, Refused};
+use definitions::deciding::is_marked;
+
+use crate::answers::{before_mark, read_refused, Refused};
 use crate::words::{count_of, grouped};
 
 /// What the sheet program printed.
@@ -10,12 +12,13 @@ pub enum Printed {
     Refused(Refused),
 }
 
-/// A listed row: its number, outcome and policy.
+/// A listed row: its number, outcome, policy and mark.
 #[derive(Clone, Copy, PartialEq, Debug)]
 pub struct Listed {
     pub row: usize,
     pub outcome: usize,
     pub policy: usize,
+    pub mark: u64,
 }
 
 /// The lines, or what is wrong with them, in words.
@@ -55,14 +58,15 @@ pub fn read_printed(bytes: &[u8]) -> Result<Printed, String> {
 
 /// The row that a line lists, after the last one.
 fn row_of(line: &str, rows: usize, last: Option<&Listed>) -> Result<Listed, String> {
-    match numbers_after("", line, 3).as_deref() {
+    let (before, mark) = before_mark(line).unwrap_or(("", 0));
+    match numbers_after("", before, 3).as_deref() {
         Some([row, outcome, policy]) => {
             if *row >= rows || last.map_or(false, |last| last.row >= *row) {
                 return Err(format!("row {} is out of order or past the last", row));
             }
-            Ok(Listed { row: *row, outcome: *outcome, policy: *policy })
+            Ok(Listed { row: *row, outcome: *outcome, policy: *policy, mark })
         }
-        _ => Err("expected a row's number, outcome and policy, or allowed and a number".to_string()),
+        _ => Err("expected a row's number, outcome, policy and mark, or allowed and a number".to_string()),
     }
 }
 
@@ -73,7 +77,8 @@ fn numbers_after(word: &str, line: &str, count: usize) -> Option<Vec<usize>> {
     numbers.filter(|numbers| numbers.len() == count)
 }
 
-/// Whether the rows belong to a question with so many rows and a text with so many policies.
+/// Whether the rows belong to a question with so many rows and a text with so many policies: the policy that decides is marked, none
+/// that is not there, and for the system none.
 pub fn check_belongs(printed: &Printed, rows_of_question: usize, policies: usize) -> Result<(), String> {
     let (rows, listed) = match printed {
         Printed::Sheet { rows, listed } => (*rows, listed),
@@ -83,17 +88,21 @@ pub fn check_belongs(printed: &Printed, rows_of_question: usize, policies: usize
         let own = count_of(rows_of_question, "row", "rows");
         return Err(format!("the sheet's output says {} rows, but question.bin has {}", grouped(rows), own));
     }
-    for Listed { row, outcome, policy } in listed {
+    for Listed { row, outcome, policy, mark } in listed {
         let is_good = match outcome {
-            1 => (1..=policies).contains(policy),
-            4 => *policy == 0,
+            1 => {
+                (1..=policies).contains(policy)
+                    && is_marked(*mark, *policy)
+                    && mark.checked_shr(policies as u32).unwrap_or(0) == 0
+            }
+            4 => *policy == 0 && *mark == 0,
             _ => false,
         };
         if !is_good {
             let own = count_of(policies, "policy", "policies");
             return Err(format!(
-                "the sheet's output says outcome {} by policy {} for row {}, but policy.txt has {}",
-                outcome, policy, row, own
+                "the sheet's output says outcome {} by policy {} with mark {} for row {}, but policy.txt has {}",
+                outcome, policy, mark, row, own
             ));
         }
     }
@@ -106,8 +115,9 @@ mod tests {
 
     #[test]
     fn what_is_printed_is_read() {
-        let listed = vec![Listed { row: 3, outcome: 1, policy: 1 }, Listed { row: 4, outcome: 1, policy: 1 }];
-        let printed = read_printed(b"rows 9\n3 1 1\n4 1 1\nallowed 2\n");
+        let row = |row: usize, mark: u64| Listed { row, outcome: 1, policy: 1, mark };
+        let listed = vec![row(3, 1), row(4, u64::MAX)];
+        let printed = read_printed(b"rows 9\n3 1 1 1\n4 1 1 18446744073709551615\nallowed 2\n");
         assert_eq!(printed, Ok(Printed::Sheet { rows: 9, listed }));
         assert_eq!(read_printed(b"rows 1\nallowed 0\n"), Ok(Printed::Sheet { rows: 1, listed: vec![] }));
         let refused = Refused { number: 8, line: 1, column: 50, length: 1 };
@@ -120,10 +130,21 @@ mod tests {
             ("", "output is empty"),
             ("row 9\n", "line 1 of the sheet's output: expected rows and a number, or refused and four"),
             ("rows 9\n", "no last line"),
-            ("rows 9\n3 1\nallowed 1\n", "line 2 of the sheet's output: expected a row's number"),
-            ("rows 9\n3 1 1\nallowed 2\n", "line 3 of the sheet's output: expected allowed 1"),
-            ("rows 9\n9 1 1\nallowed 1\n", "line 2 of the sheet's output: row 9 is out of order"),
-            ("rows 9\n4 1 1\n3 1 1\nallowed 2\n", "line 3 of the sheet's output: row 3 is out of order"),
+            (
+                "rows 9\n3 1\nallowed 1\n",
+                "line 2 of the sheet's output: expected a row's number, outcome, policy and mark",
+            ),
+            (
+                "rows 9\n3 1 1\nallowed 1\n",
+                "line 2 of the sheet's output: expected a row's number, outcome, policy and mark",
+            ),
+            (
+                "rows 9\n3 1 1 18446744073709551616\nallowed 1\n",
+                "line 2 of the sheet's output: expected a row's number",
+            ),
+            ("rows 9\n3 1 1 1\nallowed 2\n", "line 3 of the sheet's output: expected allowed 1"),
+            ("rows 9\n9 1 1 1\nallowed 1\n", "line 2 of the sheet's output: row 9 is out of order"),
+            ("rows 9\n4 1 1 1\n3 1 1 1\nallowed 2\n", "line 3 of the sheet's output: row 3 is out of order"),
             ("rows 9\nallowed 0\nmore\n", "line 3 of the sheet's output: expected nothing"),
             ("refused 8 1\n", "line 1"),
             ("refused 8 1 2 2\nmore\n", "line 2"),
@@ -136,11 +157,20 @@ mod tests {
     #[test]
     fn a_sheet_belongs_to_its_folder() {
         let sheet = |text: &str| read_printed(text.as_bytes()).unwrap();
-        assert!(check_belongs(&sheet("rows 9\n3 1 2\nallowed 1"), 9, 2).is_ok());
-        assert!(check_belongs(&sheet("rows 9\n3 4 0\nallowed 1"), 9, 2).is_ok());
-        for bad in
-            ["rows 8\nallowed 0", "rows 9\n3 1 3\nallowed 1", "rows 9\n3 1 0\nallowed 1", "rows 9\n3 2 1\nallowed 1"]
-        {
+        assert!(check_belongs(&sheet("rows 9\n3 1 2 2\nallowed 1"), 9, 2).is_ok());
+        assert!(check_belongs(&sheet("rows 9\n3 1 2 3\nallowed 1"), 9, 2).is_ok());
+        assert!(check_belongs(&sheet("rows 9\n3 4 0 0\nallowed 1"), 9, 2).is_ok());
+        assert!(check_belongs(&sheet("rows 9\n3 1 1 18446744073709551615\nallowed 1"), 9, 64).is_ok());
+        for bad in [
+            "rows 8\nallowed 0",
+            "rows 9\n3 1 3 4\nallowed 1",
+            "rows 9\n3 1 0 0\nallowed 1",
+            "rows 9\n3 2 1 1\nallowed 1",
+            "rows 9\n3 1 2 1\nallowed 1",
+            "rows 9\n3 1 2 6\nallowed 1",
+            "rows 9\n3 1 1 0\nallowed 1",
+            "rows 9\n3 4 0 1\nallowed 1",
+        ] {
             assert!(check_belongs(&sheet(bad), 9, 2).is_err(), "{}", bad);
         }
     }

@@ -6,6 +6,7 @@ use std::path::{Path, PathBuf};
 use definitions::questions::read_question;
 use definitions::sheets::printed;
 use generators::bag_bytes::question;
+use generators::marks::rules_satisfied;
 use generators::random::Random;
 
 use crate::answers::tests::StandIn;
@@ -89,7 +90,7 @@ fn the_example_of_several_requests_is_as_stored() {
 // 01, "Checked examples".
 #[test]
 fn the_worked_example_is_document_01s() {
-    assert_eq!(file(&folder("worked"), "expected.txt"), b"rows 9\n3 1 1\n4 1 1\nallowed 2\n");
+    assert_eq!(file(&folder("worked"), "expected.txt"), b"rows 9\n3 1 1 1\n4 1 1 1\nallowed 2\n");
     let table = String::from_utf8(file(&folder("worked"), "table.txt")).unwrap();
     let lines: Vec<&str> = table.lines().collect();
     assert!(lines.contains(
@@ -120,7 +121,10 @@ fn check_tags(page: &str) {
 #[test]
 fn random_sheets_keep_the_width_and_the_tags() {
     let mut random = Random::new(94);
-    let texts = ["permit(principal,action,resource);", "permit(principal,action,resource)when{!(env.a==env.b)};"];
+    // One policy, one that not all rows satisfy, and 64, with many others in each row.
+    let many = rules_satisfied(|_| "permit", |number| number % 3 > 0);
+    let texts =
+        ["permit(principal,action,resource);", "permit(principal,action,resource)when{!(env.a==env.b)};", &many];
     let mut shown = 0;
     while shown < 200 {
         let bytes = question(&mut random).bytes();

@@ -1,8 +1,10 @@
-//! What the printed sheet says, apart from how it looks: the rows with their values, the marks, the holes and the sums.
+//! What the printed sheet says, apart from how it looks: the rows with their values and marks, what is absent, the holes and the sums.
 
 use std::collections::BTreeMap;
 
 use definitions::bags::Value;
+use definitions::compile::MOST_POLICIES;
+use definitions::deciding::is_marked;
 use definitions::questions::Question;
 
 use crate::answers::{decide, Answer, Answers};
@@ -54,7 +56,7 @@ pub struct Sums {
     pub holes: usize,
 }
 
-/// A row: its number, its choices, what is decided, and what each column's attribute is marked with.
+/// A row: its number, its choices, what is decided, which other policies applied, and whether each column's attribute is absent.
 #[derive(PartialEq, Debug)]
 pub struct RowShown {
     pub number: usize,
@@ -62,19 +64,21 @@ pub struct RowShown {
     pub outcome: &'static str,
     /// 0 if no policy decides.
     pub policy: usize,
-    pub marks: Vec<Mark>,
+    /// The other policies that are satisfied, by the row's mark.
+    pub also: Vec<usize>,
+    pub absences: Vec<Absence>,
 }
 
 impl RowShown {
-    /// What the row is marked with: the greatest of its attributes' marks.
-    pub fn mark(&self) -> Mark {
-        self.marks.iter().copied().max().unwrap_or(Mark::None)
+    /// What is absent in the row: the greatest of its attributes' absences.
+    pub fn absence(&self) -> Absence {
+        self.absences.iter().copied().max().unwrap_or(Absence::None)
     }
 }
 
-/// What an attribute of a listed row is marked with.
+/// Whether an attribute of a listed row is absent.
 #[derive(Clone, Copy, PartialEq, Eq, PartialOrd, Ord, Debug)]
-pub enum Mark {
+pub enum Absence {
     /// It is there.
     None,
     /// It is absent, and no hole.
@@ -83,12 +87,12 @@ pub enum Mark {
     Hole,
 }
 
-impl Mark {
+impl Absence {
     pub fn text(self) -> &'static str {
         match self {
-            Mark::None => "",
-            Mark::Absent => "!",
-            Mark::Hole => "!!",
+            Absence::None => "",
+            Absence::Absent => "!",
+            Absence::Hole => "!!",
         }
     }
 }
@@ -111,6 +115,11 @@ pub struct HoleShown {
     pub example: usize,
     /// The values that would take the yes away from the example.
     pub values: Vec<String>,
+}
+
+/// The other policies that a mark says are satisfied, beside the one that decides.
+pub fn others_marked(mark: u64, policy: usize) -> Vec<usize> {
+    (1..=MOST_POLICIES).filter(|other| *other != policy && is_marked(mark, *other)).collect()
 }
 
 /// The words for an outcome.
@@ -159,7 +168,7 @@ pub fn report(
 
 /// The report on a tally alone, without rows.
 pub fn tally_report(asked: &Asked, tally: Tally) -> Done<Report> {
-    let mut report = empty(asked, &asked.question()?, TallyShown::new(asked, tally, None));
+    let mut report = empty(asked, &asked.question()?, TallyShown::new(asked, tally, None)?);
     if asked.title.is_none() {
         report.title = match asked.requests.len() {
             1 => format!("Tally for {}", parts_of(&report.request)),
@@ -192,13 +201,30 @@ fn empty(asked: &Asked, question: &Question, tally: TallyShown) -> Report {
     }
 }
 
+/// What is said of the other policies under rows: what the column of them is, or that there is none; nothing where no policy decides.
+pub fn said_of_others(rows: &[RowShown]) -> Option<&'static str> {
+    if has_others(rows) {
+        return Some("also: other policies that are satisfied in the row, though they do not decide it.");
+    }
+    let is_decided = rows.iter().any(|row| row.policy > 0);
+    is_decided.then(|| "In none of these rows is another policy satisfied.")
+}
+
+/// Whether some row has another policy that is satisfied.
+pub fn has_others(rows: &[RowShown]) -> bool {
+    rows.iter().any(|row| !row.also.is_empty())
+}
+
+/// What is decided of a row that is not allowed.
+#[derive(Clone, Copy)]
+struct No {
+    outcome: usize,
+    policy: usize,
+    mark: u64,
+}
+
 /// What is decided of rows that are not allowed; nothing where a row's attributes do not fit a bag.
-fn decisions(
-    desk: &dyn Answers,
-    asked: &Asked,
-    question: &Question,
-    rows: &[usize],
-) -> Done<BTreeMap<usize, (usize, usize)>> {
+fn decisions(desk: &dyn Answers, asked: &Asked, question: &Question, rows: &[usize]) -> Done<BTreeMap<usize, No>> {
     let mut cases = Vec::new();
     let mut numbers = Vec::new();
     for row in rows {
@@ -216,7 +242,9 @@ fn decisions(
     let mut decided = BTreeMap::new();
     for (row, answer) in numbers.into_iter().zip(answers) {
         match answer {
-            Answer::Decided { outcome: outcome @ (2 | 3), policy } => decided.insert(row, (outcome, policy)),
+            Answer::Decided { outcome: outcome @ (2 | 3), policy, mark } => {
+                decided.insert(row, No { outcome, policy, mark })
+            }
             _ => {
                 return not_asked(format!(
                     "row {} is not on the sheet, but asked alone it is not a no: one of the proved programs is wrong",
@@ -228,12 +256,18 @@ fn decisions(
     Ok(decided)
 }
 
-fn others(question: &Question, rows: &[usize], decided: &BTreeMap<usize, (usize, usize)>) -> Vec<RowShown> {
+fn others(question: &Question, rows: &[usize], decided: &BTreeMap<usize, No>) -> Vec<RowShown> {
     let row = |number: &usize| {
         let choices = question.choices_of(*number);
-        let (outcome, policy) =
-            decided.get(number).map_or(("not allowed", 0), |(outcome, policy)| (outcome_text(*outcome), *policy));
-        RowShown { number: *number, marks: vec![Mark::None; choices.len()], choices, outcome, policy }
+        let decided = decided.get(number).copied();
+        RowShown {
+            number: *number,
+            outcome: decided.map_or("not allowed", |no| outcome_text(no.outcome)),
+            policy: decided.map_or(0, |no| no.policy),
+            also: decided.map_or(Vec::new(), |no| others_marked(no.mark, no.policy)),
+            absences: vec![Absence::None; choices.len()],
+            choices,
+        }
     };
     rows.iter().map(row).collect()
 }
@@ -241,38 +275,39 @@ fn others(question: &Question, rows: &[usize], decided: &BTreeMap<usize, (usize,
 impl Report {
     /// Add a listed row, and count it.
     fn add(&mut self, listed: &Listed, choices: Vec<usize>, holes: &[Hole]) {
-        let mut marks = Vec::new();
+        let mut absences = Vec::new();
         for (index, (column, choice)) in self.columns.iter_mut().zip(&choices).enumerate() {
-            let mark = if column.candidates[*choice].is_some() {
-                Mark::None
+            let absence = if column.candidates[*choice].is_some() {
+                Absence::None
             } else if holes.iter().any(|hole| hole.columns.contains(&index)) {
-                Mark::Hole
+                Absence::Hole
             } else {
-                Mark::Absent
+                Absence::Absent
             };
-            column.sums.count(mark);
-            marks.push(mark);
+            column.sums.count(absence);
+            absences.push(absence);
         }
         let row = RowShown {
             number: listed.row,
             choices,
             outcome: outcome_text(listed.outcome),
             policy: listed.policy,
-            marks,
+            also: others_marked(listed.mark, listed.policy),
+            absences,
         };
         if let Some(index) = listed.policy.checked_sub(1) {
-            self.policies[index].sums.count(row.mark());
+            self.policies[index].sums.count(row.absence());
         }
         self.listed.push(row);
     }
 
     /// Add the holes by their sorts: the same attributes, and the same policy that would forbid.
-    fn add_holes(&mut self, question: &Question, holes: &[(usize, Hole)], decided: &BTreeMap<usize, (usize, usize)>) {
+    fn add_holes(&mut self, question: &Question, holes: &[(usize, Hole)], decided: &BTreeMap<usize, No>) {
         let mut sorts: BTreeMap<(Option<usize>, &[usize]), (usize, usize, usize)> = BTreeMap::new();
         for (row, hole) in holes {
             let mut seen = Vec::new();
             for closed in &hole.closed {
-                let policy = decided.get(closed).map(|(_, policy)| *policy);
+                let policy = decided.get(closed).map(|no| no.policy);
                 if !seen.contains(&policy) {
                     seen.push(policy);
                     sorts.entry((policy, &hole.columns)).or_insert((0, *row, *closed)).0 += 1;
@@ -294,7 +329,7 @@ impl Report {
     /// The sums over all listed rows.
     pub fn sums(&self) -> Sums {
         let mut sums = Sums::default();
-        self.listed.iter().for_each(|row| sums.count(row.mark()));
+        self.listed.iter().for_each(|row| sums.count(row.absence()));
         sums
     }
 
@@ -353,10 +388,10 @@ impl HoleShown {
 }
 
 impl Sums {
-    fn count(&mut self, mark: Mark) {
+    fn count(&mut self, absence: Absence) {
         self.listed += 1;
-        self.absent += usize::from(mark >= Mark::Absent);
-        self.holes += usize::from(mark >= Mark::Hole);
+        self.absent += usize::from(absence >= Absence::Absent);
+        self.holes += usize::from(absence >= Absence::Hole);
     }
 }
 
@@ -442,7 +477,7 @@ pub mod tests {
         match read_printed(lines.as_bytes()).unwrap() {
             Printed::Sheet { listed, .. } => {
                 let tally = tally(&StandIn, asked).unwrap().1.unwrap();
-                report(&StandIn, asked, &listed, TallyShown::new(asked, tally, None), with_others).unwrap()
+                report(&StandIn, asked, &listed, TallyShown::new(asked, tally, None).unwrap(), with_others).unwrap()
             }
             Printed::Refused { .. } => panic!("{}", lines),
         }
@@ -458,8 +493,8 @@ pub mod tests {
         assert_eq!(report.request, ["person:K7", "teach", "shaft:A"]);
         assert_eq!(report.rows, 9);
         assert_eq!(report.sums(), Sums { listed: 2, absent: 1, holes: 1 });
-        let marks: Vec<(usize, Mark)> = report.listed.iter().map(|row| (row.number, row.mark())).collect();
-        assert_eq!(marks, [(3, Mark::Hole), (4, Mark::None)]);
+        let absences: Vec<(usize, Absence)> = report.listed.iter().map(|row| (row.number, row.absence())).collect();
+        assert_eq!(absences, [(3, Absence::Hole), (4, Absence::None)]);
         assert_eq!(report.columns[0].sums, Sums { listed: 2, absent: 0, holes: 0 });
         assert_eq!(report.columns[1].sums, Sums { listed: 2, absent: 1, holes: 1 });
         let deciding: Vec<usize> = report.deciding().map(|policy| policy.text.number).collect();
@@ -478,8 +513,8 @@ pub mod tests {
     fn absence_that_makes_no_difference_is_no_hole() {
         let text = "permit(principal,action,resource)when{!(env.a==1)};";
         let report = of(text, "column env.b = absent | 1\ncolumn env.a = absent | 1 | 2", REQUEST);
-        let marks: Vec<(usize, Mark)> = report.listed.iter().map(|row| (row.number, row.mark())).collect();
-        assert_eq!(marks, [(0, Mark::Hole), (2, Mark::Absent), (3, Mark::Hole), (5, Mark::None)]);
+        let absences: Vec<(usize, Absence)> = report.listed.iter().map(|row| (row.number, row.absence())).collect();
+        assert_eq!(absences, [(0, Absence::Hole), (2, Absence::Absent), (3, Absence::Hole), (5, Absence::None)]);
         assert_eq!(report.groups(&report.listed).iter().map(|group| group.len()).collect::<Vec<_>>(), [2, 2]);
         assert_eq!(report.holes.len(), 1);
         assert!(report.holes[0].sentence(|_| 1).contains("no permit would be satisfied"));
@@ -490,9 +525,10 @@ pub mod tests {
     fn a_hole_of_two_absences() {
         let text = "permit(principal,action,resource);forbid(principal,action,resource)when{env.a==1&&env.b==1};";
         let report = of(text, "column env.a = absent | 1\ncolumn env.b = absent | 1", REQUEST);
-        let marks: Vec<(usize, Vec<Mark>)> = report.listed.iter().map(|row| (row.number, row.marks.clone())).collect();
-        let hole = Mark::Hole;
-        assert_eq!(marks, [(0, vec![hole, hole]), (1, vec![hole, Mark::None]), (2, vec![Mark::None, hole])]);
+        let absences: Vec<(usize, Vec<Absence>)> =
+            report.listed.iter().map(|row| (row.number, row.absences.clone())).collect();
+        let hole = Absence::Hole;
+        assert_eq!(absences, [(0, vec![hole, hole]), (1, vec![hole, Absence::None]), (2, vec![Absence::None, hole])]);
         let sentences: Vec<String> = report.holes.iter().map(|hole| hole.sentence(|_| 1)).collect();
         assert!(
             sentences[1].starts_with("1 row is allowed because of what is absent, env.a and env.b: policy 2 in line 1")

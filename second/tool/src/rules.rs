@@ -23,6 +23,17 @@ pub struct PolicyText {
     pub tokens: Vec<u8>,
 }
 
+impl PolicyText {
+    /// `permit` or `forbid`, as its first token says.
+    pub fn effect(&self) -> &'static str {
+        if self.tokens.starts_with(b"forbid") {
+            "forbid"
+        } else {
+            "permit"
+        }
+    }
+}
+
 /// The policies of a text that compiles. Each ends with a semicolon, which stands nowhere else.
 pub fn policy_texts(text: &[u8]) -> Vec<PolicyText> {
     let mut policies: Vec<PolicyText> = Vec::new();

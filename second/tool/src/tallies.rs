@@ -1,7 +1,13 @@
-//! The tally: what `ask tally` printed, read and held to what the counts must add up to. No count is the tool's own.
+//! The tally: what `ask tally` printed, read and held to what the counts must add up to. No count of it is the tool's own; beside it
+//! the tool counts in how many rows a policy is satisfied though another decides.
 
 use std::iter::Peekable;
 use std::str::Lines;
+
+use definitions::compile::{policies_of, table_of};
+use definitions::deciding::Request;
+use definitions::sheets::decision_of_row;
+use definitions::tallies::{counts_of, decisions, satisfied_beside};
 
 use crate::answers::{numbers, read_refused, Answers, Refused};
 use crate::asked::{bytes_of_requests, Asked};
@@ -141,17 +147,20 @@ pub struct TallyShown {
     pub chosen: Option<usize>,
     pub policies: Vec<PolicyText>,
     pub tally: Tally,
+    /// How many rows each policy is satisfied in though another decides, for each request.
+    pub also: Vec<Vec<usize>>,
 }
 
 impl TallyShown {
     /// The tally of what is asked, beside the sheet of a request if one is chosen.
-    pub fn new(asked: &Asked, tally: Tally, chosen: Option<usize>) -> TallyShown {
-        TallyShown {
+    pub fn new(asked: &Asked, tally: Tally, chosen: Option<usize>) -> Done<TallyShown> {
+        Ok(TallyShown {
             requests: asked.requests.iter().map(|[a, b, c]| [shown(a), shown(b), shown(c)]).collect(),
             chosen: chosen.filter(|_| asked.requests.len() > 1),
             policies: policy_texts(&asked.rules),
+            also: also_satisfied(asked, &tally)?,
             tally,
-        }
+        })
     }
 
     pub fn has_several(&self) -> bool {
@@ -160,12 +169,41 @@ impl TallyShown {
 
     /// The policies that decide some row, each with how many rows it decides: for each request, and then the sum if there are several.
     pub fn deciding(&self) -> Vec<(&PolicyText, Vec<usize>)> {
-        let of = |index: usize| {
-            let sum = Some(&self.tally.sums).filter(|_| self.has_several());
-            self.tally.requests.iter().chain(sum).map(|counts| counts.policies[index]).collect()
+        let counts: Vec<&[usize]> = self.tally.requests.iter().map(|counts| &counts.policies[..]).collect();
+        self.counted(&counts)
+    }
+
+    /// The policies that are satisfied in some row though another decides, each with how many rows, likewise.
+    pub fn beside(&self) -> Vec<(&PolicyText, Vec<usize>)> {
+        let counts: Vec<&[usize]> = self.also.iter().map(|counts| &counts[..]).collect();
+        self.counted(&counts)
+    }
+
+    /// The policies that have a count but 0, each with its counts: for each request, and then the sum if there are several.
+    fn counted(&self, counts: &[&[usize]]) -> Vec<(&PolicyText, Vec<usize>)> {
+        let of = |policy: &PolicyText| -> Vec<usize> {
+            let own: Vec<usize> = counts.iter().map(|counts| counts[policy.number - 1]).collect();
+            let sum = Some(own.iter().sum()).filter(|_| self.has_several());
+            own.into_iter().chain(sum).collect()
         };
-        let decides = |policy: &&PolicyText| self.tally.sums.policies[policy.number - 1] > 0;
-        self.policies.iter().filter(decides).map(|policy| (policy, of(policy.number - 1))).collect()
+        let all = self.policies.iter().map(|policy| (policy, of(policy)));
+        all.filter(|(_, counts)| counts.iter().any(|count| *count > 0)).collect()
+    }
+
+    /// What stands over the counts of the policies that are satisfied though another decides, or in place of them; nothing where no policy
+    /// decides.
+    pub fn said_of_others(&self) -> Option<String> {
+        let by_request = if self.has_several() { ", for each request and in sum" } else { "" };
+        if self.deciding().is_empty() {
+            return None;
+        }
+        Some(match self.beside().is_empty() {
+            true => "No policy is satisfied in a row that another decides.".to_string(),
+            false => format!(
+                "In how many rows a policy is satisfied though another decides{} (counted by the tool):",
+                by_request
+            ),
+        })
     }
 
     /// Which policies decide no row, in a sentence; nothing if each decides one.
@@ -178,6 +216,42 @@ impl TallyShown {
         }
         Some(format!("No row is decided by {} {}.", policies, ranges(&idle)))
     }
+}
+
+/// How many rows each policy is satisfied in though another decides, for each request: counted over all rows by the definitions, whose
+/// decisions must be what the proved program counted.
+fn also_satisfied(asked: &Asked, tally: &Tally) -> Done<Vec<Vec<usize>>> {
+    let table = table_of(&asked.rules);
+    let mut also = Vec::new();
+    for ([subject, action, resource], proved) in asked.requests.iter().zip(&tally.requests) {
+        let decided = decisions(&asked.rules, &table, &asked.sent, Request { subject, action, resource });
+        let own = counts_of(&decided);
+        let own = own.outcomes.iter().chain(own.policies.iter().take(proved.policies.len()));
+        if !own.map(|count| *count as usize).eq(proved.all()) {
+            return not_asked(
+                "the proved program tallies otherwise than what explains it: one of them is wrong, so nothing is shown",
+            );
+        }
+        let beside = satisfied_beside(&decided);
+        also.push(beside.iter().take(proved.policies.len()).map(|count| *count as usize).collect());
+    }
+    Ok(also)
+}
+
+/// The marks of the listed rows are what the definitions find there.
+pub fn check_marks(asked: &Asked, listed: &[Listed]) -> Done<()> {
+    let question = asked.question()?;
+    let policies = policies_of(&asked.rules).unwrap_or_default();
+    for row in listed {
+        let own = decision_of_row(&asked.rules, &policies, &question, asked.request(), row.row).mark;
+        if own != row.mark {
+            return not_asked(format!(
+                "the proved program gives row {} the mark {}, and what explains it {}: one of them is wrong, so nothing is shown",
+                row.row, row.mark, own
+            ));
+        }
+    }
+    Ok(())
 }
 
 /// A request's counts are those of the rows that its sheet lists: outcomes 1 and 4, and what each policy decides of them.
@@ -269,10 +343,52 @@ mod tests {
     #[test]
     fn the_sheet_lists_what_is_counted() {
         let counts = Counts { outcomes: [2, 3, 4, 0], policies: vec![2, 3] };
-        let row = |row: usize, policy: usize| Listed { row, outcome: 1, policy };
+        let row = |row: usize, policy: usize| Listed { row, outcome: 1, policy, mark: 1 << (policy - 1) };
         assert!(check_lists(&counts, &[row(3, 1), row(4, 1)]).is_ok());
         for listed in [vec![row(3, 1)], vec![row(3, 1), row(4, 2)], vec![]] {
             assert!(check_lists(&counts, &listed).is_err());
         }
+    }
+
+    // By hand: policy 1 is satisfied in rows 3, 4 and 5, and row 5 is decided by policy 2. The system's rows have no mark.
+    #[test]
+    fn policies_that_do_not_decide_are_counted_beside() {
+        let of = |subjects: &[&str]| {
+            let asked = with_requests(subjects);
+            let tally = tally(&StandIn, &asked).unwrap().1.unwrap();
+            TallyShown::new(&asked, tally, None).unwrap()
+        };
+        let one = of(&["person:K7"]);
+        assert_eq!(one.also, [vec![1, 0]]);
+        assert_eq!(
+            one.beside().iter().map(|(policy, rows)| (policy.number, rows.clone())).collect::<Vec<_>>(),
+            [(1, vec![1])]
+        );
+        assert_eq!(
+            one.said_of_others().unwrap(),
+            "In how many rows a policy is satisfied though another decides (counted by the tool):"
+        );
+        let several = of(&["person:K7", "tool:1", "system", "person:K8"]);
+        assert_eq!(several.also, [vec![1, 0], vec![0, 0], vec![0, 0], vec![1, 0]]);
+        assert_eq!(several.beside()[0].1, [1, 0, 0, 1, 2]);
+        assert_eq!(of(&["tool:1"]).said_of_others().unwrap(), "No policy is satisfied in a row that another decides.");
+        assert_eq!(of(&["system"]).said_of_others(), None);
+    }
+
+    #[test]
+    fn what_is_counted_beside_is_held_to_the_proved_tally() {
+        let asked = with_requests(&["person:K7"]);
+        let counts = Counts { outcomes: [3, 2, 4, 0], policies: vec![3, 2] };
+        let wrong = Tally { rows: 9, requests: vec![counts.clone()], sums: counts };
+        assert!(TallyShown::new(&asked, wrong, None).is_err());
+    }
+
+    #[test]
+    fn marks_are_held_to_the_definitions() {
+        let asked = with_requests(&["person:K7"]);
+        let row = |row: usize, mark: u64| Listed { row, outcome: 1, policy: 1, mark };
+        assert!(check_marks(&asked, &[row(3, 1), row(4, 1)]).is_ok());
+        assert!(check_marks(&asked, &[row(3, 1), row(4, 3)]).is_err());
+        assert!(check_marks(&asked, &[row(5, 1)]).is_err());
     }
 }

@@ -1,8 +1,10 @@
-//! The tally on a page for paper: a table of the requests with their outcomes, and one of the policies that decide.
+//! The tally on a page for paper: a table of the requests with their outcomes, one of the policies that decide, and one of those that are
+//! satisfied where another decides.
 
 use crate::page::{base, candidates, escaped, page, recorded, rules, warnings};
 use crate::record::Record;
 use crate::report::{outcome_text, Report};
+use crate::rules::PolicyText;
 use crate::tallies::{Counts, TallyShown};
 use crate::words::{count_of, grouped};
 
@@ -26,7 +28,7 @@ pub fn lies_on_its_side(tally: &TallyShown) -> bool {
     tally.requests.len() > MOST_REQUESTS_UPRIGHT
 }
 
-/// The two tables. Beside the sheet of the only request, the policies have how many of their rows are marked.
+/// The tables. Beside the sheet of the only request, the policies that decide have in how many of their rows something is absent.
 pub fn tally_section(report: &Report) -> String {
     let tally = &report.tally;
     let rows = count_of(tally.tally.rows, "row", "rows");
@@ -35,7 +37,14 @@ pub fn tally_section(report: &Report) -> String {
         many => format!("{} requests, each over {}, by outcome and by the policy that decides", many, rows),
     };
     let idle = tally.idle().map_or(String::new(), |sentence| format!("<p>{}</p>\n", sentence));
-    format!("<h2>Tally</h2>\n<p>{}.</p>\n{}{}{}", what, outcomes(tally), policies(report), idle)
+    let beside = tally.said_of_others().map_or(String::new(), |said| format!("<p>{}</p>\n{}", said, beside(tally)));
+    format!("<h2>Tally</h2>\n<p>{}.</p>\n{}{}{}{}", what, outcomes(tally), policies(report), idle, beside)
+}
+
+/// The policies that are satisfied where another decides.
+fn beside(tally: &TallyShown) -> String {
+    let rows: Vec<String> = tally.beside().iter().map(|(policy, counts)| policy_row(policy, counts, "")).collect();
+    policy_table(&heads(tally), &rows)
 }
 
 /// A cell with a number; none is shown fainter.
@@ -73,39 +82,54 @@ fn outcomes(tally: &TallyShown) -> String {
     }
 }
 
+/// The policies that decide, and of the only request's sheet in how many of their rows something is absent.
 fn policies(report: &Report) -> String {
     let tally = &report.tally;
-    let deciding = tally.deciding();
-    if deciding.is_empty() {
-        return String::new();
-    }
-    let has_marks = !tally.has_several() && !report.listed.is_empty();
-    let mut heads: Vec<String> = vec!["rows".to_string()];
-    if tally.has_several() {
-        heads = (1..=tally.requests.len()).map(|request| format!("request {}", request)).collect();
-        heads.push("sums".to_string());
-    } else if has_marks {
+    let has_absences = !tally.has_several() && !report.listed.is_empty();
+    let mut heads = heads(tally);
+    if has_absences {
         heads.extend(["!".to_string(), "!!".to_string()]);
     }
-    let heads: String = heads.iter().map(|head| format!("<th class=\"number\">{}</th>", head)).collect();
-    let mut text = format!(
-        "<table>\n<thead><tr><th class=\"number\">policy</th><th class=\"number\">line</th><th>first line</th>{}</tr></thead>\n<tbody>\n",
-        heads
-    );
-    for (policy, counts) in deciding {
-        let marks = match report.policy(policy.number) {
-            Some(shown) if has_marks && shown.sums.listed > 0 => number(shown.sums.absent) + &number(shown.sums.holes),
-            _ if has_marks => "<td class=\"number\"></td><td class=\"number\"></td>".to_string(),
+    let row = |(policy, counts): &(&PolicyText, Vec<usize>)| {
+        let absences = match report.policy(policy.number) {
+            Some(shown) if has_absences && shown.sums.listed > 0 => {
+                number(shown.sums.absent) + &number(shown.sums.holes)
+            }
+            _ if has_absences => "<td class=\"number\"></td><td class=\"number\"></td>".to_string(),
             _ => String::new(),
         };
-        text += &format!(
-            "<tr>{}{}<td>{}</td>{}{}</tr>\n",
-            number(policy.number),
-            number(policy.line),
-            escaped(&policy.lines[0]),
-            counts.iter().map(|count| number(*count)).collect::<String>(),
-            marks
-        );
+        policy_row(policy, counts, &absences)
+    };
+    policy_table(&heads, &tally.deciding().iter().map(row).collect::<Vec<String>>())
+}
+
+/// What stands over the counts of a policy.
+fn heads(tally: &TallyShown) -> Vec<String> {
+    if !tally.has_several() {
+        return vec!["rows".to_string()];
     }
-    text + "</tbody>\n</table>\n"
+    let requests = (1..=tally.requests.len()).map(|request| format!("request {}", request));
+    requests.chain(["sums".to_string()]).collect()
+}
+
+/// A policy with its counts, and cells behind them.
+fn policy_row(policy: &PolicyText, counts: &[usize], behind: &str) -> String {
+    format!(
+        "<tr>{}{}<td>{}</td>{}{}</tr>\n",
+        number(policy.number),
+        number(policy.line),
+        escaped(&policy.lines[0]),
+        counts.iter().map(|count| number(*count)).collect::<String>(),
+        behind
+    )
+}
+
+/// A table of policies; nothing if there is none.
+fn policy_table(heads: &[String], rows: &[String]) -> String {
+    if rows.is_empty() {
+        return String::new();
+    }
+    let heads: String = heads.iter().map(|head| format!("<th class=\"number\">{}</th>", head)).collect();
+    let words = "<th class=\"number\">policy</th><th class=\"number\">line</th><th>first line</th>";
+    format!("<table>\n<thead><tr>{}{}</tr></thead>\n<tbody>\n{}</tbody>\n</table>\n", words, heads, rows.concat())
 }

@@ -1,4 +1,4 @@
-//! The tally as plain text: how many rows have each outcome, and how many each policy decides.
+//! The tally as plain text: how many rows have each outcome, how many each policy decides, and in how many it is satisfied beside.
 
 use std::ops::Range;
 
@@ -26,7 +26,7 @@ pub fn tally_text(report: &Report) -> String {
     lines.iter().map(|line| format!("{}\n", line.trim_end())).collect()
 }
 
-/// The tables of outcomes and of policies, and which policies decide no row.
+/// The tables of outcomes and of policies, which policies decide no row, and which are satisfied where another decides.
 pub fn tally_lines(tally: &TallyShown) -> Vec<String> {
     let mut lines = vec![heading(tally), String::new()];
     lines.extend(outcomes(tally));
@@ -34,7 +34,7 @@ pub fn tally_lines(tally: &TallyShown) -> Vec<String> {
         lines.push("* the request of this sheet".to_string());
     }
     lines.push(String::new());
-    let deciding = policies(tally);
+    let deciding = policies(tally, &tally.deciding());
     if !deciding.is_empty() {
         let by_request = if tally.has_several() { ", for each request and in sum" } else { "" };
         lines.extend([format!("How many rows each policy decides{}:", by_request), String::new()]);
@@ -42,6 +42,13 @@ pub fn tally_lines(tally: &TallyShown) -> Vec<String> {
     }
     lines.extend(tally.idle().iter().flat_map(|sentence| wrapped(sentence, WIDTH)));
     lines.push(String::new());
+    if let Some(said) = tally.said_of_others() {
+        let beside = policies(tally, &tally.beside());
+        lines.extend(wrapped(&said, WIDTH));
+        lines.extend([String::new()].into_iter().filter(|_| !beside.is_empty()));
+        lines.extend(beside);
+        lines.push(String::new());
+    }
     lines
 }
 
@@ -73,10 +80,9 @@ fn outcomes(tally: &TallyShown) -> Vec<String> {
     table.lines(1)
 }
 
-/// Each policy that decides a row: number, line, how many rows, and its first line, in a line of its own where there is no room.
-fn policies(tally: &TallyShown) -> Vec<String> {
-    let deciding = tally.deciding();
-    if deciding.is_empty() {
+/// Policies with their counts: number, line, how many rows, and its first line, in a line of its own where there is no room.
+fn policies(tally: &TallyShown, counted: &[(&PolicyText, Vec<usize>)]) -> Vec<String> {
+    if counted.is_empty() {
         return Vec::new();
     }
     let mut heading = vec!["policy".to_string(), "line".to_string()];
@@ -89,10 +95,10 @@ fn policies(tally: &TallyShown) -> Vec<String> {
     let cells = |(policy, counts): &(&PolicyText, Vec<usize>)| {
         [policy.number, policy.line].iter().chain(counts).map(|number| grouped(*number)).collect()
     };
-    let lines = Table { heading, rows: deciding.iter().map(cells).collect(), words: 0..0 }.lines(0);
+    let lines = Table { heading, rows: counted.iter().map(cells).collect(), words: 0..0 }.lines(0);
     let room = WIDTH.saturating_sub(length(&lines[0]) + GAP.len());
     let mut told = lines[..2].to_vec();
-    for (line, (policy, _)) in lines[2..].iter().zip(&deciding) {
+    for (line, (policy, _)) in lines[2..].iter().zip(counted) {
         if room < ROOM_FOR_POLICY {
             told.extend([line.clone(), format!("        {}", cut(&policy.lines[0], WIDTH - 8))]);
         } else {
@@ -178,15 +184,25 @@ mod tests {
         let sums = counts([2_097_152, 0, 0, 0], &[0, 2_097_152]);
         let parts = ["person:", "", "parameter:"].map(|start| format!("{}{}", start, "x".repeat(90)));
         let tally = Tally { rows: 262_144, requests: vec![one; 8], sums };
-        let shown =
-            TallyShown { requests: vec![parts; 8], chosen: Some(3), policies: vec![policy(1), policy(2)], tally };
+        let shown = TallyShown {
+            requests: vec![parts; 8],
+            chosen: Some(3),
+            policies: vec![policy(1), policy(2)],
+            tally,
+            also: vec![vec![262_144, 0]; 8],
+        };
         let lines = tally_lines(&shown);
         let text = lines.join("\n");
         assert!(lines.iter().all(|line| length(line) <= WIDTH), "{}", text);
         assert!(text.starts_with("The tally of 8 requests, each over 262,144 rows:"));
         assert!(text.contains("\n    * 3  person:") && text.contains("* the request of this sheet"), "{}", text);
         assert!(text.contains("2,097,152\n        permit(principal"), "{}", text);
-        assert!(text.ends_with("No row is decided by policy 1.\n"), "{}", text);
+        assert!(
+            text.contains("\nNo row is decided by policy 1.\n\nIn how many rows a policy is satisfied"),
+            "{}",
+            text
+        );
+        assert_eq!(text.matches("2,097,152\n        permit(principal").count(), 2, "{}", text);
     }
 
     #[test]
@@ -194,7 +210,7 @@ mod tests {
         let one = counts([0, 0, 0, 9], &[0]);
         let tally = Tally { rows: 9, requests: vec![one.clone()], sums: one };
         let requests = vec![["system", "", ""].map(str::to_string)];
-        let shown = TallyShown { requests, chosen: None, policies: vec![policy(1)], tally };
+        let shown = TallyShown { requests, chosen: None, policies: vec![policy(1)], tally, also: vec![vec![0]] };
         assert_eq!(
             tally_lines(&shown),
             [

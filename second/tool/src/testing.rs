@@ -29,7 +29,7 @@ impl Expected {
     /// Whether the answer is as expected.
     pub fn is_met_by(self, answer: Answer) -> bool {
         match (self, answer) {
-            (Expected::Outcome(wanted, by), Answer::Decided { outcome, policy }) => {
+            (Expected::Outcome(wanted, by), Answer::Decided { outcome, policy, .. }) => {
                 wanted == outcome && by.map_or(true, |by| by == policy)
             }
             (Expected::Refused(wanted), Answer::Refused(refused)) => wanted == refused.number,
@@ -49,8 +49,8 @@ impl Expected {
 /// What was answered, in the words of `expect`.
 pub fn answer_text(answer: Answer) -> String {
     match answer {
-        Answer::Decided { outcome, policy: 0 } => Expected::Outcome(outcome, None).text(),
-        Answer::Decided { outcome, policy } => Expected::Outcome(outcome, Some(policy)).text(),
+        Answer::Decided { outcome, policy: 0, .. } => Expected::Outcome(outcome, None).text(),
+        Answer::Decided { outcome, policy, .. } => Expected::Outcome(outcome, Some(policy)).text(),
         Answer::Refused(refused) => Expected::Refused(refused.number).text(),
     }
 }
@@ -269,13 +269,13 @@ mod tests {
 
     #[test]
     fn answers_are_held_to_what_is_expected() {
-        let allowed = Answer::Decided { outcome: 1, policy: 2 };
+        let allowed = Answer::Decided { outcome: 1, policy: 2, mark: 6 };
         assert!(Expected::Outcome(1, None).is_met_by(allowed) && Expected::Outcome(1, Some(2)).is_met_by(allowed));
         assert!(!Expected::Outcome(1, Some(1)).is_met_by(allowed) && !Expected::Outcome(2, None).is_met_by(allowed));
         let refused = Answer::Refused(Refused { number: 21, line: 0, column: 0, length: 0 });
         assert!(Expected::Refused(21).is_met_by(refused) && !Expected::Refused(22).is_met_by(refused));
         assert_eq!(answer_text(allowed), "allowed by policy 2");
         assert_eq!(answer_text(refused), "refused 21");
-        assert_eq!(answer_text(Answer::Decided { outcome: 3, policy: 0 }), "not permitted");
+        assert_eq!(answer_text(Answer::Decided { outcome: 3, policy: 0, mark: 0 }), "not permitted");
     }
 }

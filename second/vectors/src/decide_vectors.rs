@@ -1,13 +1,14 @@
-//! The decide vectors: text, table, bag, subject, action and resource, and the decision or the refusal.
+//! The decide vectors: text, table, bag, subject, action and resource, and the decision with its mark, or the refusal.
 
 use definitions::compile::table_of;
-use definitions::deciding::{decide, Request};
+use definitions::deciding::{decide, Decision, Request};
 use definitions::plans::{list_value, string_value, Plan};
 use definitions::policies::{PRINCIPAL_TYPES, RESOURCE_TYPES};
 use generators::bag_bytes::{break_a_rule, damaged};
 use generators::condition_texts::{self, values_bag, P};
 use generators::damaged_texts::any_text;
 use generators::examples::{REFUSED_TEXTS, REQUEST};
+use generators::marks::{rules_satisfied, PLACES};
 use generators::random::Random;
 use generators::requests;
 use generators::rich_bags::rich_question;
@@ -49,10 +50,10 @@ fn with_own_table(text: &str, bag: &[u8], request: Request) -> Vector {
     vector(text.as_bytes(), &table_of(text.as_bytes()), bag, request)
 }
 
-/// The answer: outcome and policy, or `R` and the refusal's number.
+/// The answer: outcome, policy and mark, or `R` and the refusal's number.
 pub fn answer(vector: &Vector) -> String {
     match decide(&vector[0], &vector[1], &vector[2], request_of(vector)) {
-        Ok(decision) => format!("{} {}", decision.outcome, decision.policy),
+        Ok(Decision { outcome, policy, mark }) => format!("{} {} {}", outcome, policy, mark),
         Err(number) => format!("R {}", number),
     }
 }
@@ -66,6 +67,7 @@ pub fn fixed() -> Vec<Vector> {
     add_targets(&mut vectors);
     add_orders(&mut vectors);
     add_many_policies(&mut vectors);
+    add_marks(&mut vectors);
     add_sizes_of_requests(&mut vectors);
     add_wide_actions(&mut vectors);
     add_wrong_requests(&mut vectors);
@@ -175,6 +177,43 @@ fn add_many_policies(vectors: &mut Vec<Vector>) {
             text.push_str(&own.map_or_else(|| other(["permit", "forbid"][number % 2]), |place| satisfied(place.1)));
         }
         vectors.push(with_own_table(&text, EMPTY_BAG, REQUEST));
+    }
+}
+
+/// Marks: each bit alone and all but it, the first bits and the last, by permits, by forbids, and by permits with a forbid before or
+/// after them; no mark for the system and where all 64 would be satisfied but the request is refused.
+fn add_marks(vectors: &mut Vec<Vector>) {
+    let mut add = |effect_of: &dyn Fn(usize) -> &'static str, is_satisfied: &dyn Fn(usize) -> bool| {
+        vectors.push(with_own_table(&rules_satisfied(effect_of, is_satisfied), EMPTY_BAG, REQUEST));
+    };
+    let permits = |_: usize| "permit";
+    for place in 1..=PLACES {
+        add(&permits, &|number| number == place);
+        add(&|_| "forbid", &|number| number == place);
+        add(&permits, &|number| number != place);
+        add(&permits, &|number| number <= place);
+        add(&permits, &|number| number >= place);
+        // One forbid, with all others, and with the first and the last.
+        let one_forbid = |number: usize| if number == place { "forbid" } else { "permit" };
+        add(&one_forbid, &|_| true);
+        add(&one_forbid, &|number| number == 1 || number == PLACES);
+        add(&one_forbid, &|number| [1, place, PLACES].contains(&number));
+        // Forbids up to this place and permits behind it, and the other way round; every third is satisfied.
+        add(&|number| if number <= place { "forbid" } else { "permit" }, &|number| number % 3 == 1);
+        add(&|number| if number <= place { "permit" } else { "forbid" }, &|number| number % 3 == 1);
+    }
+    let all = rules_satisfied(permits, |_| true);
+    let table = table_of(all.as_bytes());
+    for request in [
+        REQUEST,
+        Request { subject: b"system", ..REQUEST },
+        Request { subject: b"system:", ..REQUEST },
+        Request { action: b"", ..REQUEST },
+        Request { resource: b"shaft:", ..REQUEST },
+    ] {
+        vectors.push(vector(all.as_bytes(), &table, EMPTY_BAG, request));
+        vectors.push(vector(all.as_bytes(), &table, b"", request));
+        vectors.push(vector(all.as_bytes(), &table[1..], EMPTY_BAG, request));
     }
 }
 
@@ -410,12 +449,12 @@ mod tests {
     fn the_answer_is_a_line() {
         let bare = [P, ";"].concat();
         let line = |subject: &[u8], bag: &[u8]| answer(&with_own_table(&bare, bag, Request { subject, ..REQUEST }));
-        assert_eq!(line(b"tool:1", EMPTY_BAG), "1 1");
-        assert_eq!(line(b"system", b""), "4 0");
+        assert_eq!(line(b"tool:1", EMPTY_BAG), "1 1 1");
+        assert_eq!(line(b"system", b""), "4 0 0");
         assert_eq!(line(b"", EMPTY_BAG), "R 21");
         assert_eq!(line(b"tool:1", b""), "R 24");
         assert_eq!(answer(&vector(bare.as_bytes(), b"", EMPTY_BAG, REQUEST)), "R 20");
-        assert_eq!(answer(&vector(b"", b"", EMPTY_BAG, REQUEST)), "3 0");
+        assert_eq!(answer(&vector(b"", b"", EMPTY_BAG, REQUEST)), "3 0 0");
     }
 
     #[test]
@@ -430,19 +469,61 @@ mod tests {
         for resource in WRONG_RESOURCES.map(str::as_bytes) {
             assert_eq!(Request { resource, ..REQUEST }.refusal(), Some(23));
         }
-        assert_eq!(answer(&with_own_table(RICH_TEXT, &values_bag(), REQUEST)), "1 1");
+        assert_eq!(answer(&with_own_table(RICH_TEXT, &values_bag(), REQUEST)), "1 1 1");
     }
 
     // Every refusal, every outcome and several policies among the vectors that every seed has.
     #[test]
     fn every_answer_is_there() {
         let answers: Vec<String> = fixed().iter().map(answer).collect();
-        for line in ["R 20", "R 21", "R 22", "R 23", "R 24", "1 1", "2 1", "2 2", "2 3", "1 3", "3 0", "4 0"] {
+        for line in ["R 20", "R 21", "R 22", "R 23", "R 24", "1 1 1", "2 1 1", "3 0 0", "4 0 0"] {
             assert!(answers.iter().filter(|answer| *answer == line).count() >= 10, "{}", line);
         }
-        for line in ["1 64", "2 64", "1 63"] {
+        let count = |start: &str| answers.iter().filter(|answer| answer.starts_with(start)).count();
+        assert!(["2 1 ", "2 2 ", "2 3 ", "1 3 "].iter().all(|start| count(start) >= 10));
+        for line in ["1 64 9223372036854775808", "2 64 9223372036854775808", "1 63 13835058055282163712"] {
             assert!(answers.iter().any(|answer| answer == line), "{}", line);
         }
+        // Bits 0 and 63 together, by permits and by a forbid before and after the permit; all bits.
+        let both = 1_u64 << 63 | 1;
+        for line in ["1 1 ", "2 1 ", "2 64 "].map(|start| format!("{}{}", start, both)) {
+            assert!(answers.iter().any(|answer| *answer == line), "{}", line);
+        }
+        assert!(answers.iter().any(|answer| *answer == format!("1 1 {}", u64::MAX)));
+        for forbid in 1..=64 {
+            assert!(answers.iter().any(|answer| *answer == format!("2 {} {}", forbid, u64::MAX)), "{}", forbid);
+            assert!(answers.iter().any(|answer| *answer == format!("1 {} {}", forbid, 1_u64 << (forbid - 1))));
+        }
+    }
+
+    // Outcome and policy follow from mark and effects: the lowest bit of a forbid, else the lowest of a permit.
+    #[test]
+    fn outcome_and_policy_follow_from_the_mark() {
+        use definitions::policies::Effect;
+        let mut source = Random::new(106);
+        let some: Vec<Vector> = (0..2_000).map(|_| random(&mut source)).collect();
+        let (mut several, mut overruled) = (0, 0);
+        for vector in fixed().iter().chain(&some) {
+            let request = request_of(vector);
+            let policies = definitions::compile::policies_said_by(&vector[0], &vector[1]).unwrap_or_default();
+            if let Ok(Decision { outcome, policy, mark }) = decide(&vector[0], &vector[1], &vector[2], request) {
+                let lowest = |effect: Effect| {
+                    (0..policies.len()).find(|index| mark >> index & 1 == 1 && policies[*index].effect == effect)
+                };
+                let (forbid, permit) = (lowest(Effect::Forbid), lowest(Effect::Permit));
+                let expected = match (request.is_of_system(), forbid, permit) {
+                    (true, _, _) => (4, 0),
+                    (_, Some(index), _) => (2, index + 1),
+                    (_, None, Some(index)) => (1, index + 1),
+                    (_, None, None) => (3, 0),
+                };
+                assert_eq!((outcome, policy), expected);
+                assert!(policies.len() == 64 || mark >> policies.len() == 0);
+                several += usize::from(mark.count_ones() > 1);
+                overruled += usize::from(outcome == 2 && permit.is_some());
+            }
+        }
+        assert!(several > 800 && overruled > 400, "{} {}", several, overruled);
     }
 
     // About half of the random requests are allowed or forbidden.
@@ -462,6 +543,6 @@ mod tests {
         for number in 20..=24 {
             assert!(count(&format!("R {}", number)) >= 5, "{}", number);
         }
-        assert!(count("4 0") >= 20);
+        assert!(count("4 0 0") >= 20);
     }
 }

@@ -531,16 +531,16 @@ mod tests {
     #[test]
     fn decisions_and_pages_are_shown() {
         let vectors = decide_vectors::fixed();
-        let explained = decide(vectors.iter().find(|vector| decide_vectors::answer(vector) == "2 3").unwrap());
+        let explained = decide(vectors.iter().find(|vector| decide_vectors::answer(vector) == "2 3 7").unwrap());
         assert!(explained.contains("begins with the text's compiled bytes\nsubject (9 bytes): person:K7\n"));
         assert!(explained.contains("satisfied policies: ["), "{}", explained);
         assert!(explained.contains("3 Forbid"), "{}", explained);
-        assert!(explained.ends_with("\nanswer: 2 3\n"));
+        assert!(explained.ends_with("\nanswer: 2 3 7\n"));
         let vectors = sheet_vectors::fixed();
         let explained = sheet(&vectors[0]);
         assert!(explained.contains("\nrow 3 ([1, 0]): satisfied policies: [1 Permit]\n"), "{}", explained);
         assert!(explained.contains("\nrow 5 ([1, 2]): satisfied policies: [1 Permit, 2 Forbid]\n"), "{}", explained);
-        assert!(explained.contains("\nwritten: [3, 0, 0, 0, 1, 1]\n"), "{}", explained);
+        assert!(explained.contains("\nwritten: [3, 0, 0, 0, 1, 1, 1, 0, 0, 0, 0, 0, 0, 0]\n"), "{}", explained);
         for vector in vectors.iter().step_by(50) {
             assert!(sheet(vector).contains("\nanswer: "));
         }

@@ -8,6 +8,7 @@ use std::path::Path;
 use definitions::plans::{number_value, string_value, Column, Entry, Plan};
 use definitions::sheets::printed;
 use generators::examples::{example_question, question_of_rows, EXAMPLE, REFUSED_TEXTS};
+use generators::marks::{rules_satisfied, rules_with_marks_of_their_own, PLACES};
 use generators::random::Random;
 use generators::requests;
 use generators::rich_bags::{bag_of_length, rich_bag};
@@ -73,6 +74,7 @@ fn all() -> Vec<Folder> {
     add_questions(&mut folders);
     add_requests(&mut folders);
     add_rows(&mut folders);
+    add_marks(&mut folders);
     folders
 }
 
@@ -190,6 +192,20 @@ fn add_rows(folders: &mut Vec<Folder>) {
     }
 }
 
+/// 02, request 6: rows with marks of their own, with the first bit and the last, with all; a forbid before and after the permits.
+fn add_marks(folders: &mut Vec<Folder>) {
+    let mut add = |name: &str, policy: String, counts: &[u8]| {
+        folders.push(Folder::new(name, policy.as_bytes(), &question_of_rows(counts), REQUEST.as_bytes()));
+    };
+    let ends = |number: usize| number == 1 || number == PLACES;
+    add("marks-of-rows", rules_with_marks_of_their_own(0), &[2; 6]);
+    add("marks-forbid-33", rules_with_marks_of_their_own(33), &[2; 6]);
+    add("marks-ends", rules_satisfied(|_| "permit", ends), &[2]);
+    add("marks-all", rules_satisfied(|_| "permit", |_| true), &[3]);
+    add("marks-forbid-1", rules_satisfied(|number| if number == 1 { "forbid" } else { "permit" }, ends), &[2]);
+    add("marks-forbid-64", rules_satisfied(|number| if number == PLACES { "forbid" } else { "permit" }, ends), &[2]);
+}
+
 #[cfg(test)]
 mod tests {
     use super::*;
@@ -212,7 +228,7 @@ mod tests {
     #[test]
     fn the_output_is_as_said() {
         for (name, output) in [
-            ("example", "rows 9\n3 1 1\n4 1 1\nallowed 2\n"),
+            ("example", "rows 9\n3 1 1 1\n4 1 1 1\nallowed 2\n"),
             ("nothing", "refused 24 0 0 0\n"),
             ("policy-missing", "rows 9\nallowed 0\n"),
             ("question-missing", "refused 24 0 0 0\n"),
@@ -220,7 +236,10 @@ mod tests {
             ("all-wrong", "refused 4 1 1 1\n"),
             ("system-policy-wrong", "refused 4 2 2 1\n"),
             ("text-refused-later", "refused 10 7 20 1\n"),
-            ("text-8192", "rows 9\n0 1 1\n1 1 1\n2 1 1\n3 1 1\n4 1 1\n5 1 1\n6 1 1\n7 1 1\n8 1 1\nallowed 9\n"),
+            (
+                "text-8192",
+                "rows 9\n0 1 1 1\n1 1 1 1\n2 1 1 1\n3 1 1 1\n4 1 1 1\n5 1 1 1\n6 1 1 1\n7 1 1 1\n8 1 1 1\nallowed 9\n",
+            ),
             ("text-8193", "refused 1 0 0 0\n"),
             ("policies-65", "refused 15 1 2177 6\n"),
             ("question-4096", "rows 2\nallowed 0\n"),
@@ -231,16 +250,29 @@ mod tests {
             ("lines-one", "refused 22 0 0 0\n"),
             ("lines-two", "refused 23 0 0 0\n"),
             ("lines-empty", "refused 21 0 0 0\n"),
-            ("entries-34", "rows 6\n3 1 1\n4 1 1\nallowed 2\n"),
-            ("rows-one", "rows 1\n0 1 1\nallowed 1\n"),
+            ("entries-34", "rows 6\n3 1 1 1\n4 1 1 1\nallowed 2\n"),
+            ("rows-one", "rows 1\n0 1 1 1\nallowed 1\n"),
+            ("marks-ends", "rows 2\n0 1 1 9223372036854775809\n1 1 1 9223372036854775809\nallowed 2\n"),
+            (
+                "marks-all",
+                "rows 3\n0 1 1 18446744073709551615\n1 1 1 18446744073709551615\n2 1 1 18446744073709551615\nallowed 3\n",
+            ),
+            ("marks-forbid-1", "rows 2\nallowed 0\n"),
+            ("marks-forbid-64", "rows 2\nallowed 0\n"),
         ] {
             assert_eq!(expected(name), output, "{}", name);
         }
         let rows: Vec<usize> =
             (0..64).filter(|rest| rest % 8 == 0).map(|rest| (((3 * 8 + 4) * 8 + 2) * 8 + 1) * 64 + rest).collect();
-        let listed: Vec<String> = rows.iter().map(|row| format!("{} 1 1\n", row)).collect();
+        let listed: Vec<String> = rows.iter().map(|row| format!("{} 1 1 1\n", row)).collect();
         assert_eq!(expected("rows-262144"), format!("rows 262144\n{}allowed 8\n", listed.concat()));
-        assert_eq!(expected("rows-32768-system").lines().count(), 32_770);
+        let system = expected("rows-32768-system");
+        assert_eq!(system.lines().count(), 32_770);
+        assert!(system.contains("\n32767 4 0 0\nallowed 32768\n"));
+        // Rows 32 to 63 are forbidden by policy 33; in row 3 policies 1 to 4 are satisfied.
+        assert!(expected("marks-forbid-33").starts_with("rows 64\n0 1 1 1\n1 1 1 3\n2 1 1 5\n3 1 1 15\n4 1 1 17\n"));
+        assert!(expected("marks-forbid-33").ends_with("\n31 1 1 4294967295\nallowed 32\n"));
+        assert!(expected("marks-of-rows").ends_with("\n63 1 1 18446744073709551615\nallowed 64\n"));
     }
 
     // Every refusal that the program can print.

@@ -125,13 +125,13 @@ fn files<const N: usize>(directory: &str, names: [&str; N]) -> Result<[Vec<u8>; 
     Ok(all)
 }
 
-/// The decision as a line: outcome and policy; or `refused`, number, line, column, length.
+/// The decision as a line: outcome, policy and mark; or `refused`, number, line, column, length.
 fn decided(text: &[u8], bag: &[u8], request: &[u8]) -> String {
     match compile::compile(text, compile::ROOM_FOR_EACH_BYTE * text.len()) {
         Err(refusal) => refusal.printed(),
         Ok(compiled) => match deciding::decide(text, &compiled.table, bag, sheets::read_request(request)) {
             Err(number) => compile::Refusal::without_place(number).printed(),
-            Ok(decision) => format!("{} {}\n", decision.outcome, decision.policy),
+            Ok(deciding::Decision { outcome, policy, mark }) => format!("{} {} {}\n", outcome, policy, mark),
         },
     }
 }

@@ -5,9 +5,10 @@ use definitions::compile::table_of;
 use definitions::deciding::Request;
 use definitions::plans::{list_value, string_value, Column};
 use definitions::questions::read_question;
-use definitions::sheets::{write_page, Page, PageWanted};
+use definitions::sheets::{write_page, Page, PageWanted, ROW_BYTES};
 use generators::bag_bytes::{break_a_rule, damaged};
 use generators::examples::{column, example_question, number, question_of, question_of_rows, EXAMPLE, REQUEST};
+use generators::marks::{rules_satisfied, rules_with_marks_of_their_own, PLACES};
 use generators::random::Random;
 use generators::requests;
 use generators::rich_bags::{bag_of_length, cut_and_changed_questions};
@@ -77,6 +78,7 @@ pub fn answer(vector: &Vector) -> String {
 pub fn fixed() -> Vec<Vector> {
     let mut vectors = Vec::new();
     add_example(&mut vectors);
+    add_marks(&mut vectors);
     add_rooms(&mut vectors);
     add_columns(&mut vectors);
     add_bases(&mut vectors);
@@ -94,7 +96,7 @@ pub fn fixed() -> Vec<Vector> {
 fn add_example(vectors: &mut Vec<Vector>) {
     for start in 0..=10 {
         for (length, named) in
-            [(6, 0), (12, 0), (18, 0), (7, 1), (11, 5), (13, 0), (17, 5), (25, 6), (600, 594), (600, 590)]
+            [(14, 0), (28, 0), (42, 0), (15, 1), (19, 5), (29, 0), (33, 5), (50, 6), (600, 586), (600, 580)]
         {
             let wanted = Wanted { start, length, named };
             vectors.push(with_own_table(EXAMPLE, &example_question(), EXAMPLE_REQUEST, wanted));
@@ -104,6 +106,38 @@ fn add_example(vectors: &mut Vec<Vector>) {
                 Request { subject: b"system", ..EXAMPLE_REQUEST },
                 wanted,
             ));
+        }
+    }
+}
+
+/// Rows with marks of their own, on pages of one row, of some, and of all; rows that a forbid takes out between them; the first and the
+/// last bit, and all; the system's rows and refused pages, which have none.
+fn add_marks(vectors: &mut Vec<Vector>) {
+    let question = question_of_rows(&[2; 6]);
+    for forbid in [0, 1, 2, 17, 33, 49, 63, 64] {
+        let text = rules_with_marks_of_their_own(forbid);
+        for start in 0..64 {
+            vectors.push(with_own_table(&text, &question, REQUEST, Wanted { start, length: 16, named: start % 3 }));
+        }
+        for (length, named) in [(28, 0), (100, 2), (896, 0), (1_000, 50)] {
+            vectors.push(with_own_table(&text, &question, REQUEST, Wanted { start: 0, length, named }));
+            vectors.push(with_own_table(&text, &question, REQUEST, Wanted { start: 30, length, named }));
+        }
+    }
+    let wanted = Wanted { start: 0, length: 57, named: 1 };
+    let ends = |number: usize| number == 1 || number == PLACES;
+    for text in [
+        rules_satisfied(|_| "permit", ends),
+        rules_satisfied(|_| "permit", |_| true),
+        rules_satisfied(|_| "permit", |number| number % 2 == 0),
+        rules_satisfied(|number| if ends(number) { "permit" } else { "forbid" }, ends),
+    ] {
+        for subject in [&b"person:1"[..], b"system", b"system:"] {
+            let request = Request { subject, ..REQUEST };
+            vectors.push(with_own_table(&text, &question_of_rows(&[2, 2]), request, wanted));
+            vectors.push(with_own_table(&text, &question_of_rows(&[2, 2]), request, Wanted { length: 14, ..wanted }));
+            vectors.push(with_own_table(&text, &question_of_rows(&[2, 2]), request, Wanted { start: 5, ..wanted }));
+            vectors.push(with_own_table(&text, &[0, 0, 0], request, wanted));
         }
     }
 }
@@ -119,12 +153,12 @@ fn add_rooms(vectors: &mut Vec<Vector>) {
         "forbid(principal,action,resource);",
         "",
     ] {
-        for length in (6..64).chain([100]) {
+        for length in (14..72).chain([126, 140]) {
             for start in [0, 4, 8, 9] {
                 vectors.push(with_own_table(text, &question, REQUEST, Wanted { start, length, named: 0 }));
             }
             let wanted = Wanted { start: 1, length, named: u64::from(length) % 5 };
-            if u64::from(length) - wanted.named >= 6 {
+            if u64::from(length) - wanted.named >= ROW_BYTES as u64 {
                 vectors.push(with_own_table(text, &question, REQUEST, wanted));
             }
         }
@@ -162,11 +196,11 @@ fn add_columns(vectors: &mut Vec<Vector>) {
             "if env has c0 then env.c1==false else env.c2==false",
         ] {
             let text = format!("permit(principal,action,resource)when{{{}}};", condition);
-            for (start, length, named) in [(0, 600, 0), (0, 66, 3), (rows / 2, 20, 1), (rows - 1, 6, 0)] {
+            for (start, length, named) in [(0, 1_000, 0), (0, 150, 3), (rows / 2, 44, 1), (rows - 1, 14, 0)] {
                 vectors.push(with_own_table(&text, &question, REQUEST, Wanted { start, length, named }));
             }
         }
-        add_all_pages(vectors, ALL, &question, 33, 2);
+        add_all_pages(vectors, ALL, &question, 73, 2);
     }
 }
 
@@ -225,15 +259,15 @@ fn add_bases(vectors: &mut Vec<Vector>) {
         let text = format!("permit(principal,action,resource)when{{{}}};", condition);
         for first in 0..columns.len() {
             let chosen = vec![columns[first].clone()];
-            let wanted = Wanted { start: 0, length: 60, named: 0 };
+            let wanted = Wanted { start: 0, length: 140, named: 0 };
             vectors.push(with_own_table(&text, &question_of(base, chosen), REQUEST, wanted));
             let chosen =
                 vec![columns[first].clone(), columns[(first + 1) % 8].clone(), columns[(first + 3) % 8].clone()];
-            let wanted = Wanted { start: 0, length: 300, named: 1 };
+            let wanted = Wanted { start: 0, length: 700, named: 1 };
             vectors.push(with_own_table(&text, &question_of(base, chosen), REQUEST, wanted));
         }
         let empty: [&[(&str, Vec<u8>)]; 3] = [&[], &[], &[]];
-        let wanted = Wanted { start: 0, length: 999, named: 9 };
+        let wanted = Wanted { start: 0, length: 2_000, named: 9 };
         vectors.push(with_own_table(&text, &question_of(base, columns[..6].to_vec()), REQUEST, wanted));
         vectors.push(with_own_table(&text, &question_of(empty, columns[..4].to_vec()), REQUEST, wanted));
     }
@@ -255,22 +289,23 @@ fn add_many_entries(vectors: &mut Vec<Vector>) {
             let question = question_of(sections, columns);
             for path in ["p00", "p31", "q", "a", "z", "p15", "p1", "p31.a", "o", "none"] {
                 let text = format!("permit(principal,action,resource)when{{{}.{}==true}};", name, path);
-                vectors.push(with_own_table(&text, &question, REQUEST, Wanted { start: 0, length: 240, named: 0 }));
+                vectors.push(with_own_table(&text, &question, REQUEST, Wanted { start: 0, length: 560, named: 0 }));
             }
             let text =
                 format!("permit(principal,action,resource)when{{{0}.p00==true&&{0}.p31==true&&{0} has q}};", name);
-            vectors.push(with_own_table(&text, &question, REQUEST, Wanted { start: 0, length: 240, named: 7 }));
+            vectors.push(with_own_table(&text, &question, REQUEST, Wanted { start: 0, length: 560, named: 7 }));
         }
     }
 }
 
 /// 01, refusal 25: named bytes around the sheet's end, and far beyond it.
 fn add_named_bytes(vectors: &mut Vec<Vector>) {
-    for length in [0_u16, 1, 5, 6, 7, 11, 12, 13, 100, 251, 65_535] {
+    for length in [0_u16, 1, 5, 6, 7, 13, 14, 15, 27, 28, 29, 100, 251, 65_535] {
         let end = u64::from(length);
         let mut named: Vec<u64> = (0..9).collect();
-        named.extend((0..14).map(|back| (end + 2).saturating_sub(back)));
-        named.extend([1 << 16, 1 << 32, (1 << 32) + 1, 1 << 63, u64::MAX - 6, u64::MAX - 5, u64::MAX - 1, u64::MAX]);
+        named.extend((0..30).map(|back| (end + 2).saturating_sub(back)));
+        named.extend([1 << 16, 1 << 32, (1 << 32) + 1, 1 << 63]);
+        named.extend([14, 13, 6, 5, 1, 0].map(|back| u64::MAX - back));
         named.sort_unstable();
         named.dedup();
         for named in named {
@@ -312,7 +347,7 @@ fn add_starts(vectors: &mut Vec<Vector>) {
                 ("forbid(principal,action,resource);", b"tool:1"),
             ] {
                 let request = Request { subject, ..REQUEST };
-                vectors.push(with_own_table(text, &question, request, Wanted { start, length: 40, named: 3 }));
+                vectors.push(with_own_table(text, &question, request, Wanted { start, length: 90, named: 3 }));
             }
         }
     }
@@ -326,24 +361,24 @@ fn add_many_rows(vectors: &mut Vec<Vector>) {
         env.c4==\"\"&&!env has c5};";
     let row = ((((3 * 8 + 4) * 8 + 2) * 8 + 1) * 8 + 5) * 8;
     for (text, subject, start, length) in [
-        (ALL, "person:1", 0, 60),
+        (ALL, "person:1", 0, 140),
         (ALL, "person:1", 131_071, 65_535),
-        (ALL, "person:1", 262_140, 60),
-        (ALL, "person:1", 262_144, 60),
-        (ALL, "person:1", 262_145, 60),
-        (ALL, "system", 65_534, 60),
-        (ALL, "system", 262_139, 30),
-        (last, "person:1", row - 700, 60),
-        (last, "person:1", row, 60),
-        (last, "person:1", row + 1, 6),
-        (last, "person:1", 261_000, 60),
-        ("", "person:1", 260_000, 60),
+        (ALL, "person:1", 262_140, 140),
+        (ALL, "person:1", 262_144, 140),
+        (ALL, "person:1", 262_145, 140),
+        (ALL, "system", 65_534, 140),
+        (ALL, "system", 262_139, 70),
+        (last, "person:1", row - 700, 140),
+        (last, "person:1", row, 140),
+        (last, "person:1", row + 1, 14),
+        (last, "person:1", 261_000, 140),
+        ("", "person:1", 260_000, 140),
     ] {
         let request = Request { subject: subject.as_bytes(), ..REQUEST };
         vectors.push(with_own_table(text, &question, request, Wanted { start, length, named: 0 }));
     }
     // One call that goes over all rows.
-    let whole = Wanted { start: 0, length: 60, named: 0 };
+    let whole = Wanted { start: 0, length: 140, named: 0 };
     vectors.push(with_own_table(last, &question, REQUEST, whole));
 }
 
@@ -357,7 +392,7 @@ fn add_longest(vectors: &mut Vec<Vector>) {
     let chain =
         |last: &str| format!("permit(principal,action,resource)when{{{}||{}}};", vec!["2<1"; 1_620].join("||"), last);
     for text in [&policies, &chain("env.c1==false"), &chain("env has c0&&env.c0==true"), &chain("false")] {
-        for (start, length) in [(0, 6), (0, 12), (1, 24), (4, 100)] {
+        for (start, length) in [(0, 14), (0, 28), (1, 56), (4, 200)] {
             vectors.push(with_own_table(text, &question, REQUEST, Wanted { start, length, named: 0 }));
         }
     }
@@ -365,14 +400,14 @@ fn add_longest(vectors: &mut Vec<Vector>) {
     let text = "permit(principal,action,resource)when{principal.a==true};";
     for length in [4_095, 4_096, 4_097] {
         let question = [&bag_of_length(length - column.len())[..], &column].concat();
-        vectors.push(with_own_table(text, &question, REQUEST, Wanted { start: 0, length: 60, named: 0 }));
+        vectors.push(with_own_table(text, &question, REQUEST, Wanted { start: 0, length: 140, named: 0 }));
     }
 }
 
 /// The rich question cut and changed; a bag.
 fn add_wrong_questions(vectors: &mut Vec<Vector>) {
     let text = "permit(principal,action,resource)when{principal has a};";
-    let wanted = Wanted { start: 0, length: 36, named: 0 };
+    let wanted = Wanted { start: 0, length: 84, named: 0 };
     for question in cut_and_changed_questions() {
         vectors.push(with_own_table(text, &question, REQUEST, wanted));
     }
@@ -384,7 +419,7 @@ fn add_wrong_things(vectors: &mut Vec<Vector>) {
     let table = table_of(EXAMPLE.as_bytes());
     for wrong in 0..256 {
         let is_wrong = |bit: u8| wrong >> bit & 1 == 1;
-        let named = if is_wrong(0) { 15 } else { 14 };
+        let named = if is_wrong(0) { 7 } else { 6 };
         let question: &[u8] = if is_wrong(1) { &[0, 0, 0] } else { &good };
         let start = if is_wrong(2) { 10 } else { 9 - u64::from(wrong % 8 != 0) };
         let action: &[u8] = if is_wrong(3) { b"" } else { b"teach" };
@@ -399,7 +434,7 @@ fn add_wrong_things(vectors: &mut Vec<Vector>) {
         let request = Request { subject, action, resource };
         vectors.push(vector(EXAMPLE.as_bytes(), table, question, request, Wanted { start, length: 20, named }));
     }
-    let wanted = Wanted { start: 0, length: 20, named: 0 };
+    let wanted = Wanted { start: 0, length: 48, named: 0 };
     for text in [&b":"[..], b"permit", &[b' '; 8_193]] {
         for subject in [&b"person:K7"[..], b"system"] {
             vectors.push(vector(text, &table, &good, Request { subject, ..EXAMPLE_REQUEST }, wanted));
@@ -432,8 +467,8 @@ pub fn random(random: &mut Random) -> Vector {
         action: wish.action.as_bytes(),
         resource: wish.resource.as_bytes(),
     };
-    let length = random.pick(&[6, 12, 24, 60, 600]) + random.pick(&[0, 0, 1, 5, 7]);
-    let named = random.below(length - 5);
+    let length = random.pick(&[14, 28, 56, 140, 1_400]) + random.pick(&[0, 0, 1, 6, 15]);
+    let named = random.below(length - 13);
     let mut wanted = Wanted {
         start: if random.one_in(2) { 0 } else { random.below(rows + 1) as u64 },
         length: length as u16,
@@ -447,7 +482,7 @@ pub fn random(random: &mut Random) -> Vector {
         }
         2 => table = damaged(table, random),
         3 => wanted.start = (rows + 1 + random.below(3)) as u64,
-        4 => wanted.named = (length - random.below(6)) as u64,
+        4 => wanted.named = (length - random.below(ROW_BYTES)) as u64,
         5 | 6 => request.subject = b"system",
         7 => request.subject = b"system:",
         _ => {}
@@ -461,13 +496,13 @@ mod tests {
 
     #[test]
     fn the_answer_is_a_line() {
-        let wanted = Wanted { start: 0, length: 14, named: 1 };
+        let wanted = Wanted { start: 0, length: 30, named: 1 };
         let example = with_own_table(EXAMPLE, &example_question(), EXAMPLE_REQUEST, wanted);
-        let sheet = [0, 3, 0, 0, 0, 1, 1, 4, 0, 0, 0, 1, 1, 13];
-        assert_eq!(answer(&example), format!("2 9 {}", sum_of(&sheet)));
+        let row = |number: u8| [number, 0, 0, 0, 1, 1, 1, 0, 0, 0, 0, 0, 0, 0];
+        assert_eq!(answer(&example), format!("2 9 {}", sum_of(&[&[0][..], &row(3), &row(4), &[29]].concat())));
         let mut refused = example.clone();
-        refused[8] = 9_u64.to_le_bytes().to_vec();
-        assert_eq!(answer(&refused), format!("R 25 {}", sum_of(&[0, 1, 2, 3, 4, 5, 6, 7, 8, 9, 10, 11, 12, 13])));
+        refused[8] = 17_u64.to_le_bytes().to_vec();
+        assert_eq!(answer(&refused), format!("R 25 {}", sum_of(&(0..30).collect::<Vec<u8>>())));
     }
 
     #[test]
@@ -484,7 +519,7 @@ mod tests {
             let (answer, sheet) = page_of(vector);
             let Wanted { length, named, .. } = wanted_of(vector);
             let start = named.min(u64::from(length)) as usize;
-            let end = start + 6 * answer.map_or(0, |page| page.written);
+            let end = start + ROW_BYTES * answer.map_or(0, |page| page.written);
             let before = lent(length);
             assert!(sheet[..start] == before[..start] && sheet[end..] == before[end..]);
         }
@@ -502,12 +537,18 @@ mod tests {
             let start = format!("R {} ", number);
             assert!(answers.iter().filter(|line| line.starts_with(&start)).count() >= 3, "{}", number);
         }
-        for start in ["0 ", "1 ", "2 ", "10 ", "10922 "] {
+        for start in ["0 ", "1 ", "2 ", "10 ", "4681 "] {
             assert!(answers.iter().any(|line| line.starts_with(start)), "{}", start);
         }
         assert!(answers.iter().any(|line| line.contains(" 262144 ")));
-        let last_policy = |vector: &Vector| page_of(vector).1.ends_with(&[1, 64]);
-        assert!(fixed().iter().any(last_policy));
+        // A last row by policy 64, whose mark is its bit alone; by policy 1, with all bits, and with the first and the last.
+        for ending in [
+            [&[1, 64][..], &[0; 7], &[0x80]].concat(),
+            [&[1, 1][..], &[0xff; 8]].concat(),
+            [&[1, 1, 1][..], &[0; 6], &[0x80]].concat(),
+        ] {
+            assert!(fixed().iter().any(|vector| page_of(vector).1.ends_with(&ending)), "{:?}", ending);
+        }
     }
 
     // Pages that are full, pages that are not, and empty ones.
@@ -519,7 +560,7 @@ mod tests {
                 let Wanted { length, named, .. } = wanted_of(&vector);
                 match page.written {
                     0 => empty += 1,
-                    written if written as u64 == (u64::from(length) - named) / 6 => full += 1,
+                    written if written as u64 == (u64::from(length) - named) / ROW_BYTES as u64 => full += 1,
                     _ => spare += 1,
                 }
             }

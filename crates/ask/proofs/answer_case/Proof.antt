@@ -78,7 +78,7 @@ desk-decide-requires c κs = search needs
 
 -- src/main.rt:77:9
 put-decided-requires : tie.Need-put-decided-requires
-put-decided-requires c κs = search needs
+put-decided-requires c κs = c .before .before .before .before .before .before .before .before .before .before .before .before .before .before .pre .1
 
 -- src/main.rt:46:1
 same-length : tie.Need-same-length

@@ -7,10 +7,10 @@ use Rattle.bench_sheet.proofs.ask_often.Statement.{statement}
 use Rattle.bench_sheet.proofs.ask_often.Tie as tie
 
 abbrev Inv-loop : tie.InvT-loop
-Inv-loop times text table question subject action resource page₀ sum₀ left₀ page sum left = (sum < 1000003) × (length page ≡ length page₀)
+Inv-loop times text table question subject action resource page₀ sum₀ start₀ left₀ page sum start left = (sum < 1000003) × (length page ≡ length page₀)
 
 abbrev μ-loop : tie.MeasureT-loop
-μ-loop times text table question subject action resource page₀ sum₀ left₀ page sum left = left
+μ-loop times text table question subject action resource page₀ sum₀ start₀ left₀ page sum start left = left
 
 pub ask-often-spec : {M : Type 1} → statement M
 ask-often-spec =

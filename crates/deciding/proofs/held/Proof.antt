@@ -1,5 +1,5 @@
 -- `deciding::held` meets its contract: by what the table holds. Assumes nothing.
-use Rattle.deciding.proofs.HeldLaws.{held-ready, held-many, held-decides, wrong-decides}
+use Rattle.deciding.proofs.HeldLaws.{held-ready, held-many, held-few, held-decides, wrong-decides}
 use mathlib.Core.Path.{sym, _∙_}
 use borrow.Author.Needs.{needs}
 use Rattle.deciding.proofs.held.Statement.{statement}
@@ -9,7 +9,7 @@ decision-requires : tie.Need-decision-requires
 decision-requires c κs =
     let pre = c .before .before .before .before .before .before .before .before .before .before .pre in
     let h = sym (c .before .before .before .held-policies .ensures) ∙ c .before .policies .given .1 in
-    (held-ready _ _ _ _ h, (held-many _ _ _ _ h, (pre .1 .0, pre .1 .1)))
+    (held-ready _ _ _ _ h, (held-many _ _ _ _ h, (held-few _ _ _ _ h, (pre .1 .0, pre .1 .1))))
 
 returns : tie.Need-returns
 returns c = wrong-decides _ _ _ _ (sym (c .before .before .held-policies .ensures) ∙ c .enum-told .given .1)

@@ -1,28 +1,25 @@
 -- `desk::decided` meets its contract: by the decision. Assumes nothing.
 use borrow.Author.Needs.{needs}
-use mathlib.Core.Path.{sym, ap}
 use Rattle.meaning.specs.Decisions.{outcomeOf, policyOf}
 use Rattle.deciding.specs.Answers.{decideSaid}
-use Rattle.deciding.specs.declared.Answer.the-variants.{Decided}
-use Rattle.desk.specs.Answers.{decidedAs}
 use Rattle.desk.proofs.decided.Statement.{statement}
 use Rattle.desk.proofs.decided.Tie as tie
 
 returns : tie.Need-returns
 unfolding decideSaid outcomeOf policyOf
-returns c = ap (λ d. decidedAs (decideSaid (Decided d))) (sym (c .before .d .given .1))
+returns c = simp (c .before .d .given .1)
 
 returns-2 : tie.Need-returns-2
 unfolding decideSaid outcomeOf policyOf
-returns-2 c = ap (λ d. decidedAs (decideSaid (Decided d))) (sym (c .before .d2 .given .1))
+returns-2 c = simp (c .before .d2 .given .1)
 
 returns-3 : tie.Need-returns-3
 unfolding decideSaid outcomeOf policyOf
-returns-3 c = ap (λ d. decidedAs (decideSaid (Decided d))) (sym (c .enum-told .given .1))
+returns-3 c = simp (c .enum-told .given .1)
 
 returns-4 : tie.Need-returns-4
 unfolding decideSaid outcomeOf policyOf
-returns-4 c = ap (λ d. decidedAs (decideSaid (Decided d))) (sym (c .enum-told2 .given .1))
+returns-4 c = simp (c .enum-told2 .given .1)
 
 pub decided-spec : {M : Type 1} → statement M
 decided-spec =

@@ -8,7 +8,7 @@ use Rattle.desk.proofs.desk_decide.Tie as tie
 
 returns : tie.Need-returns
 unfolding decideSays
-returns c = c .decided .ensures ∙ ap (λ a. decidedAs (decideSaid a)) (sym (c .before .before .d .given .1) ∙ c .before .before .before .before .decide .ensures)
+returns c = c .decided .ensures ∙ ap (λ a. decidedAs (decideSaid a)) (sym (c .before .before .m .given .1) ∙ c .before .before .before .before .decide .ensures)
 
 returns-2 : tie.Need-returns-2
 unfolding decideSays decideSaid

@@ -1,8 +1,8 @@
--- `kept::decision_from` meets its contract: the policies left and the lowest numbers known decide what all policies decide, the notes of those met are right
--- for this row, and those of the policies left for the row before. Assumes nothing.
+-- `kept::decision_from` meets its contract: the policies left and the lowest numbers known decide what all policies decide, the mark of those met becomes that of
+-- all, the notes of those met are right for this row, and those of the policies left for the row before. Assumes nothing.
 use mathlib.Core.Path.{_≡_, ap, _∙_}
 use mathlib.Core.Bool.{Bool, _&&_}
-use Prim.Native.Nat.{ℕ, _+_, _-_, _<_, _≤_}
+use Prim.Native.Nat.{ℕ, _+_, _-_, _^_, _<_, _≤_}
 use native.Mathlib.Omega.{arith}
 use borrow.Author.Needs.{needs}
 use lib.Dec.{eqb, ltb}
@@ -12,8 +12,8 @@ use Rattle.stored.specs.Ready.{Last}
 use Rattle.views.specs.Rows.{rowView}
 use Rattle.placing.specs.Said.{policyWords, wordsOf}
 use Rattle.meaning.specs.Targets.{Request}
-use Rattle.meaning.specs.Decisions.{satisfied, policiesDecide}
-use Rattle.deciding.proofs.Lowest.{decidesFrom, none-known, none-left, met-one, last-there}
+use Rattle.meaning.specs.Decisions.{satisfied, policiesDecide, markOf}
+use Rattle.deciding.proofs.Lowest.{decidesFrom, marksFrom, none-known, none-marked, none-left, all-marked, met-one, mark-one, bit-there, bit-fits, no-bits, last-there}
 use Rattle.kept.specs.Notes.{ownOf, Aims, Carried, Noted, satBy}
 use Rattle.kept.proofs.Numbering.{Left, all-left, none-there, fewer-left, last-numbered, one-left}
 use Rattle.kept.proofs.Noting.{sat-here, sat-where, note-holds, left-carried, met-right}
@@ -21,15 +21,18 @@ use Rattle.kept.proofs.decision_from.Statement.{statement}
 use Rattle.kept.proofs.decision_from.Tie as tie
 
 abbrev Inv-loop : tie.InvT-loop
-Inv-loop looks notes₀ choices text table s heads values action p n from end₀ number₀ forbid₀ permit₀ notes end number forbid permit = Left text table end₀ end number
+Inv-loop looks notes₀ choices text table s heads values action p n from end₀ number₀ forbid₀ permit₀ mark₀ notes end number forbid permit mark =
+    Left text table end₀ end number
     × (length notes ≡ 512)
+    × (mark < 2 ^ (64 - number))
     × ((q : Request) → q .action ≡ action → Aims text q (policiesAt table end₀) looks → Carried text s p n heads q (policiesAt table end₀) looks values from number₀ notes₀
     → (decidesFrom text (rowView s p n heads values) q (policiesAt table end) forbid permit ≡ policiesDecide (rowView s p n heads values) q (wordsOf text (policiesAt table end₀)))
     × Carried text s p n heads q (policiesAt table end₀) looks values from number notes
-    × Noted text s p n heads q (policiesAt table end₀) looks values number number₀ notes)
+    × Noted text s p n heads q (policiesAt table end₀) looks values number number₀ notes
+    × (marksFrom text (rowView s p n heads values) q (policiesAt table end) mark ≡ markOf (rowView s p n heads values) q (wordsOf text (policiesAt table end₀))))
 
 abbrev μ-loop : tie.MeasureT-loop
-μ-loop looks notes₀ choices text table s heads values action p n from end₀ number₀ forbid₀ permit₀ notes end number forbid permit = end
+μ-loop looks notes₀ choices text table s heads values action p n from end₀ number₀ forbid₀ permit₀ mark₀ notes end number forbid permit mark = end
 
 -- ---- a policy met: where the call starts, the loop's turn, and the last of the policies left
 
@@ -54,7 +57,7 @@ own-small c = start c .pre .1 .1 .1 .1 .1 .0 .few (turn c .loop .number - 1) (fe
 loop-holds : tie.Need-loop-holds Inv-loop μ-loop
 loop-holds c =
     let pre = c .before .before .before .before .before .pre in
-    (all-left (pre .0) (pre .1 .0) (pre .1 .1 .0), pre .1 .1 .1 .1 .1 .1, λ q e a k. (none-known _ _ _ _, k, record { right = λ m policy h l u. absurd (omega arith) }))
+    (all-left (pre .0) (pre .1 .0) (pre .1 .1 .0), pre .1 .1 .1 .1 .1 .1, no-bits _, λ q e a k. (none-known _ _ _ _, k, record { right = λ m policy h l u. absurd (omega arith) }, none-marked _ _ _ _))
 
 entry-at-requires : tie.Need-entry-at-requires Inv-loop μ-loop
 entry-at-requires c κs = omega (arith, c .before .loop .inv .0 .ready .stored .stands .few)
@@ -92,13 +95,18 @@ met-requires c κs =
       (last met, pre .1 .1 .1 .0),
     )
 
+mark-with-requires : tie.Need-mark-with-requires Inv-loop μ-loop
+mark-with-requires c κs =
+    let met = c .before .before .before .before .before .before .before .before .before .before .before in
+    bit-fits (c .before .before .before .met .result) (turn met .loop .mark) (turn met .loop .number) (one met) (turn met .loop .inv .0 .few) (turn met .loop .inv .2)
+
 loop-less : tie.Need-loop-less Inv-loop μ-loop
 loop-less c =
-    let l = last (c .before .before .before .before .before .before .before .before .before .before .before) in let b = l .begins in let e = l .ends in omega arith
+    let l = last (c .before .before .before .before .before .before .before .before .before .before .before .before) in let b = l .begins in let e = l .ends in omega arith
 
 loop-again : tie.Need-loop-again Inv-loop μ-loop
 loop-again c =
-    let met = c .before .before .before .before .before .before .before .before .before .before .before in
+    let met = c .before .before .before .before .before .before .before .before .before .before .before .before in
     let args = start met .args in
     let pre = start met .pre in
     let loop = turn met .loop in
@@ -117,20 +125,22 @@ loop-again c =
     let there = last-numbered left (last met) in
     let chosen = pre .1 .1 .1 .1 .0 in (
       fewer-left left (last met),
-      c .before .before .before .met .ensures .1,
+      c .before .before .before .before .met .ensures .1,
+      rw (c .mark-with .ensures) (bit-there (c .before .before .before .before .met .result) (loop .mark) number (one met) (left .few) (loop .inv .2)),
       λ q e a k.
-          let inv = loop .inv .2 q e a k in
+          let inv = loop .inv .3 q e a k in
           let met-so = sat-where t s p n heads q values (args .action .now) policy e (a .aimed number policy there) in
-          let here : satBy t s p n heads q values (ownOf looks number) policy (getD (args .choices .now) (c .before .before .before .before .before .before .before .before .before .wide .result) 0)
+          let here : satBy t s p n heads q values (ownOf looks number) policy (getD (args .choices .now) (c .before .before .before .before .before .before .before .before .before .before .wide .result) 0)
           ≡ satisfied (rowView s p n heads values) q (policyWords t policy) =
-          rw (c .before .before .before .before .before .before .before .before .before .wide .ensures) (sat-here t s p n heads q (args .choices .now) values (ownOf looks number) policy (own-small met) chosen) in
-          let is = c .before .before .before .met .ensures .0 (satBy t s p n heads q values (ownOf looks number) policy) (here ∙ met-so)
+          rw (c .before .before .before .before .before .before .before .before .before .before .wide .ensures) (sat-here t s p n heads q (args .choices .now) values (ownOf looks number) policy (own-small met) chosen) in
+          let is = c .before .before .before .before .met .ensures .0 (satBy t s p n heads q values (ownOf looks number) policy) (here ∙ met-so)
           (λ f. note-holds t s p n heads q ps looks values from number policy (one met) there (loop .notes) (chosen .six) (own-small met) (pre .1 .1 .1 .1 .1 .0) (inv .1)
-          (rw (c .before .before .before .before .before .before .wide2 .ensures) at f)) in (
-            met-one (last met) (left .count) (rowView s p n heads values) q (loop .forbid) (loop .permit) (c .before .number-if .result) (c .number-if2 .result) _ (is .is ∙ here)
-                (c .before .number-if .ensures) (c .number-if2 .ensures) ∙ inv .0,
+          (rw (c .before .before .before .before .before .before .before .wide2 .ensures) at f)) in (
+            met-one (last met) (left .count) (rowView s p n heads values) q (loop .forbid) (loop .permit) (c .before .before .number-if .result) (c .before .number-if2 .result) _ (is .is ∙ here)
+                (c .before .before .number-if .ensures) (c .before .number-if2 .ensures) ∙ inv .0,
             left-carried t s p n heads q ps looks values from number policy (one met) there is (inv .1),
             met-right t s p n heads q ps looks values from number policy (one met) there is (args .walk .policies) (inv .2),
+            mark-one (last met) (left .count) (rowView s p n heads values) q (loop .mark) (c .mark-with .result) _ (is .is ∙ here) (c .mark-with .ensures) ∙ inv .3,
           ),
     )
 
@@ -138,8 +148,11 @@ returns : tie.Need-returns Inv-loop μ-loop
 returns c =
     let pre = c .before .before .before .before .before .before .before .before .pre in
     let z = none-there (c .before .before .loop .inv .0) (c .before .loop-test .left) in
-    λ q e k. let inv = c .before .before .loop .inv .2 q e (k .aims) (k .carried) in record {
-      is = c .by-numbers .ensures ∙ none-left _ _ _ _ _ _ _ (c .before .loop-test .left) ∙ inv .0;
+    λ q e k. let inv = c .before .before .loop .inv .3 q e (k .aims) (k .carried) in
+    let d = c .by-numbers .ensures ∙ none-left _ _ _ _ _ _ _ (c .before .loop-test .left) ∙ inv .0 in
+    let mark = all-marked _ _ _ _ _ _ (c .before .loop-test .left) ∙ inv .3 in
+    record {
+      is = λ i. record { d = d i; mark = mark i };
       noted = rw (← pre .1 .0, ← z) (inv .2);
       long = inv .1 .long;
     }
@@ -165,6 +178,7 @@ decision-from-spec =
     met-requires
     (λ c κs. search needs)
     (λ c κs. search needs)
+    mark-with-requires
     loop-less
     loop-again
     (λ c κs. search needs)

@@ -1,5 +1,6 @@
 -- `sheet::print_rows` has room for the lines of a page. Assumes nothing.
 use mathlib.Core.Path.{sym}
+use native.Mathlib.Omega.{arith}
 use lib.Seq.{length-take-le}
 use borrow.Author.Needs.{needs}
 use Rattle.sheet.proofs.print_rows.Statement.{statement}
@@ -13,7 +14,7 @@ print-rows-spec =
     tie.close
     (tie.spec
     (λ c. search needs)
-    (λ c κs. search needs)
+    (λ c κs. (omega arith, omega arith))
     (λ c. search needs)
     slice-aggregate-write-all
     (λ c κs. search needs)

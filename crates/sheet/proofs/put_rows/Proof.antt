@@ -5,6 +5,7 @@ use Prim.Native.Nat.{_+_, _-_, _*_, _≤_}
 use denote.Ref.{now}
 use native.Mathlib.Omega.{arith}
 use lib.ListN.{length, take, drop}
+use Rattle.pages.specs.Listing.{rowSize}
 use Rattle.sheet.specs.Printed.{rowLines}
 use Rattle.sheet.proofs.RowLaws.{row-on, rows-done}
 use Rattle.sheet.proofs.put_rows.Statement.{statement}
@@ -12,7 +13,7 @@ use Rattle.sheet.proofs.put_rows.Tie as tie
 
 abbrev Inv-loop : tie.InvT-loop
 Inv-loop page written out₀ left₀ at₀ filled₀ out left at filled =
-    (at + 6 * left ≤ length page) × (filled + 19 * left + 63 ≤ length out) × (length out ≡ length out₀)
+    (at + rowSize * left ≤ length page) × (filled + 40 * left + 84 ≤ length out) × (length out ≡ length out₀)
     × (rowLines written page ≡ take filled out ++ rowLines left (drop at page))
 
 abbrev μ-loop : tie.MeasureT-loop

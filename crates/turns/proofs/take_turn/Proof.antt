@@ -1,9 +1,10 @@
 -- `turns::take_turn` meets its contract: the row is decided by what is kept, and the notes are right for the next row too, up to the column that moves. Assumes nothing.
-use mathlib.Core.Path.{_∙_, ap}
+use mathlib.Core.Path.{_≡_, _∙_, ap}
 use mathlib.Core.Bool.{cond}
 use borrow.Author.Needs.{needs}
 use Rattle.meaning.specs.declared.Decision.the-variants.{System}
-use Rattle.turns.proofs.RowLaws.{placed-there, stands-next, kept-next, ends-few, as-many-rows, stands-there, chosen-there, decides-there}
+use Rattle.meaning.specs.declared.Marked.{Marked}
+use Rattle.turns.proofs.RowLaws.{placed-there, stands-next, kept-next, ends-few, as-many-rows, stands-there, chosen-there, decides-there, marks-there, of-system}
 use Rattle.turns.proofs.take_turn.Statement.{statement}
 use Rattle.turns.proofs.take_turn.Tie as tie
 
@@ -36,10 +37,15 @@ returns c =
     let w = start .pre .0 in
     λ q row below at.
     let decided = c .before .before .before .before .decision-from .ensures q (at .acts) (at .kept) in
+    let system = start .args .walk .system in
+    let marked = c .before .before .before .unless-system .ensures in
     record {
       decided =
-          c .before .before .before .unless-system .ensures ∙ ap (cond (start .args .walk .system) System) (decided .is)
-          ∙ decides-there (w .question) (w .laid) below (at .standing) (start .args .walk .system) q _ (at .whose);
+          ap (λ (m : Marked). m .d) marked ∙ of-system system _ .0 ∙ ap (λ (m : Marked). cond system System (m .d)) (decided .is)
+          ∙ decides-there (w .question) (w .laid) below (at .standing) system q _ (at .whose);
+      marked =
+          ap (λ (m : Marked). m .mark) marked ∙ of-system system _ .1 ∙ ap (λ (m : Marked). cond system 0 (m .mark)) (decided .is)
+          ∙ marks-there (w .question) (w .laid) below (at .standing) system q _ (at .whose);
       next = record {
         acts = at .acts;
         whose = at .whose;

@@ -1,4 +1,4 @@
--- `pages::listing::put_row` meets its contract: six stores, one after the other. Assumes nothing.
+-- `pages::listing::put_row` meets its contract: fourteen stores, one after the other. Assumes nothing.
 use Rattle.pages.specs.Listing.{rowBytes}
 use denote.Ref.{now}
 use lib.Seq.{sets-eq}
@@ -8,20 +8,13 @@ use borrow.Author.Needs.{needs}
 use Rattle.pages.proofs.listing.put_row.Statement.{statement}
 use Rattle.pages.proofs.listing.put_row.Tie as tie
 
-slice-write-tail-2 : tie.Need-slice-write-tail-2
-slice-write-tail-2 c = simp length-set (omega arith)
-
-slice-write-tail-3 : tie.Need-slice-write-tail-3
-slice-write-tail-3 c = simp length-set (omega arith)
-
-slice-write-tail-4 : tie.Need-slice-write-tail-4
-slice-write-tail-4 c = simp length-set (omega arith)
-
-slice-write-tail-5 : tie.Need-slice-write-tail-5
-slice-write-tail-5 c = simp length-set (omega arith)
+same-length : tie.Need-same-length
+same-length c = simp length-set
 
 returns : tie.Need-returns
-returns c = rw (c .before .outcome .ensures, c .policy .ensures) (sets-eq (rowBytes (c .before .before .before .args .row) (c .before .before .before .args .d)) (now (c .before .before .before .args .tail)) 0 (omega arith))
+returns c =
+    let start = c .before .before .before in
+    rw (c .before .outcome .ensures, c .policy .ensures) (sets-eq (rowBytes (start .args .row) (start .args .d) (start .args .mark)) (now (start .args .tail)) 0 (omega arith))
 
 pub put-row-spec : {M : Type 1} → statement M
 put-row-spec =
@@ -30,14 +23,30 @@ put-row-spec =
     (λ c. search needs)
     (λ c. search needs)
     (λ c. search needs)
-    slice-write-tail-2
+    (λ c. simp length-set (omega arith))
     (λ c. search needs)
-    slice-write-tail-3
+    (λ c. simp length-set (omega arith))
     (λ c. search needs)
-    slice-write-tail-4
+    (λ c. simp length-set (omega arith))
     (λ c κs. search needs)
-    slice-write-tail-5
+    (λ c. simp length-set (omega arith))
     (λ c κs. search needs)
+    (λ c. simp length-set (omega arith))
     (λ c. search needs)
+    (λ c. simp length-set (omega arith))
     (λ c. search needs)
+    (λ c. simp length-set (omega arith))
+    (λ c. search needs)
+    (λ c. simp length-set (omega arith))
+    (λ c. search needs)
+    (λ c. simp length-set (omega arith))
+    (λ c. search needs)
+    (λ c. simp length-set (omega arith))
+    (λ c. search needs)
+    (λ c. simp length-set (omega arith))
+    (λ c. search needs)
+    (λ c. simp length-set (omega arith))
+    (λ c. search needs)
+    (λ c. simp length-set (omega arith))
+    same-length
     returns)

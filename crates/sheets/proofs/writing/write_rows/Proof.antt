@@ -4,7 +4,7 @@ use Rattle.turns.specs.Turns.{AtRow}
 use Rattle.turns.proofs.RowLaws.{choices-small, stands-first, kept-first, ends-few, policy-fits, walked-gone, at-gone, at-back}
 use Rattle.placing.specs.Said.{wordsOf}
 use Rattle.sheets.specs.Asked.{Asked, WalkFor}
-use Rattle.sheets.specs.Sheets.{rowsIn, decisionAt}
+use Rattle.sheets.specs.Sheets.{rowsIn, decisionAt, rowMark}
 use Rattle.pages.proofs.Progress.{Progress, begun, turn-yes, turn-no, turn-full, turn-none}
 use Rattle.pages.specs.Listing.{rowSize, listed}
 use Rattle.bags.specs.declared.sections.Sections.{Sections}
@@ -24,7 +24,8 @@ abbrev Inv-loop : tie.InvT-loop
 Inv-loop walk looks text table s starts ends action all start part₀ grid p choices₀ values₀ notes₀ from₀ written₀ at₀ row₀ part choices values notes from written at row =
     (all ≤ 262144) × (row ≤ all) × (start + written ≤ row) × (at ≡ rowSize * written) × (length part ≡ length part₀)
     × ((q : Request) → WalkFor text table walk looks action q
-    → Progress (decisionAt s (walk .p) q (wordsOf text (policiesAt table (walk .entries)))) (listed (decisionAt s (walk .p) q (wordsOf text (policiesAt table (walk .entries)))) all start)
+    → Progress (decisionAt s (walk .p) q (wordsOf text (policiesAt table (walk .entries)))) (rowMark s (walk .p) q (wordsOf text (policiesAt table (walk .entries))))
+    (listed (decisionAt s (walk .p) q (wordsOf text (policiesAt table (walk .entries)))) all start)
     part₀ written part (listed (decisionAt s (walk .p) q (wordsOf text (policiesAt table (walk .entries)))) all row)
     × AtRow text table s walk starts grid ends looks action q row choices values from notes)
 
@@ -60,7 +61,7 @@ loop-holds c =
       refl,
       refl,
       λ q f. (
-        begun _ _ _,
+        begun _ _ _ _,
         record {
           acts = f .acts;
           whose = f .whose;
@@ -92,7 +93,7 @@ returns c = λ q f.
     let inv = l .loop .inv .5 q f in
     let below = call .before .before .before .before .before .loop-test .taken in
     let turned = call .take-turn .ensures q (l .loop .row) (there (start l .pre .0 .asked) below) (at-gone (start l .args .walk) (l .loop .from) (inv .1)) in
-    turn-full _ _ _ _ _ _ _ below (inv .0) (sym (c .before .before .is-allowed .ensures ∙ ap isAllowed (turned .decided)) ∙ c .before .if1 .taken) (omega arith)
+    turn-full _ _ _ _ _ _ _ _ below (inv .0) (sym (c .before .before .is-allowed .ensures ∙ ap isAllowed (turned .decided)) ∙ c .before .if1 .taken) (omega arith)
 
 put-row-requires : tie.Need-put-row-requires Inv-loop μ-loop
 put-row-requires c κs =
@@ -118,8 +119,8 @@ loop-again c =
       c .before .part .given .1 ∙ inv .4,
       λ q f.
           let turned = call .take-turn .ensures q (l .loop .row) (there (start l .pre .0 .asked) below) (at-gone (start l .args .walk) (l .loop .from) (inv .5 q f .1)) in (
-            turn-yes _ _ _ _ _ _ _ below (inv .5 q f .0) (sym (c .before .before .before .before .before .before .is-allowed .ensures ∙ ap isAllowed (turned .decided)) ∙ c .before .before .before .before .before .if1 .taken) (l .loop .at) (inv .3) (omega arith)
-                (c .before .before .put-row .last .0) (rw (← turned .decided) (c .before .before .put-row .ensures)),
+            turn-yes _ _ _ _ _ _ _ _ below (inv .5 q f .0) (sym (c .before .before .before .before .before .before .is-allowed .ensures ∙ ap isAllowed (turned .decided)) ∙ c .before .before .before .before .before .if1 .taken) (l .loop .at) (inv .3) (omega arith)
+                (c .before .before .put-row .last .0) (rw (← turned .decided, ← turned .marked) (c .before .before .put-row .ensures)),
             at-back (start l .args .walk) (l .loop .from) (turned .next),
           ),
     )
@@ -137,13 +138,13 @@ loop-again-2 c =
       inv .4,
       λ q f.
           let turned = call .take-turn .ensures q (l .loop .row) (there (start l .pre .0 .asked) below) (at-gone (start l .args .walk) (l .loop .from) (inv .5 q f .1)) in (
-            turn-no _ _ _ _ _ _ _ below (inv .5 q f .0) (sym (c .before .is-allowed .ensures ∙ ap isAllowed (turned .decided)) ∙ c .if1 .left),
+            turn-no _ _ _ _ _ _ _ _ below (inv .5 q f .0) (sym (c .before .is-allowed .ensures ∙ ap isAllowed (turned .decided)) ∙ c .if1 .left),
             at-back (start l .args .walk) (l .loop .from) (turned .next),
           ),
     )
 
 returns-2 : tie.Need-returns-2 Inv-loop μ-loop
-returns-2 c = λ q f. turn-none _ _ _ _ _ _ _ (omega arith) (c .before .loop .inv .5 q f .0)
+returns-2 c = λ q f. turn-none _ _ _ _ _ _ _ _ (omega arith) (c .before .loop .inv .5 q f .0)
 
 pub write-rows-spec : {M : Type 1} → statement M
 write-rows-spec =
