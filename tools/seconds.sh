@@ -8,7 +8,7 @@ export LC_ALL=C
 awk '
 # the number before " s)" at a line'\''s end
 function seconds(line) { sub(/ s\)$/, "", line); sub(/^.*[( ]/, "", line); return line + 0 }
-/^rt: [a-z_]+ proved \([0-9]+ s\)$/ { check[$2] = seconds($0); crates++ }
+/^rt: [a-z_0-9]+ proved \([0-9]+ s\)$/ { check[$2] = seconds($0); crates++ }
 /^rt: must-fail .*: refused, as it must be/ { split($3, part, "/"); edits[part[1]]++; tried[part[1]] += seconds($0) }
 /^passed with / { passed = $0 }
 END {
