@@ -5,7 +5,7 @@ ghost use Prim.Native.Nat.{_<_};
 ghost use Rattle.views.specs.Rows.{RowStands};
 ghost use Rattle.stored.specs.ReadBack.{treeAt};
 ghost use Rattle.stored.specs.Ready.{Ready};
-ghost use Rattle.operators.specs.Operands.{seen, judged};
+ghost use Rattle.operators.specs.Operands.{seen, verdictSeen};
 ghost use Rattle.evaluating.specs.Ways.{Settling, firstMet, partMet, endedBy, goneOn, enteredAt, comeBack, afterYes, afterNo, afterMissing, afterPart, insidePart};
 use bags::sections::Sections;
 use meaning::Verdict;
@@ -210,7 +210,7 @@ fn evaluate_by<'a>(
     requires { ⌜ Ready (now text) (now table) end ⌝ }
     requires { ⌜ RowStands (now s) p n (now heads) (now values) ⌝ }
     requires { ⌜ Settling settles (now text) (now table) (seen (now s) p n (now heads) (now values) (now action)) ⌝ }
-    ensures { λ r. ⌜ r ≡ judged (now (text .entry)) (now (s .entry)) p n (now (heads .entry)) (now (values .entry)) (now (action .entry))
+    ensures { λ r. ⌜ r ≡ verdictSeen (now (text .entry)) (now (s .entry)) p n (now (heads .entry)) (now (values .entry)) (now (action .entry))
         (treeAt (now (table .entry)) end) ⌝ }
 {
     let mut w = Way {
@@ -268,7 +268,7 @@ pub fn evaluate<'a>(
 ) -> Verdict
     requires { ⌜ Ready (now text) (now table) end ⌝ }
     requires { ⌜ RowStands (now s) p n (now heads) (now values) ⌝ }
-    ensures { λ r. ⌜ r ≡ judged (now (text .entry)) (now (s .entry)) p n (now (heads .entry)) (now (values .entry)) (now (action .entry))
+    ensures { λ r. ⌜ r ≡ verdictSeen (now (text .entry)) (now (s .entry)) p n (now (heads .entry)) (now (values .entry)) (now (action .entry))
         (treeAt (now (table .entry)) end) ⌝ }
 {
     evaluate_by(true, text, table, end, s, p, n, heads, values, action)

@@ -73,8 +73,8 @@ abbrev pub meantPath : List ℕ → List ℕ → Sections → ℕ → List ℕ �
 meantPath t s p n heads values action o = attributeValue (seen s p n heads values action) (rootOfKind (o .kind)) (unblankedAt t (spanOfEntry o))
 
 -- a condition's verdict there
-abbrev pub judged : List ℕ → List ℕ → Sections → ℕ → List ℕ → List ℕ → List ℕ → Tree → Verdict
-judged t s p n heads values action c = verdict (seen s p n heads values action) (treeWords t c)
+abbrev pub verdictSeen : List ℕ → List ℕ → Sections → ℕ → List ℕ → List ℕ → List ℕ → Tree → Verdict
+verdictSeen t s p n heads values action c = verdict (seen s p n heads values action) (treeWords t c)
 
 -- whether a value is the same as one of these literals
 abbrev pub amongLiterals : List ℕ → Datum → List Literal → Bool

@@ -12,7 +12,7 @@ ghost use Rattle.stored.specs.ReadBack.{spanOfEntry, rootOfKind, comparatorOfKi
 ghost use Rattle.stored.specs.Ready.{Room, Node};
 ghost use Rattle.meaning.specs.Values.{ifText, ifTexts, compares};
 ghost use Rattle.meaning.specs.Conditions.{told, amongStrings};
-ghost use Rattle.operators.specs.Operands.{operandRead, meant, meantPath, judged, amongLiterals, literalsListed, leftAt};
+ghost use Rattle.operators.specs.Operands.{operandRead, meant, meantPath, verdictSeen, amongLiterals, literalsListed, leftAt};
 use crate::lists::among_literals;
 use crate::lists::in_list;
 use crate::lists::literal_holds;
@@ -254,7 +254,7 @@ fn left_holds<'a>(
     requires { ⌜ a ≡ entryAt (now table) (leftAt end x) ⌝ }
     requires { ⌜ RowStands (now s) p n (now heads) (now values) ⌝ }
     requires { ⌜ v ≡ operandRead (now text) (now s) p n (now heads) (now values) a ⌝ }
-    ensures { λ r. ⌜ told r ≡ judged (now (text .entry)) (now (s .entry)) p n (now (heads .entry)) (now (values .entry)) (now (action .entry))
+    ensures { λ r. ⌜ told r ≡ verdictSeen (now (text .entry)) (now (s .entry)) p n (now (heads .entry)) (now (values .entry)) (now (action .entry))
         (treeOf (now (table .entry)) end x) ⌝ }
 {
     let kind = x.kind;
@@ -290,7 +290,7 @@ pub fn flat<'a>(
     requires { ⌜ Node (now text) (now table) end x ⌝ }
     requires { ⌜ x .kind ≤ containsAnyKind ⌝ }
     requires { ⌜ RowStands (now s) p n (now heads) (now values) ⌝ }
-    ensures { λ r. ⌜ r ≡ judged (now (text .entry)) (now (s .entry)) p n (now (heads .entry)) (now (values .entry)) (now (action .entry))
+    ensures { λ r. ⌜ r ≡ verdictSeen (now (text .entry)) (now (s .entry)) p n (now (heads .entry)) (now (values .entry)) (now (action .entry))
         (treeOf (now (table .entry)) end x) ⌝ }
 {
     let kind = x.kind;

@@ -34,7 +34,7 @@ use Rattle.spelling.specs.Marks.{quoted, signOf}
 use Rattle.spelling.specs.Printing.{Prints, PrintsLiteral, PrintsList, PrintsPath, markKind, rootKind, truthKind, callKind, effectWord, pathWords}
 use Rattle.spelling.specs.Printing.{RootedPath, rootedWords}
 use Rattle.spelling.specs.Printing as printing
-use Rattle.spelling.specs.Printed.{PlainToken, truthToken, effectToken, rootToken, whichToken, markToken, intoFirst, pathTokens, attributeTokens}
+use Rattle.spelling.specs.Printed.{PlainToken, truthToken, effectToken, rootToken, whichToken, comparatorToken, intoFirst, pathTokens, attributeTokens}
 use Rattle.spelling.specs.Printed.{literalToken, commaTokens, literalTokens, listTokens, operandTokens, treeTokens, whenTokens}
 use Rattle.spelling.specs.Printable.{PrintableString, PrintablePath, PrintableLiteral, of-string, of-number, of-truth, PrintableAction, of-action}
 use Rattle.spelling.specs.Printable.{PrintableOperand, of-attribute, of-literal, PrintableList, PrintableSimple, of-constant, of-comparison, of-likeness}
@@ -77,7 +77,7 @@ unfolding written-opened callKind whichToken
 call-token policies.Which.All = fixed refl
 call-token policies.Which.Any = fixed refl
 
-mark-token : (c : Comparator) → FixedToken (markKind c) (markToken c)
+mark-token : (c : Comparator) → FixedToken (markKind c) (comparatorToken c)
 unfolding written-opened markKind signOf
 mark-token policies.Comparator.Equal = fixed refl
 mark-token policies.Comparator.NotEqual = fixed refl

@@ -53,8 +53,8 @@ whichToken All = (callKind All, bytes "containsAll")
 whichToken Any = (callKind Any, bytes "containsAny")
 
 -- a comparator
-abbrev pub markToken : Comparator → PlainToken
-markToken c = (markKind c, signOf c)
+abbrev pub comparatorToken : Comparator → PlainToken
+comparatorToken c = (markKind c, signOf c)
 
 -- ---- paths
 
@@ -104,7 +104,7 @@ operandTokens (literal l) = literalToken l ∷ []
 -- a condition; brackets stand where the tree has them, and nowhere else
 unfoldable pub treeTokens : TreeOf Word → List PlainToken
 treeTokens (constant b) = truthToken b ∷ []
-treeTokens (compare c a b) = operandTokens a ++ markToken c ∷ operandTokens b
+treeTokens (compare c a b) = operandTokens a ++ comparatorToken c ∷ operandTokens b
 treeTokens (like a s) = operandTokens a ++ (kinds.likeWord, bytes "like") ∷ (kinds.string, quoted s) ∷ []
 treeTokens (among a ls) = operandTokens a ++ (kinds.inWord, bytes "in") ∷ listTokens ls
 treeTokens (within a root p) = operandTokens a ++ (kinds.inWord, bytes "in") ∷ attributeTokens root p
