@@ -16,11 +16,11 @@ pub data Character : List ℕ → ℕ → Type 0 where
   -- 0080-07FF: 110xxxxx 10xxxxxx
   two : {a b x y n : ℕ} → Bits 0xC0 0x20 a x → Bits 0x80 0x40 b y → n ≡ a * 64 + b → 0x80 ≤ n → Character (x ∷ y ∷ []) n
   -- 0800-FFFF: 1110xxxx 10xxxxxx 10xxxxxx
-  three : {a b c x y z n : ℕ} → Bits 0xE0 0x10 a x → Bits 0x80 0x40 b y → Bits 0x80 0x40 c z → n ≡ (a * 64 + b) * 64 + c → 0x800 ≤ n → (0xD800 ≤ n → n ≤ 0xDFFF → ⊥)
-      → Character (x ∷ y ∷ z ∷ []) n
+  three : {a b c x y z n : ℕ} → Bits 0xE0 0x10 a x → Bits 0x80 0x40 b y → Bits 0x80 0x40 c z → n ≡ (a * 64 + b) * 64 + c
+      → 0x800 ≤ n → (0xD800 ≤ n → n ≤ 0xDFFF → ⊥) → Character (x ∷ y ∷ z ∷ []) n
   -- 10000-10FFFF: 11110xxx 10xxxxxx 10xxxxxx 10xxxxxx
-  four : {a b c d x y z w n : ℕ} → Bits 0xF0 0x08 a x → Bits 0x80 0x40 b y → Bits 0x80 0x40 c z → Bits 0x80 0x40 d w → n ≡ ((a * 64 + b) * 64 + c) * 64 + d → 0x10000 ≤ n → n ≤ 0x10FFFF
-      → Character (x ∷ y ∷ z ∷ w ∷ []) n
+  four : {a b c d x y z w n : ℕ} → Bits 0xF0 0x08 a x → Bits 0x80 0x40 b y → Bits 0x80 0x40 c z → Bits 0x80 0x40 d w
+      → n ≡ ((a * 64 + b) * 64 + c) * 64 + d → 0x10000 ≤ n → n ≤ 0x10FFFF → Character (x ∷ y ∷ z ∷ w ∷ []) n
 
 -- bytes that are one character after another, and the numbers of these
 pub data Spells : List ℕ → List ℕ → Type 0 where
