@@ -43,9 +43,12 @@ abbrev pub times : {A : Type 0} → ℕ → List A → List A
 times zero s = []
 times (suc n) s = s ++ times n s
 
--- the bytes of `ü`
+-- the bytes of `ü`, and of a character of four, U+1F6D7
 abbrev pub umlaut : List ℕ
 umlaut = 0xC3 ∷ 0xBC ∷ []
+
+abbrev pub elevator : List ℕ
+elevator = 0xF0 ∷ 0x9F ∷ 0x9B ∷ 0x97 ∷ []
 
 -- the tokens of a policy that asks for nothing
 abbrev pub plainest : List Lexeme
@@ -130,7 +133,8 @@ pub record Computed : Type 0 where
       × (when (bytes "1 like\"*?*?*\"") ≡ policies 1)
       × (when (bytes "1 like\"*?*?*?\"") ≡ refused 13 (place 1 45))
 
-  -- a string is UTF-8, else it gets 17; where none may stand 10, one too many in a list 14, a pattern 17 before 13. A pattern has at most 100 characters
+  -- a string is UTF-8, else it gets 17; where none may stand 10, one too many in a list 14, a pattern 17 before 13. A pattern has at most 100 characters,
+  -- and as a string 127 bytes, which is 31 characters of four and three more
   pub texts :
       (when (bytes "1==\"S" ++ umlaut ++ bytes "d\"") ≡ policies 1)
       × (when (bytes "1==\"S" ++ 0xC3 ∷ bytes "d\"") ≡ refused 17 (place 1 42))
@@ -142,6 +146,8 @@ pub record Computed : Type 0 where
       × (when (bytes "1 like\"" ++ 0xC3 ∷ bytes "[\"") ≡ refused 17 (place 1 45))
       × (when (bytes "1 like\"" ++ times 27 umlaut ++ times 73 (bytes "a") ++ bytes "\"") ≡ policies 1)
       × (when (bytes "1 like\"" ++ times 26 umlaut ++ times 75 (bytes "a") ++ bytes "\"") ≡ refused 13 (place 1 45))
+      × (when (bytes "1 like\"" ++ times 31 elevator ++ bytes "abc\"") ≡ policies 1)
+      × (when (bytes "1 like\"" ++ times 31 elevator ++ bytes "abcd\"") ≡ refused 6 (place 1 45))
 
   -- a text has at most 64 policies
   pub sixty-four :
@@ -158,6 +164,6 @@ computed = record {
   levels = (refl, refl, refl, refl, refl, refl);
   lists = (refl, refl, refl, refl, refl);
   at-the-sizes = (refl, refl, refl, refl, refl, refl, refl, refl, refl, refl, refl, refl);
-  texts = (refl, refl, refl, refl, refl, refl, refl, refl, refl, refl);
+  texts = (refl, refl, refl, refl, refl, refl, refl, refl, refl, refl, refl, refl);
   sixty-four = (refl, refl);
 }
