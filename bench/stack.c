@@ -1,7 +1,7 @@
 // The stack that the desk's calls take, on texts of the deepest nesting. A call runs on a stack of its own that was painted before; what it wrote lies below its first frame. Built
 // and run by bench/stack, on x86-64 or under the emulator. A figure above its limit, or an answer that is not right, ends it with status 1 and prints the text.
 //
-// The texts are not chosen. A text is one policy. In its braces stands a chain, in that 31 levels, and inside these a leaf, which is a condition without parts. A chain puts what it
+// Each text is tried under both versions of the rules: compiled once under each, and that table lent to the other calls. The texts are not chosen. A text is one policy. In its braces stands a chain, in that 31 levels, and inside these a leaf, which is a condition without parts. A chain puts what it
 // holds to the left, in the middle or to the right of a `||`, of an `&&`, of both or of neither: 16. A level is `!`, one of the three places of an `if`, or brackets with one of
 // the chains: 20. Tried are
 //   every leaf, refused ones too, in every level, repeated to the full depth, and those that are not refused without levels;
@@ -47,7 +47,7 @@ struct nesting {
     int chain, levels, level[LEVELS], leaf;
 };
 
-static uint8_t text[8192], table[65536];
+static uint8_t text[8192], table[65536]; // the table is that of the version tried last
 static size_t length;
 
 static void put(const char *s) {
@@ -125,6 +125,7 @@ static const uint64_t PAINT = 0xA5A5A5A5A5A5A5A5;
 static uint64_t stack[STACK / sizeof(uint64_t)] __attribute__((aligned(64)));
 static ucontext_t here, there;
 static volatile uint32_t refusal; // of the last call
+static uint64_t version;          // under which the text is tried
 static volatile bool wrong;       // an answer without a refusal that is not right
 
 // A bag with a string, a number, a flag and a list; a question with the same base and two columns, resource.c (absent, "abcde") and env.d (absent, 1): four rows.
@@ -136,7 +137,7 @@ static uint8_t sheet[4 * DESK_ROW_BYTES];
 static uint32_t counts[DESK_TALLY_COUNTS];
 
 static void nothing(void) {}
-static void compile(void) { refusal = desk_compile(TEXT).refusal; }
+static void compile(void) { refusal = desk_compile(TEXT, version).refusal; }
 static void begins(void) { refusal = desk_begins(TEXT) ? 0 : 20; }
 static void decide(void) { refusal = desk_decide(TEXT, LENT(bag), REQUEST).refusal; }
 static void page(void) { refusal = desk_sheet(TEXT, LENT(question), REQUEST, 0, sheet, sizeof sheet, 0).refusal; }
@@ -166,8 +167,9 @@ static struct call {
     void (*call)(void);
     size_t limit, most;
     struct nesting deepest;
-} calls[] = {{"compile", compile, 14500, 0, {0}}, {"begins", begins, 14500, 0, {0}}, {"decide", decide, 15000, 0, {0}}, {"tally", tally, 17500, 0, {0}}, {"sheet", page, 17000, 0, {0}}, {"lookup", lookup, 1000, 0, {0}}, {"string", string, 1000, 0, {0}}, {"rows", rows, 1000, 0, {0}}, {"lock", lock, 3000, 0, {0}}};
-enum { WITH_TEXT = 5, CALLS = COUNT(calls) };
+} calls[] = {{"compile", compile, 14500, 0, {0}}, {"begins", begins, 14500, 0, {0}}, {"decide", decide, 15500, 0, {0}}, {"tally", tally, 17500, 0, {0}}, {"sheet", page, 17500, 0, {0}}, {"lookup", lookup, 1000, 0, {0}}, {"string", string, 1000, 0, {0}}, {"rows", rows, 1000, 0, {0}}, {"lock", lock, 3000, 0, {0}}};
+enum { WITH_TEXT = 5, CALLS = COUNT(calls), VERSIONS = DESK_RULES_VERSION_2 };
+static size_t most_under[VERSIONS][WITH_TEXT]; // the most under each version
 static size_t most_of_sort[WITH_TEXT][SORTS];   // the most with leaves of each sort, and with which leaf
 static int leaf_of_sort[WITH_TEXT][SORTS];
 static size_t most_of_row[STEPS + 2][WITH_TEXT]; // with each level repeated, without levels, and of the chain
@@ -204,7 +206,7 @@ static size_t touched(void (*call)(void)) {
     return STACK - byte;
 }
 
-static void print_text(void) { fprintf(stderr, "%.*s\n", (int)length, (const char *)text); }
+static void print_text(void) { fprintf(stderr, "version %u: %.*s\n", (unsigned)version, (int)length, (const char *)text); }
 
 static size_t measured(const struct call *c) {
     size_t bytes = touched(c->call) - round_a_call;
@@ -215,18 +217,31 @@ static size_t measured(const struct call *c) {
     return bytes;
 }
 
-// What the calls take on the text, with the most of a row.
-static void measure_all(bool refused, size_t *took, size_t *most) {
-    tried++;
+// What the calls take on the text under one version.
+static void measure_under(bool refused, size_t *took) {
     for (int i = 0; i < WITH_TEXT; i++) {
         took[i] = measured(&calls[i]);
-        if (most != NULL && took[i] > most[i]) most[i] = took[i];
+        if (took[i] > most_under[version - 1][i]) most_under[version - 1][i] = took[i];
         if (refused != (refusal != 0) && !wrong) {
             fprintf(stderr, "%s answers refusal %u on this text:\n", calls[i].name, refusal);
             print_text();
             wrong = true;
         }
     }
+}
+
+// The most that the calls take on the text under either, with the most of a row.
+static void measure_all(bool refused, size_t *took, size_t *most) {
+    tried++;
+    memset(took, 0, sizeof(size_t[WITH_TEXT]));
+    for (version = 1; version <= VERSIONS; version++) {
+        size_t under[WITH_TEXT];
+        measure_under(refused, under);
+        for (int i = 0; i < WITH_TEXT; i++)
+            if (under[i] > took[i]) took[i] = under[i];
+    }
+    for (int i = 0; i < WITH_TEXT; i++)
+        if (most != NULL && took[i] > most[i]) most[i] = took[i];
 }
 
 // Tries a text; whether some call took more than ever before.
@@ -397,7 +412,7 @@ static void print_row(const size_t *row) {
 }
 
 static void print_all(void) {
-    printf("The deepest of %ld texts, for each call:\n\n", tried);
+    printf("The deepest of %ld texts, each under both versions, for each call:\n\n", tried);
     for (int i = 0; i < WITH_TEXT; i++) print_deepest(&calls[i]);
     print_head("bytes of stack, the most with any leaf", WITH_TEXT);
     printf("| no level"), print_row(most_of_row[NO_LEVELS]);
@@ -405,9 +420,12 @@ static void print_all(void) {
     for (int i = 0; i < STEPS; i++) printf("| 31 times "), print_round(&steps[i], true), print_row(most_of_row[i]);
     for (int stars = 0; stars <= MOST_STARS; stars += MOST_STARS) printf("| the sheet's deepest nesting around `like` with %s", stars == 0 ? "no star" : "five stars"), print_row(of_stars[stars]);
     print_head("most bytes of stack", CALLS);
-    printf("| measured |");
-    for (int i = 0; i < CALLS; i++) printf(" %zu |", calls[i].most);
-    printf("\n| allowed |");
+    for (int v = 0; v < VERSIONS; v++) {
+        printf("| measured, version %d |", v + 1);
+        for (int i = 0; i < CALLS; i++) printf(" %zu |", i < WITH_TEXT ? most_under[v][i] : calls[i].most);
+        printf("\n");
+    }
+    printf("| allowed |");
     for (int i = 0; i < CALLS; i++) printf(" %zu |", calls[i].limit);
     printf("\n");
 }

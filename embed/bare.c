@@ -20,7 +20,7 @@ static const char rule[] = "permit(principal is tool, action, resource) when { e
 static uint8_t table[8 * sizeof rule], page[DESK_ROW_BYTES];
 
 static int right(void) {
-    DeskCompiled c = desk_compile(LENT(rule), table, sizeof table);
+    DeskCompiled c = desk_compile(LENT(rule), table, sizeof table, DESK_RULES_VERSION_1);
     DeskDecision d = desk_decide(LENT(rule), table, sizeof table, LENT("\0\0\1\5speed\2\0\0\0\0\0\0\xD0\x3F"), LENT("tool:T1"), LENT("teach"), LENT("shaft:A"));
     DeskPage p = desk_sheet(LENT(rule), table, sizeof table, LENT("\0\0\1\5speed\2\0\0\0\0\0\0\xD0\x3F\0"), LENT("tool:T1"), LENT("teach"), LENT("shaft:A"), 0, page, sizeof page, 0);
     return c.refusal == 0 && c.policies == 1 && d.refusal == 0 && d.outcome == 1 && d.policy == 1 && d.mark == 1 && p.refusal == 0 && p.written == 1 && p.next == 1 && page[4] == 1 && page[5] == 1 && page[6] == 1 && page[13] == 0;

@@ -13,8 +13,8 @@ extern "C" {
 #define DESK_LAID_OUT _Static_assert
 #endif
 
-#define DESK_VERSION "4.0"
-#define DESK_VERSION_MAJOR 4
+#define DESK_VERSION "5.0"
+#define DESK_VERSION_MAJOR 5
 #define DESK_VERSION_MINOR 0
 
 /* Outcomes of a decision and of a listed row. Yes is ALLOWED or SYSTEM. */
@@ -22,6 +22,10 @@ extern "C" {
 #define DESK_FORBIDDEN 2u
 #define DESK_NOTHING_SATISFIED 3u
 #define DESK_SYSTEM 4u
+
+/* Versions of the rules, not of this file. Compiling is told one by its number; the table records it, and later calls read it there, so to change it compile again. A table of version 1 is byte for byte what it was before there were versions. A text without policies has no version. */
+#define DESK_RULES_VERSION_1 1u
+#define DESK_RULES_VERSION_2 2u
 
 /* Root bytes. */
 #define DESK_ROOT_PRINCIPAL 1u
@@ -53,6 +57,7 @@ extern "C" {
 #define DESK_REFUSED_MANY_POLICIES 15u
 #define DESK_REFUSED_LONG_PATH 16u
 #define DESK_REFUSED_NOT_UTF8 17u
+#define DESK_REFUSED_VERSION 30u
 
 /* of the other calls. */
 #define DESK_REFUSED_OTHER_TABLE 20u
@@ -154,8 +159,8 @@ typedef struct {
 } DeskPage;
 DESK_LAID_OUT(sizeof(DeskPage) == 24 && offsetof(DeskPage, refusal) == 0 && offsetof(DeskPage, written) == 8 && offsetof(DeskPage, next) == 16, "DeskPage");
 
-/* Compiles a text into the table. The bytes past those used stay, and a refusal changes nothing. */
-DeskCompiled desk_compile(const uint8_t *text, size_t text_length, uint8_t *table, size_t table_length);
+/* Compiles a text into the table, which records the version: 1 or 2. The bytes past those used stay, and a refusal changes nothing. */
+DeskCompiled desk_compile(const uint8_t *text, size_t text_length, uint8_t *table, size_t table_length, uint64_t version);
 
 /* Whether a text compiles and the table begins with its compiled bytes. */
 bool desk_begins(const uint8_t *text, size_t text_length, const uint8_t *table, size_t table_length);

@@ -2,13 +2,17 @@
 //! lend is as the desk asks for it. Link with libdesk.a.
 #![allow(dead_code)]
 
-pub const VERSION: &str = "4.0";
+pub const VERSION: &str = "5.0";
 
 // Outcomes of a decision and of a listed row. Yes is ALLOWED or SYSTEM.
 pub const ALLOWED: u32 = 1;
 pub const FORBIDDEN: u32 = 2;
 pub const NOTHING_SATISFIED: u32 = 3;
 pub const SYSTEM: u32 = 4;
+
+// Versions of the rules, not of this file. Compiling is told one by its number; the table records it, and later calls read it there, so to change it compile again. A table of version 1 is byte for byte what it was before there were versions. A text without policies has no version.
+pub const RULES_VERSION_1: u64 = 1;
+pub const RULES_VERSION_2: u64 = 2;
 
 // Root bytes.
 pub const ROOT_PRINCIPAL: u8 = 1;
@@ -40,6 +44,7 @@ pub const REFUSED_MANY_LITERALS: u32 = 14;
 pub const REFUSED_MANY_POLICIES: u32 = 15;
 pub const REFUSED_LONG_PATH: u32 = 16;
 pub const REFUSED_NOT_UTF8: u32 = 17;
+pub const REFUSED_VERSION: u32 = 30;
 
 // of the other calls.
 pub const REFUSED_OTHER_TABLE: u32 = 20;
@@ -155,7 +160,7 @@ pub struct DeskLock {
 }
 
 extern "C" {
-    fn desk_compile(text: *const u8, text_length: usize, table: *mut u8, table_length: usize) -> DeskCompiled;
+    fn desk_compile(text: *const u8, text_length: usize, table: *mut u8, table_length: usize, version: u64) -> DeskCompiled;
     fn desk_begins(text: *const u8, text_length: usize, table: *const u8, table_length: usize) -> bool;
     fn desk_decide(text: *const u8, text_length: usize, table: *const u8, table_length: usize, bag: *const u8, bag_length: usize, subject: *const u8, subject_length: usize, action: *const u8, action_length: usize, resource: *const u8, resource_length: usize) -> DeskDecision;
     fn desk_lookup(bag: *const u8, bag_length: usize, root: u8, path: *const u8, path_length: usize) -> DeskValue;
@@ -166,9 +171,9 @@ extern "C" {
     fn desk_lock(vocabulary: *const u8, vocabulary_length: usize, lock: *const u8, lock_length: usize, actions: *const u8, actions_length: usize, resource: *const u8, resource_length: usize, room: *mut u8, room_length: usize) -> DeskLock;
 }
 
-/// Compiles a text into the table. The bytes past those used stay, and a refusal changes nothing.
-pub fn compile(text: &[u8], table: &mut [u8]) -> DeskCompiled {
-    unsafe { desk_compile(text.as_ptr(), text.len(), table.as_mut_ptr(), table.len()) }
+/// Compiles a text into the table, which records the version: 1 or 2. The bytes past those used stay, and a refusal changes nothing.
+pub fn compile(text: &[u8], table: &mut [u8], version: u64) -> DeskCompiled {
+    unsafe { desk_compile(text.as_ptr(), text.len(), table.as_mut_ptr(), table.len(), version) }
 }
 
 /// Whether a text compiles and the table begins with its compiled bytes.

@@ -21,6 +21,7 @@ const char *desk_message(uint32_t refusal) {
     case DESK_REFUSED_MANY_POLICIES: return "The text has more than 64 policies.";
     case DESK_REFUSED_LONG_PATH: return "The path of the attribute has more than 64 bytes.";
     case DESK_REFUSED_NOT_UTF8: return "The string is not UTF-8; save the rules as UTF-8, and write the string again.";
+    case DESK_REFUSED_VERSION: return "There is no such version of the rules: there are 1 and 2, and one of them must be named.";
     case DESK_REFUSED_OTHER_TABLE: return "The table is not the one that this rule text compiles to, or the text is refused.";
     case DESK_REFUSED_SUBJECT: return "The subject is not system, and not person: or tool: and an id, or has more than 100 bytes.";
     case DESK_REFUSED_ACTION: return "The action is empty or has more than 100 bytes.";

@@ -146,7 +146,7 @@ static inline DeskRoom desk_room(void *bytes, size_t length) {
     return s;
 }
 
-static inline DeskCompiled desk_compile_of(DeskText text, DeskTableRoom table) { return desk_compile(text.bytes, text.length, table.bytes, table.length); }
+static inline DeskCompiled desk_compile_of(DeskText text, DeskTableRoom table, uint64_t version) { return desk_compile(text.bytes, text.length, table.bytes, table.length, version); }
 static inline bool desk_begins_of(DeskText text, DeskTable table) { return desk_begins(text.bytes, text.length, table.bytes, table.length); }
 static inline DeskDecision desk_decide_of(DeskText text, DeskTable table, DeskBag bag, DeskSubject subject, DeskAction action, DeskResource resource) { return desk_decide(text.bytes, text.length, table.bytes, table.length, bag.bytes, bag.length, subject.bytes, subject.length, action.bytes, action.length, resource.bytes, resource.length); }
 static inline DeskValue desk_lookup_of(DeskBag bag, uint8_t root, DeskPath path) { return desk_lookup(bag.bytes, bag.length, root, path.bytes, path.length); }

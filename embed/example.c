@@ -1,5 +1,5 @@
-// The desk in a C program: document 01's example. It compiles the rules, decides one request, looks attributes up, prints the sheet page by page, tallies it
-// for two requests, and prints a lock's permit. It reads nothing from outside and needs no heap: all memory is the arrays below, lent to the calls. example.out has what it
+// The desk in a C program: document 01's example, under version 1 of the rules. It compiles the rules, decides one request, looks attributes up, prints the sheet page by page, tallies it
+// for two requests, and prints a lock's permit; then it decides by one more rule under both versions, where they differ. It reads nothing from outside and needs no heap: all memory is the arrays below, lent to the calls. example.out has what it
 // prints. Every thing that is lent has a type of its own (desk_slices.h), so that the compiler finds swapped arguments; the bag is written with desk_bags.c, the requests of the
 // tally with desk_tallies.c, the words and actions of the lock with desk_locks.c, and desk_messages.c has the sentences of refusals.
 #include "desk_more.h"
@@ -77,6 +77,22 @@ static int print_permit(void) {
     return 0;
 }
 
+// Who is not on loan may do all; and nobody noted who hired the person. Under version 1 what is absent is not "loan", and the permit is satisfied; under version 2 it is not.
+// The version is named when compiling; the table records it, and deciding reads it there.
+static int print_versions(DeskSubject who, DeskAction what, DeskResource which) {
+    static const char rule[] = "permit(principal, action, resource) when { !(principal.hired == \"loan\") };";
+    static uint8_t room[DESK_TABLE_FOR_A_BYTE * sizeof rule];
+    DeskText text = desk_text(DESK_WORDS(rule));
+    DeskBag nothing = desk_bag(DESK_WORDS("\x00\x00\x00"));
+    for (uint64_t version = DESK_RULES_VERSION_1; version <= DESK_RULES_VERSION_2; version++) {
+        DeskCompiled c = desk_compile_of(text, desk_table_room(room, sizeof room), version);
+        if (c.refusal != 0) return refused(c.refusal);
+        DeskDecision d = desk_decide_of(text, desk_table(room, c.bytes), nothing, who, what, which);
+        printf("under version %" PRIu64 ": refusal %u, outcome %u, policy %zu, mark %" PRIu64 "\n", version, d.refusal, d.outcome, d.policy, d.mark);
+    }
+    return 0;
+}
+
 int main(void) {
     DeskText text = desk_text(DESK_WORDS(rules));
     DeskSubject who = desk_subject(DESK_WORDS("person:K7"));
@@ -84,7 +100,7 @@ int main(void) {
     DeskResource which = desk_resource(DESK_WORDS("shaft:A"));
     DeskPath grade = desk_path(DESK_WORDS("grade")), hired = desk_path(DESK_WORDS("hired"));
 
-    DeskCompiled c = desk_compile_of(text, desk_table_room(table, sizeof table));
+    DeskCompiled c = desk_compile_of(text, desk_table_room(table, sizeof table), DESK_RULES_VERSION_1);
     printf("compile: refusal %u, line %zu, column %zu, length %zu, policies %zu, bytes %zu\n", c.refusal, c.line, c.column, c.length, c.policies, c.bytes);
     if (c.refusal != 0) return refused(c.refusal);
     DeskTable compiled = desk_table(table, c.bytes); // the calls after it need no others
@@ -102,5 +118,5 @@ int main(void) {
     DeskString s = desk_string_of(bag, DESK_ROOT_PRINCIPAL, hired);
     printf("principal.hired: \"%.*s\"\n", (int)s.length, (const char *)bag.bytes + s.start);
 
-    return print_sheet(text, compiled, who, what, which) || print_tally(text, compiled, c.policies, who, what, which) || print_permit();
+    return print_sheet(text, compiled, who, what, which) || print_tally(text, compiled, c.policies, who, what, which) || print_permit() || print_versions(who, what, which);
 }

@@ -2,13 +2,14 @@
 mod desk;
 
 const RULES: &[u8] = b"permit(principal is person, action, resource is shaft)\n  when { principal.grade >= 3 };\nforbid(principal, action in [\"teach\"], resource)\n  when { principal.hired != \"own\" };\n";
+const NOT_ON_LOAN: &[u8] = b"permit(principal, action, resource) when { !(principal.hired == \"loan\") };";
 const BAG: &[u8] = b"\x02\x05grade\x02\0\0\0\0\0\0\x08\x40\x05hired\x01\x03own\0\0";
 const REQUESTS: &[u8] = b"\x09person:K7\x05teach\x07shaft:A\x07tool:T1\x05teach\x07shaft:A";
 const QUESTION: &[u8] = b"\0\0\0\x02\x01\x05grade\x03\0\x02\0\0\0\0\0\0\x08\x40\x02\0\0\0\0\0\0\x04\x40\x01\x05hired\x03\0\x01\x03own\x01\x04loan";
 
 fn main() {
     let mut table = [0u8; desk::TABLE_FOR_A_BYTE * RULES.len()];
-    let c = desk::compile(RULES, &mut table);
+    let c = desk::compile(RULES, &mut table, desk::RULES_VERSION_1);
     println!("compile: refusal {}, line {}, column {}, length {}, policies {}, bytes {}", c.refusal, c.line, c.column, c.length, c.policies, c.bytes);
     let table = &table[..c.bytes];
     println!("begins: {}", desk::begins(RULES, table) as u8);
@@ -48,4 +49,11 @@ fn main() {
     let l = desk::lock(b"\x04firm\x04firm\x01\x05grade\x05grade\x03", b"firm:own & grade>=3", b"\x05teach", b"shaft:A", &mut permit);
     assert_eq!(l.refusal, 0);
     println!("{}", String::from_utf8_lossy(&permit[..l.length]));
+
+    for version in [desk::RULES_VERSION_1, desk::RULES_VERSION_2] {
+        let mut table = [0u8; desk::TABLE_FOR_A_BYTE * NOT_ON_LOAN.len()];
+        assert_eq!(desk::compile(NOT_ON_LOAN, &mut table, version).refusal, 0);
+        let d = desk::decide(NOT_ON_LOAN, &table, b"\0\0\0", b"person:K7", b"teach", b"shaft:A");
+        println!("under version {}: refusal {}, outcome {}, policy {}, mark {}", version, d.refusal, d.outcome, d.policy, d.mark);
+    }
 }

@@ -1,5 +1,5 @@
 // Holds the examples of docs/LOCKS.md to the proved desk. Standard input has a line for each, its parts divided by tabs, as docs/locks.sh takes them from the page. Prints how many
-// there were; one that is answered otherwise is printed and ends it with status 1. Each permit that is written must compile, as one policy.
+// there were; one that is answered otherwise is printed and ends it with status 1. Each permit that is written must compile, as one policy, under each version.
 #include "desk_more.h"
 #include <stdio.h>
 #include <stdlib.h>
@@ -88,8 +88,12 @@ static DeskLock locked(const struct asked *a, const char *lock) {
 }
 
 static bool compiles(size_t length) {
-    DeskCompiled c = desk_compile(room, length, table, sizeof table);
-    return c.refusal == 0 && c.policies == 1;
+    bool all = true;
+    for (uint64_t version = DESK_RULES_VERSION_1; version <= DESK_RULES_VERSION_2; version++) {
+        DeskCompiled c = desk_compile(room, length, table, sizeof table, version);
+        all = all && c.refusal == 0 && c.policies == 1;
+    }
+    return all;
 }
 
 // ---- lines

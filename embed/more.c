@@ -32,7 +32,7 @@ static void rows(void) {
     static const char rule[] = "permit(principal,action,resource);";
     static uint8_t table[DESK_TABLE_FOR_A_BYTE * sizeof rule], lent[DESK_ROW_BYTES + 6], before[DESK_ROW_BYTES + 6];
     DeskText text = desk_text(DESK_WORDS(rule));
-    DeskTable compiled = desk_table(table, desk_compile_of(text, desk_table_room(table, sizeof table)).bytes);
+    DeskTable compiled = desk_table(table, desk_compile_of(text, desk_table_room(table, sizeof table), DESK_RULES_VERSION_1).bytes);
     DeskQuestion question = desk_question(DESK_WORDS("\0\0\0\0"));
     DeskSubject tool = desk_subject(DESK_WORDS("tool:T1"));
     DeskAction teach = desk_action(DESK_WORDS("teach"));
@@ -154,7 +154,7 @@ static void tallies(void) {
     static const char rules[] = "forbid(principal is person,action,resource);permit(principal,action,resource)when{env.a==true};";
     static uint8_t table[DESK_TABLE_FOR_A_BYTE * sizeof rules];
     DeskText text = desk_text(DESK_WORDS(rules));
-    DeskTable compiled = desk_table(table, desk_compile_of(text, desk_table_room(table, sizeof table)).bytes);
+    DeskTable compiled = desk_table(table, desk_compile_of(text, desk_table_room(table, sizeof table), DESK_RULES_VERSION_1).bytes);
     desk_requests_begin(&r, bytes, sizeof bytes);
     desk_requests_add(&r, tool, teach, shaft), desk_requests_add(&r, system, none, shaft), desk_requests_add(&r, desk_subject(DESK_WORDS("person:K7")), teach, shaft);
     CHECK(desk_tally_of(text, compiled, desk_question(DESK_WORDS("\0\0\0\1\3\1" "a" "\2\0\3\1")), r.many, desk_requests_written(&r), &counts) == 0);
@@ -214,13 +214,13 @@ static void locks(void) {
 // A sentence for each refusal, no two alike.
 static void sentences(void) {
     int different = 0, there = 0;
-    for (unsigned r = DESK_REFUSED_LONG_TEXT; r <= DESK_REFUSED_PERMIT_ROOM; r++) {
+    for (unsigned r = DESK_REFUSED_LONG_TEXT; r <= DESK_REFUSED_VERSION; r++) {
         bool is = r <= DESK_REFUSED_NOT_UTF8 || r >= DESK_REFUSED_OTHER_TABLE;
         there += is == (strcmp(desk_message(r), desk_message(99)) != 0);
         for (unsigned s = DESK_REFUSED_LONG_TEXT; s < r; s++) different += strcmp(desk_message(r), desk_message(s)) != 0;
     }
-    CHECK(there == 29);
-    CHECK(different == 29 * 28 / 2 - 1); // 18 and 19 are no refusals
+    CHECK(there == 30);
+    CHECK(different == 30 * 29 / 2 - 1); // 18 and 19 are no refusals
     CHECK(strcmp(desk_message(DESK_REFUSED_COLON), "A colon stands outside a string.") == 0);
 }
 

@@ -1,5 +1,5 @@
 // Each call refused, and that a refusal gives its number, zeros elsewhere and changes nothing lent: the table, the sheet, the counts and the room of a permit are compared with
-// copies, what is before and behind them too. Then slices of no bytes, as NULL. Prints how many checks were made; a check that fails is printed and ends it with status 1.
+// copies, what is before and behind them too. Then tables of both versions and of neither, and slices of no bytes, as NULL. Prints how many checks were made; a check that fails is printed and ends it with status 1.
 #include "desk.h"
 #include <stdio.h>
 #include <string.h>
@@ -10,6 +10,8 @@
 #define QUESTION LENT("\0\0\0\0")
 #define REQUEST LENT("person:K7"), LENT("teach"), LENT("shaft:A")
 #define NONE NULL, 0
+#define FIRST DESK_RULES_VERSION_1
+#define SECOND DESK_RULES_VERSION_2
 
 static int made, failed;
 static uint8_t lent[1000], copy[1000];
@@ -32,19 +34,36 @@ static int found(DeskValue v, unsigned refusal) { return v.refusal == refusal &&
 static int listed(DeskPage p, unsigned refusal, size_t next) { return p.refusal == refusal && p.written == 0 && p.next == next; }
 static int at_none(DeskString s) { return s.start == 0 && s.length == 0; }
 
-static void refusals(void) {
-    static const uint8_t long_text[DESK_MOST_TEXT + 1];
-    uint8_t *table = lent + 100, *sheet = lent + 500;
-    // compile: 1, 2, and some that have a place
-    CHECK(compiled(desk_compile(long_text, sizeof long_text, table, 400), DESK_REFUSED_LONG_TEXT, 0, 0, 0));
-    CHECK(compiled(desk_compile(TEXT, table, 271), DESK_REFUSED_SMALL_TABLE, 0, 0, 0));
-    CHECK(compiled(desk_compile(LENT("permit(principal,action,resource)"), table, 400), DESK_REFUSED_NOT_ADMITTED, 1, 34, 0));
-    CHECK(compiled(desk_compile(LENT("\n permit(principal is lift"), table, 400), DESK_REFUSED_TYPE, 2, 22, 4));
-    CHECK(compiled(desk_compile(LENT("permit \"teach "), table, 400), DESK_REFUSED_UNENDED_STRING, 1, 8, 7));
+static const uint8_t long_text[DESK_MOST_TEXT + 1];
+
+// compile under a version: 1, 2, and some that have a place
+static void texts(uint64_t version) {
+    uint8_t *table = lent + 100;
+    CHECK(compiled(desk_compile(long_text, sizeof long_text, table, 400, version), DESK_REFUSED_LONG_TEXT, 0, 0, 0));
+    CHECK(compiled(desk_compile(TEXT, table, 271, version), DESK_REFUSED_SMALL_TABLE, 0, 0, 0));
+    CHECK(compiled(desk_compile(LENT("permit(principal,action,resource)"), table, 400, version), DESK_REFUSED_NOT_ADMITTED, 1, 34, 0));
+    CHECK(compiled(desk_compile(LENT("\n permit(principal is lift"), table, 400, version), DESK_REFUSED_TYPE, 2, 22, 4));
+    CHECK(compiled(desk_compile(LENT("permit \"teach "), table, 400, version), DESK_REFUSED_UNENDED_STRING, 1, 8, 7));
     // columns are characters, and in a string that is not UTF-8 bytes; lengths are bytes
-    CHECK(compiled(desk_compile(LENT("permit(principal,action in[\"\xC3\xBC\",\"\xFC\"],resource);"), table, 400), DESK_REFUSED_NOT_UTF8, 1, 32, 3));
-    CHECK(compiled(desk_compile(LENT("permit(principal,action in[\"\xC3\xBC\1\"],resource);"), table, 400), DESK_REFUSED_BYTE, 1, 30, 1));
-    CHECK(compiled(desk_compile(LENT("permit(principal,action in[\"\xC3\xBC\1\xFF\"],resource);"), table, 400), DESK_REFUSED_BYTE, 1, 31, 1));
+    CHECK(compiled(desk_compile(LENT("permit(principal,action in[\"\xC3\xBC\",\"\xFC\"],resource);"), table, 400, version), DESK_REFUSED_NOT_UTF8, 1, 32, 3));
+    CHECK(compiled(desk_compile(LENT("permit(principal,action in[\"\xC3\xBC\1\"],resource);"), table, 400, version), DESK_REFUSED_BYTE, 1, 30, 1));
+    CHECK(compiled(desk_compile(LENT("permit(principal,action in[\"\xC3\xBC\1\xFF\"],resource);"), table, 400, version), DESK_REFUSED_BYTE, 1, 31, 1));
+}
+
+// compile under a number that names no version: 30 before 1, 2 and all others, of a text without policies too
+static void no_version(uint64_t version) {
+    uint8_t *table = lent + 100;
+    CHECK(compiled(desk_compile(TEXT, table, 400, version), DESK_REFUSED_VERSION, 0, 0, 0));
+    CHECK(compiled(desk_compile(long_text, sizeof long_text, table, 400, version), DESK_REFUSED_VERSION, 0, 0, 0));
+    CHECK(compiled(desk_compile(TEXT, table, 271, version), DESK_REFUSED_VERSION, 0, 0, 0));
+    CHECK(compiled(desk_compile(TEXT, NONE, version), DESK_REFUSED_VERSION, 0, 0, 0));
+    CHECK(compiled(desk_compile(LENT("\n permit(principal is lift"), table, 400, version), DESK_REFUSED_VERSION, 0, 0, 0));
+    CHECK(compiled(desk_compile(LENT(" \n"), table, 400, version), DESK_REFUSED_VERSION, 0, 0, 0));
+    CHECK(compiled(desk_compile(NONE, NONE, version), DESK_REFUSED_VERSION, 0, 0, 0));
+}
+
+static void refusals(void) {
+    uint8_t *table = lent + 100, *sheet = lent + 500;
     // a table that is not the text's
     CHECK(!desk_begins(TEXT, table, 400));
     // decide: 21, 22, 23, 24, 20, in this order
@@ -131,8 +150,41 @@ static void locks(void) {
     CHECK(memcmp(own, "\xAA\xAA\xAA\xAApermit(principal, action in [\"teach\"], resource == \"shaft:A\") when { principal.f == \"own\" };\xAA\xAA\xAA\xAA", sizeof own) == 0);
 }
 
+// The refusal that every call gives that is lent this text and table; 99 where they differ, or desk_begins says otherwise.
+static unsigned with_table(const uint8_t *text, size_t text_length, const uint8_t *table, size_t table_length) {
+    static uint8_t sheet[DESK_ROW_BYTES];
+    static uint32_t counts[DESK_TALLY_COUNTS];
+    unsigned refusal = desk_decide(text, text_length, table, table_length, BAG, REQUEST).refusal;
+    int same_refusal = desk_sheet(text, text_length, table, table_length, QUESTION, REQUEST, 0, sheet, sizeof sheet, 0).refusal == refusal && desk_tally(text, text_length, table, table_length, QUESTION, 1, LENT(GOOD), counts) == refusal;
+    return same_refusal && desk_begins(text, text_length, table, table_length) == (refusal == 0) ? refusal : 99;
+}
+
+// A table of each version, cut to its used bytes, is good. Kinds 29 and 36 begin one; any other first byte, one between the versions and one past them too, gets 20, and so does a table
+// whose policies record different versions.
+static void tables(void) {
+    static const char two[] = "permit(principal,action,resource);forbid(principal is tool,action,resource)when{!(env.a==1)};";
+    static uint8_t first[DESK_TABLE_FOR_A_BYTE * sizeof two], second[DESK_TABLE_FOR_A_BYTE * sizeof two];
+    DeskCompiled c = desk_compile(TEXT, second, sizeof second, SECOND);
+    CHECK(c.refusal == 0 && c.policies == 1 && c.bytes == 20 && with_table(TEXT, second, c.bytes) == 0 && with_table(TEXT, second, c.bytes - 1) == DESK_REFUSED_OTHER_TABLE);
+    CHECK(second[0] == 36 && with_table(TEXT, second, 0) == DESK_REFUSED_OTHER_TABLE);
+    for (unsigned kind = 0; kind < 256; kind++) {
+        second[0] = (uint8_t)kind;
+        CHECK(with_table(TEXT, second, c.bytes) == (kind == 29 || kind == 36 ? 0 : DESK_REFUSED_OTHER_TABLE));
+    }
+    c = desk_compile(LENT(two), first, sizeof first, FIRST);
+    CHECK(c.refusal == 0 && desk_compile(LENT(two), second, sizeof second, SECOND).bytes == c.bytes);
+    CHECK(with_table(LENT(two), first, c.bytes) == 0 && with_table(LENT(two), second, c.bytes) == 0);
+    CHECK(first[0] == 29 && second[0] == 36 && first[20] == 30 && second[20] == 37);
+    for (size_t i = 0; i < c.bytes; i++) CHECK(second[i] == first[i] + (i == 0 || i == 20 ? 7 : 0));
+    first[0] = 36, second[0] = 29;
+    CHECK(with_table(LENT(two), first, c.bytes) == DESK_REFUSED_OTHER_TABLE && with_table(LENT(two), second, c.bytes) == DESK_REFUSED_OTHER_TABLE);
+    // a text without policies has no version: any table will do
+    CHECK(with_table(LENT(" "), first, c.bytes) == 0 && with_table(LENT(" "), second, c.bytes) == 0 && with_table(LENT(" "), NONE) == 0);
+}
+
 static void nulls(void) {
-    CHECK(compiled(desk_compile(NONE, NONE), 0, 0, 0, 0));
+    CHECK(compiled(desk_compile(NONE, NONE, FIRST), 0, 0, 0, 0));
+    CHECK(compiled(desk_compile(NONE, NONE, SECOND), 0, 0, 0, 0));
     CHECK(desk_begins(NONE, NONE));
     CHECK(decided(desk_decide(NONE, NONE, NONE, NONE, NONE, NONE), DESK_REFUSED_SUBJECT, 0));
     CHECK(decided(desk_decide(NONE, NONE, NONE, LENT("system"), NONE, NONE), 0, 4));
@@ -152,7 +204,12 @@ int main(void) {
     memcpy(copy, lent, sizeof lent);
     memset(numbers, 0xAA, sizeof numbers);
     memcpy(same, numbers, sizeof numbers);
+    static const uint64_t none[] = {0, 3, 257, ((uint64_t)1 << 32) + 1, ((uint64_t)1 << 32) + 2, (uint64_t)1 << 63, UINT64_MAX};
+    texts(FIRST);
+    texts(SECOND);
+    for (size_t i = 0; i < sizeof none / sizeof *none; i++) no_version(none[i]);
     refusals();
+    tables();
     tallies();
     locks();
     nulls();

@@ -1,4 +1,4 @@
-// Holds the examples of docs/RULES.md and docs/BAGS.md to the proved desk. Standard input has a line for each, its parts divided by tabs, as docs/rules.sh takes them from the pages.
+// Holds the examples of docs/RULES.md and docs/BAGS.md to the proved desk, and what document 02 says of version 2. Standard input has a line for each example, its parts divided by tabs, as docs/rules.sh takes them from the pages.
 // Prints how many there were; one that is answered otherwise is printed and ends it with status 1, and so does a refusal of a text that no example has.
 #include "desk_more.h"
 #include <stdio.h>
@@ -62,27 +62,60 @@ static bool set_attribute(char *line) {
 
 // ---- texts
 
-static DeskDecision decided(const char *text) {
-    DeskCompiled c = desk_compile(TEXT, table, sizeof table);
+static DeskDecision decided(uint64_t version, const char *text) {
+    DeskCompiled c = desk_compile(TEXT, table, sizeof table, version);
     DeskDecision none = {c.refusal, 0, 0, 0};
     return c.refusal != 0 ? none : desk_decide(TEXT, table, c.bytes, bag.bytes, bag.length, REQUEST);
 }
 
-// The same of the one policy with this condition.
-static unsigned outcome_under(const char *condition) {
+// Whether the one policy with this condition is satisfied, the condition between these words.
+static bool is_satisfied(uint64_t version, const char *before, const char *condition, const char *behind) {
     static char text[LONGEST];
-    snprintf(text, sizeof text, "permit(principal,action,resource)when{%s};", condition);
-    return decided(text).outcome;
+    snprintf(text, sizeof text, "permit(principal,action,resource)when{%s%s%s};", before, condition, behind);
+    return decided(version, text).outcome == DESK_ALLOWED;
 }
 
-static bool decides(const char *outcome, size_t policy, const char *text) {
-    DeskDecision d = decided(text);
+// A condition is true, or it is false, which ! makes true, or its policy is unsatisfied both ways.
+static bool is_so(const char *what, uint64_t version, const char *condition) {
+    bool is = is_satisfied(version, "", condition, ""), is_not = is_satisfied(version, "!(", condition, ")");
+    if (strcmp(what, "true") == 0) return is && !is_not;
+    if (strcmp(what, "false") == 0) return !is && is_not;
+    return strcmp(what, "unsatisfied") == 0 && !is && !is_not;
+}
+
+// What document 02 says of the two versions: case I, the parts that are not met, those that are met first, and what is no absence. No page sets principal.unknown.
+static void cases(void) {
+    static const struct {
+        const char *condition, *first, *second;
+    } all[] = {
+        {"principal.unknown != \"x\"", "false", "unsatisfied"},
+        {"!(principal.unknown != \"x\")", "true", "unsatisfied"},
+        {"false && principal.unknown == 1", "false", "false"},
+        {"true || principal.unknown == 1", "true", "true"},
+        {"if true then true else principal.unknown == 1", "true", "true"},
+        {"if false then principal.unknown == 1 else true", "true", "true"},
+        {"principal.unknown == 1 && false", "false", "unsatisfied"},
+        {"principal.unknown == 1 || true", "true", "unsatisfied"},
+        {"if principal.unknown == 1 then true else true", "true", "unsatisfied"},
+        {"true && !!(1 in principal.unknown)", "false", "unsatisfied"},
+        {"principal has unknown", "false", "false"},
+        {"1 == \"1\"", "false", "false"},
+        {"action.name != \"teach\"", "false", "false"},
+    };
+    for (size_t i = 0; i < sizeof all / sizeof *all; i++) {
+        check(is_so(all[i].first, DESK_RULES_VERSION_1, all[i].condition), all[i].condition);
+        check(is_so(all[i].second, DESK_RULES_VERSION_2, all[i].condition), all[i].condition);
+    }
+}
+
+static bool decides(uint64_t version, const char *outcome, size_t policy, const char *text) {
+    DeskDecision d = decided(version, text);
     unsigned wanted = strcmp(outcome, "allowed") == 0 ? DESK_ALLOWED : strcmp(outcome, "forbidden") == 0 ? DESK_FORBIDDEN : DESK_NOTHING_SATISFIED;
     return d.refusal == 0 && d.outcome == wanted && d.policy == policy;
 }
 
-static bool refused(unsigned refusal, const char *place, const char *text) {
-    DeskCompiled c = desk_compile(TEXT, table, sizeof table);
+static bool refused(uint64_t version, unsigned refusal, const char *place, const char *text) {
+    DeskCompiled c = desk_compile(TEXT, table, sizeof table, version);
     char *rest;
     size_t line = strtoul(place, &rest, 10), column = strtoul(rest + 1, &rest, 10), bytes_refused = strtoul(rest + 1, NULL, 10);
     if (refusal < 32) seen[refusal] = true;
@@ -120,19 +153,20 @@ static bool looked_up(char **part) {
 
 // ---- lines
 
+// The lines about rules have their version as the second part.
 static bool holds(char **part, int parts) {
     const char *what = part[0];
+    uint64_t version = parts > 1 ? strtoull(part[1], NULL, 10) : 0;
     if (parts == 2 && strcmp(what, "set") == 0) return set_attribute(part[1]);
-    if (parts == 2 && strcmp(what, "true") == 0) return outcome_under(part[1]) == DESK_ALLOWED;
-    if (parts == 2 && strcmp(what, "false") == 0) return outcome_under(part[1]) == DESK_NOTHING_SATISFIED;
-    if (parts == 2 && strcmp(what, "accepted") == 0) return decided(part[1]).refusal == 0;
     if (parts == 2 && strcmp(what, "bag") == 0) return read_bytes(part[1]) && is_bag();
     if (parts == 2 && strcmp(what, "question") == 0) return read_bytes(part[1]) && is_question();
     if (parts == 2 && strcmp(what, "no bag") == 0) return read_bytes(part[1]) && !is_bag();
     if (parts == 2 && strcmp(what, "no question") == 0) return read_bytes(part[1]) && !is_question();
     if (parts == 2 && strcmp(what, "rows") == 0) return desk_rows(bytes, length) == strtoul(part[1], NULL, 10);
-    if (parts == 4 && strcmp(what, "decided") == 0) return decides(part[1], strtoul(part[2], NULL, 10), part[3]);
-    if (parts == 4 && strcmp(what, "refused") == 0) return refused((unsigned)strtoul(part[1], NULL, 10), part[2], part[3]);
+    if (parts == 3 && strcmp(what, "accepted") == 0) return decided(version, part[2]).refusal == 0;
+    if (parts == 3) return is_so(what, version, part[2]);
+    if (parts == 5 && strcmp(what, "decided") == 0) return decides(version, part[2], strtoul(part[3], NULL, 10), part[4]);
+    if (parts == 5 && strcmp(what, "refused") == 0) return refused(version, (unsigned)strtoul(part[2], NULL, 10), part[3], part[4]);
     if (parts == 7 && strcmp(what, "look") == 0) return looked_up(part);
     return false;
 }
@@ -151,8 +185,10 @@ int main(void) {
     static char line[LONGEST];
     desk_bag_begin(&bag, attributes, sizeof attributes);
     while (fgets(line, sizeof line, stdin) != NULL) ask(line);
+    cases();
     for (unsigned r = DESK_REFUSED_LONG_TEXT; r <= DESK_REFUSED_NOT_UTF8; r++)
         if (r != DESK_REFUSED_SMALL_TABLE && !seen[r]) check(false, "a refusal of texts without an example");
+    if (!seen[DESK_REFUSED_VERSION]) check(false, "a refusal of versions without an example");
     printf("%d examples, %d failed\n", asked, failed);
     return failed != 0 || asked < 100;
 }

@@ -1,4 +1,4 @@
-// Each constant of desk.h held to the desk: a size passes at its number and not one above, an outcome, a root and a kind are answered where they must be. Prints how many checks were
+// Each constant of desk.h held to the desk: a size passes at its number and not one above, under each version, an outcome, a root and a kind are answered where they must be. Prints how many checks were
 // made; a check that fails is printed and ends it with status 1. (The refusals by their names are refused.c's; what stands in texts, embed/rules.c has.)
 #include "desk.h"
 #include <stdio.h>
@@ -33,7 +33,11 @@ static void times(size_t n, const char *s) {
 
 // ---- texts
 
-static unsigned compiled(void) { return desk_compile(built, length, table, sizeof table).refusal; }
+// Under both versions alike; 99 where they differ.
+static unsigned compiled(void) {
+    unsigned second = desk_compile(built, length, table, sizeof table, DESK_RULES_VERSION_2).refusal;
+    return desk_compile(built, length, table, sizeof table, DESK_RULES_VERSION_1).refusal == second ? second : 99;
+}
 
 // The refusal of the policy whose condition is `before`, n times `part`, and `after`.
 static unsigned condition(const char *before, size_t n, const char *part, const char *after) {
@@ -65,8 +69,11 @@ static unsigned repeated(size_t n, const char *part) {
 static void texts(void) {
     CHECK(repeated(DESK_MOST_TEXT, " ") == 0);
     CHECK(repeated(DESK_MOST_TEXT + 1, " ") == DESK_REFUSED_LONG_TEXT);
-    CHECK(desk_compile(LENT(P ";"), table, DESK_TABLE_FOR_A_BYTE * 34).refusal == 0);
-    CHECK(desk_compile(LENT(P ";"), table, DESK_TABLE_FOR_A_BYTE * 34 - 1).refusal == DESK_REFUSED_SMALL_TABLE);
+    for (uint64_t version = DESK_RULES_VERSION_1 - 1; version <= DESK_RULES_VERSION_2 + 1; version++) {
+        int is = version == DESK_RULES_VERSION_1 || version == DESK_RULES_VERSION_2;
+        CHECK(desk_compile(LENT(P ";"), table, DESK_TABLE_FOR_A_BYTE * 34, version).refusal == (is ? 0 : DESK_REFUSED_VERSION));
+        CHECK(desk_compile(LENT(P ";"), table, DESK_TABLE_FOR_A_BYTE * 34 - 1, version).refusal == (is ? DESK_REFUSED_SMALL_TABLE : DESK_REFUSED_VERSION));
+    }
     CHECK(repeated(DESK_MOST_POLICIES, P ";") == 0);
     CHECK(repeated(DESK_MOST_POLICIES + 1, P ";") == DESK_REFUSED_MANY_POLICIES);
     CHECK(condition("principal.", DESK_MOST_WORD, "a", "==1") == 0);
@@ -166,7 +173,7 @@ static void bags(void) {
 // ---- requests, outcomes, roots, kinds
 
 static DeskDecision decided(const char *text, const char *subject) {
-    size_t used = desk_compile((const uint8_t *)text, strlen(text), table, sizeof table).bytes;
+    size_t used = desk_compile((const uint8_t *)text, strlen(text), table, sizeof table, DESK_RULES_VERSION_1).bytes;
     return desk_decide((const uint8_t *)text, strlen(text), table, used, LENT("\0\0\0"), (const uint8_t *)subject, strlen(subject), LENT("teach"), LENT("shaft:A"));
 }
 

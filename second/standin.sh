@@ -7,5 +7,5 @@ second="${CARGO_TARGET_DIR:-$folder/target}/release/second"
 case $1 in
     sheet) exec "$second" sheet . ;;
     caretaker) exec "$second" caretaker . ;;
-    *) exec "$second" ask "$2" . ;;
+    *) exec "$second" ask "$2" . ${3+"$3"} ;;
 esac

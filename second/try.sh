@@ -85,7 +85,7 @@ tried 0 '' cmp "$work/tally" "$root/examples/crew/shift/tally.txt"
 tried 0 '' cmp "$work/counts" "$root/examples/crew/shift/counts.txt"
 
 # Which other policies applied: every example's table as it is stored, with the column also, or the line that says there is none.
-for folder in worked crew crew/night crew/records; do
+for folder in worked crew crew/night crew/records south versions; do
     "$desk" sheet "$root/examples/$folder" --table >"$work/table" 2>/dev/null || true
     tried 0 '' cmp "$work/table" "$root/examples/$folder/table.txt"
 done
@@ -109,6 +109,88 @@ for forbid in 1 64; do
     tried 0 'rows 1 allowed 0' "$desk" sheet "$work/f"
     tried 0 "Forbidden by policy $forbid in line 1" "$desk" decide "$work/f"
     tried 0 "Satisfied too, but not deciding: policy $((65 - forbid)) in line 1 (permit)." "$desk" explain "$work/f"
+done
+
+# Both versions of the rules: the same question under each, which holes version 2 closes, and which rows it opens, told loudly.
+versions=$root/examples/versions
+"$desk" sheet "$versions" >"$work/sheet" 2>/dev/null || true
+tried 0 '' cmp "$work/sheet" "$versions/expected.txt"
+"$desk" sheet "$versions" --version 1 >"$work/sheet" 2>/dev/null || true
+tried 0 '' cmp "$work/sheet" "$versions/expected.txt"
+"$desk" sheet "$versions" --version 2 >"$work/sheet" 2>/dev/null || true
+tried 0 '' cmp "$work/sheet" "$versions/expected2.txt"
+"$desk" sheet "$versions" --version 2 --table >"$work/table" 2>/dev/null || true
+tried 0 '' cmp "$work/table" "$versions/table2.txt"
+SOURCE_DATE_EPOCH=1794700800 "$desk" sheet "$versions" --html "$work/page.html" >/dev/null 2>&1 || true
+tried 0 '' cmp "$work/page.html" "$versions/page.html"
+tried 0 'desk: these lines are under version 2' "$desk" sheet "$versions" --version 2
+tried 0 'Version 2 closes 2 of these 3 holes: rows 3, 5.' "$desk" sheet "$versions" --table
+tried 0 '!!! VERSION 2 OPENS 2 ROWS that version 1 forbids' "$desk" sheet "$versions" --table
+tried 0 'under version 2 it meets env.occupied,     which is absent, and is unsatisfied' "$desk" sheet "$versions" --table
+tried 0 'principal.until = 20600; version 2 closes 1 of them' "$desk" sheet "$versions" --table
+tried 0 '<div class="opened"><p><b>!!! VERSION 2 OPENS 2 ROWS' "$desk" sheet "$versions" --html /dev/stdout
+tried 0 '<b>Under version 2 of the rules.</b>' "$desk" sheet "$versions" --version 2 --html /dev/stdout
+tried 0 'forbidden      YES' "$desk" sheet "$versions" --table --forbidden
+tried 0 'Version 2 does not close this hole.' "$desk" sheet "$root/examples/worked" --table
+tried 0 'VERSION 2 OPENS 3 ROWS' "$desk" sheet "$root/examples/crew/records" --table
+tried 0 'outcome 1 4 outcome 2 21 outcome 3 2 ' "$desk" tally "$versions" --lines
+tried 0 'outcome 1 4 outcome 2 15 outcome 3 8 ' "$desk" tally "$versions" --lines --version 2
+tried 0 'Under version 2 of the rules.' "$desk" tally "$versions" --version 2
+tried 0 '2 opened, 2 closed, 0 decided by another policy, 23 as before' "$desk" diff "$versions/policy.txt" "$versions/policy.txt" "$versions" --versions 1 2
+tried 0 'under version 2 policy 2 meets env.occupied, which is absent, and is unsatisfied' "$desk" diff "$versions/policy.txt" "$versions/policy.txt" "$versions" --versions 1 2
+tried 0 '0 opened, 0 closed, 0 decided by another policy, 27 as before' "$desk" diff "$versions/both.txt" "$versions/both.txt" "$versions" --versions 1 2
+tried 0 '0 opened, 3 closed, 1 decided by another policy' "$desk" diff "$versions/policy.txt" "$versions/both.txt" "$versions" --version 2
+tried 0 'Forbidden by policy 2 in line 3' "$desk" explain "$versions" --row 9
+tried 0 'env.occupied is absent, and it is met: under version 2 that makes the whole policy unsatisfied' "$desk" explain "$versions" --row 9 --version 2
+tried 0 'Allowed by policy 1 in line 1' "$desk" explain "$versions" --row 9 --version 2
+tried 0 '7 tests, 0 failed' "$desk" test "$versions/tests.txt" --rules "$versions/both.txt"
+tried 0 '7 tests under version 2, 0 failed' "$desk" test "$versions/tests.txt" --rules "$versions/both.txt" --version 2
+tried 0 '11 tests under version 2, 0 failed' "$desk" test "$root/examples/lock/tests.txt" --rules "$root/examples/lock/permits.txt" --version 2
+tried 0 'policy.txt under version 2: 32 policies, 17 permits and 15 forbids' "$desk" check "$root/examples/crew" --version 2
+# Case I under version 2: unsatisfied both ways. What is not met does nothing, and has may meet what is absent.
+while IFS='~' read -r condition one two; do
+    asked "$any when { $condition };" "${request}column principal.a = absent"
+    tried 0 "rows 1 $one" "$desk" sheet "$work/f"
+    tried 0 "rows 1 $two" "$desk" sheet "$work/f" --version 2
+done <<'CASES'
+principal.a != "x"~allowed 0~allowed 0
+!(principal.a != "x")~0 1 1 1 allowed 1~allowed 0
+true || principal.a == 1~0 1 1 1 allowed 1~0 1 1 1 allowed 1
+principal.a == 1 || true~0 1 1 1 allowed 1~allowed 0
+!(false && principal.a == 1)~0 1 1 1 allowed 1~0 1 1 1 allowed 1
+!(principal.a == 1 && false)~0 1 1 1 allowed 1~allowed 0
+if true then true else principal.a == 1~0 1 1 1 allowed 1~0 1 1 1 allowed 1
+if principal.a == 1 then false else true~0 1 1 1 allowed 1~allowed 0
+!(principal has a)~0 1 1 1 allowed 1~0 1 1 1 allowed 1
+!(1 in principal.a)~0 1 1 1 allowed 1~allowed 0
+!(action.name == 1)~0 1 1 1 allowed 1~0 1 1 1 allowed 1
+CASES
+# A version that is none is refused before all else; ask reads one digit, and any other word is none.
+for version in 0 3 257 18446744073709551615; do
+    tried 1 "Refused, number 30. There is no version $version of the rules: there are versions 1 and 2." "$desk" check "$versions" --version "$version"
+    tried 1 'refused 30 0 0 0' "$desk" sheet "$versions" --version "$version"
+    tried 1 'Refused, number 30.' "$desk" tally "$versions" --version "$version"
+    tried 1 'Refused, number 30.' "$desk" explain "$versions" --row 0 --version "$version"
+    tried 1 'Refused, number 30.' "$desk" test "$versions/tests.txt" --version "$version"
+    tried 1 'Refused, number 30.' "$desk" diff "$versions/policy.txt" "$versions/policy.txt" "$versions" --versions 1 "$version"
+done
+tried 1 'Refused, number 30.' "$desk" decide "$root/examples/worked/k7.txt" --version 3
+printf '%8193s' '' >"$work/long.txt"
+tried 1 'Refused, number 30.' "$desk" check "$work/long.txt" --version 3
+tried 1 'Refused, number 1.' "$desk" check "$work/long.txt" --version 2
+tried 2 '--version needs the number of a version, 1 or 2' "$desk" sheet "$versions" --version two
+tried 2 '--versions needs two numbers' "$desk" diff "$versions/policy.txt" "$versions/policy.txt" "$versions" --versions 1
+tried 2 'unknown option --version' "$desk" lock "$root/examples/lock" --version 2
+for word in check decide tally sheet; do
+    for version in 0 3 9 02 22 x ''; do
+        tried 0 'refused 30 0 0 0' env -C "$versions" "$DESK_PROVED" ask "$word" "$version"
+    done
+done
+tried 0 'compiled 3 ' env -C "$versions" "$DESK_PROVED" ask check 1
+tried 0 'compiled 3 ' env -C "$versions" "$DESK_PROVED" ask check 2
+for version in 1 2; do
+    env -C "$versions" "$DESK_PROVED" ask sheet "$version" >"$work/sheet" 2>/dev/null || true
+    tried 0 '' cmp "$work/sheet" "$versions/expected${version/1/}.txt"
 done
 
 # The words of the command.

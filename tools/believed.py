@@ -16,7 +16,7 @@ import sys
 
 # what the calls answer and leave: the contracts' own definitions, of which the page says what they are, so that they need not be read
 SAID = ["compileSays", "compileLeaves", "beginsSays", "decideSays", "lookupSays", "stringSays", "sheetSays", "sheetLeaves", "tallySays", "tallyLeaves", "rowsSay", "lockSays", "lockLeaves"]
-ROOTS = ["DemandOne", "DemandTwo", "DemandThree", "TheTallies", "LookUps", "Refusals", "Locks", "OneResult"]
+ROOTS = ["DemandOne", "DemandTwo", "Versions", "DemandThree", "TheTallies", "LookUps", "Refusals", "Locks", "OneResult"]
 os.chdir(os.path.join(os.path.dirname(os.path.abspath(__file__)), ".."))
 NAME = r"[^\s(){},.;λ→×⊎↔¬\"]+"
 

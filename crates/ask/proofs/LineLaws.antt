@@ -8,9 +8,9 @@ use borrow.Author.Tests.{eq-eqb, ne-eqb}
 use lib.ListN.{length, take, drop, length-drop}
 use Rattle.folder.specs.Added.{Added}
 use Rattle.folder.specs.Decimals.{numbersLine, refusedLine}
-use Rattle.folder.specs.declared.cases.CasePart.{CasePart}
-use Rattle.folder.specs.Cases.{Case, caseOf, pastCase, casesOf, PartAt}
-use Rattle.folder.proofs.CaseLaws.{first-case, no-case, cutOut, case-cut, case-past}
+use Rattle.cases.specs.declared.CasePart.{CasePart}
+use Rattle.cases.specs.Cases.{Case, caseOf, pastCase, casesOf, PartAt}
+use Rattle.cases.proofs.CaseLaws.{first-case, no-case, cutOut, case-cut, case-past}
 use Rattle.targets.specs.Matching.{request}
 use Rattle.desk.specs.Answers.{compileSays, compileLeaves, decideSays, beginsSays}
 use Rattle.desk.specs.Promises.{CompileAllows}
@@ -90,13 +90,13 @@ all-answered s {answered} {next} e h = omega (arith, e, ap length (no-case (drop
 -- ---- a text
 
 -- the table into which a text was compiled begins right
-pub begun : {text table after : List ℕ} {c : DeskCompiled} → CompileAllows text table after c → c .refusal ≤ 0 → beginsSays text after ≡ true
-begun {text} {table} p h = rw (p .table) (demand-two .compiled-begins text table (omega (arith, ap (λ (x : DeskCompiled). x .refusal) (p .answered))))
+pub begun : {version : ℕ} {text table after : List ℕ} {c : DeskCompiled} → CompileAllows version text table after c → c .refusal ≤ 0 → beginsSays text after ≡ true
+begun {version} {text} {table} p h = rw (p .table) (demand-two .compiled-begins version text table (omega (arith, ap (λ (x : DeskCompiled). x .refusal) (p .answered))))
 
-pub refused-answered : (s : List ℕ) {text table after : List ℕ} {c : DeskCompiled} → CompileAllows text table after c → 0 < c .refusal → 0 ≡ answeredFor text table s
+pub refused-answered : (s : List ℕ) {version : ℕ} {text table after : List ℕ} {c : DeskCompiled} → CompileAllows version text table after c → 0 < c .refusal → 0 ≡ answeredFor version text table s
 unfolding answeredFor
-refused-answered s {text} {table} p h = rw (ne-eqb (compileSays text table .refusal) 0 (λ e. omega (arith, ap (λ (x : DeskCompiled). x .refusal) (p .answered)))) refl
+refused-answered s {version} {text} {table} p h = rw (ne-eqb (compileSays version text table .refusal) 0 (λ e. omega (arith, ap (λ (x : DeskCompiled). x .refusal) (p .answered)))) refl
 
-pub cases-answered : (s : List ℕ) {text table after : List ℕ} {c : DeskCompiled} {n : ℕ} → CompileAllows text table after c → c .refusal ≤ 0 → n ≡ casesFrom s 0 → n ≡ answeredFor text table s
+pub cases-answered : (s : List ℕ) {version : ℕ} {text table after : List ℕ} {c : DeskCompiled} {n : ℕ} → CompileAllows version text table after c → c .refusal ≤ 0 → n ≡ casesFrom s 0 → n ≡ answeredFor version text table s
 unfolding answeredFor
-cases-answered s {text} {table} p h e = rw (eq-eqb (compileSays text table .refusal) 0 (omega (arith, ap (λ (x : DeskCompiled). x .refusal) (p .answered)))) e
+cases-answered s {version} {text} {table} p h e = rw (eq-eqb (compileSays version text table .refusal) 0 (omega (arith, ap (λ (x : DeskCompiled). x .refusal) (p .answered)))) e

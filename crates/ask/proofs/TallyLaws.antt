@@ -4,65 +4,46 @@ use mathlib.Core.Bool.{Bool, true, false}
 use mathlib.Core.List.{List, [], _∷_}
 use Prim.Native.Nat.{ℕ, _+_, _-_, _≤_, _<_}
 use native.Mathlib.Omega.{arith}
-use borrow.Author.Tests.{eq-eqb, ne-eqb, ltb-true, ltb-false}
-use lib.Dec.{ltb}
+use borrow.Author.Tests.{eq-eqb, ne-eqb}
 use lib.ListN.{length, getD, take, drop, length-drop}
 use lib.Seq.{take-all}
-use Rattle.compiling.specs.Outcome.{roomFor}
-use Rattle.tokens.specs.Sizes.{mostTextBytes}
 use Rattle.tallies.specs.Promise.{TallyCall, TallyRefused, no-request, too-many, no-question, by-request}
 use Rattle.desk.specs.Answers.{compileSays, compileLeaves, tallySays}
 use Rattle.desk.specs.Promises.{CompileAllows}
 use Rattle.desk.specs.declared.DeskCompiled.{DeskCompiled}
 use Rattle.desk.proofs.Promised.{demand-two, refusals}
-use Rattle.desk.proofs.Grounded.{grounds}
 use Rattle.ask.specs.Lines.{manyIn, countedFor}
 
--- ---- a text that compiles has at most 64 policies
+-- ---- a text that compiles
 
-module _ (text table : List ℕ) (h : compileSays text table .refusal ≡ 0) where
-  -- else its refusal would be 1 or 2
-  room-enough : roomFor text ≤ length table
-  room-enough = go (ltb mostTextBytes (length text)) refl (ltb (length table) (roomFor text)) refl
-    where
-      go : (a : Bool) → ltb mostTextBytes (length text) ≡ a → (b : Bool) → ltb (length table) (roomFor text) ≡ b → roomFor text ≤ length table
-      go true x b y = let e = refusals .too-long text table .1 (ltb-true _ _ x) in absurd (omega (arith, e, h))
-      go false x true y = let e = refusals .no-room text table .1 (ltb-false _ _ x, ltb-true _ _ y) in absurd (omega (arith, e, h))
-      go false x false y = ltb-false _ _ y
-
-  few-policies : compileSays text table .policies ≤ 64
-  few-policies =
-      let b = demand-two .accepted-exactly text table room-enough .0 h in
-      let few = grounds .policies-placed text (b .policies) (b .says) .few in
-      omega (arith, demand-two .compiled text table (b .policies) h (b .says) .0)
-
-module _ {text table after : List ℕ} {c : DeskCompiled} (p : CompileAllows text table after c) where
+module _ {version : ℕ} {text table after : List ℕ} {c : DeskCompiled} (p : CompileAllows version text table after c) where
   -- the answer's refusal is the one of the definition
-  as-said : c .refusal ≡ compileSays text table .refusal
+  as-said : c .refusal ≡ compileSays version text table .refusal
   as-said = ap (λ (x : DeskCompiled). x .refusal) (p .answered)
 
-  pub policies-few : c .refusal ≤ 0 → c .policies ≤ 64
-  policies-few h = rw (p .answered) (few-policies text table (omega (arith, as-said)))
+  -- it has at most 64 policies
+  pub policies-few : c .policies ≤ 64
+  policies-few = rw (p .answered) (demand-two .policies-few version text table)
 
   -- ---- what is printed
 
-  pub refused-counted : (question s : List ℕ) → 0 < c .refusal → c .refusal ≡ countedFor text table question s
+  pub refused-counted : (question s : List ℕ) → 0 < c .refusal → c .refusal ≡ countedFor version text table question s
   unfolding countedFor
-  refused-counted question s h = rw (ne-eqb (compileSays text table .refusal) 0 (λ e. omega (arith, as-said))) as-said
+  refused-counted question s h = rw (ne-eqb (compileSays version text table .refusal) 0 (λ e. omega (arith, as-said))) as-said
 
   tally-counted : (question s requests : List ℕ) (many : ℕ) {n : ℕ} → c .refusal ≤ 0 → many ≡ manyIn s → requests ≡ drop 1 s
-      → n ≡ tallySays text after question many requests → n ≡ countedFor text table question s
+      → n ≡ tallySays text after question many requests → n ≡ countedFor version text table question s
   unfolding countedFor
-  tally-counted question s requests many h m r e = rw (eq-eqb (compileSays text table .refusal) 0 (omega (arith, as-said))) (rw (m, r, p .table) at e)
+  tally-counted question s requests many h m r e = rw (eq-eqb (compileSays version text table .refusal) 0 (omega (arith, as-said))) (rw (m, r, p .table) at e)
 
   -- no bytes: no request
-  pub none-counted : (question s : List ℕ) {n : ℕ} → c .refusal ≤ 0 → length s < 1 → n ≡ tallySays text after question 0 s → n ≡ countedFor text table question s
+  pub none-counted : (question s : List ℕ) {n : ℕ} → c .refusal ≤ 0 → length s < 1 → n ≡ tallySays text after question 0 s → n ≡ countedFor version text table question s
   none-counted question [] h l e = tally-counted question [] [] 0 h refl refl e
   none-counted question (b ∷ s) h l e = absurd (omega arith)
 
   -- the requests stand behind their number
   pub some-counted : (question s : List ℕ) (many : ℕ) {n : ℕ} → c .refusal ≤ 0 → many ≡ manyIn s
-      → n ≡ tallySays text after question many (take (length s - 1) (drop 1 s)) → n ≡ countedFor text table question s
+      → n ≡ tallySays text after question many (take (length s - 1) (drop 1 s)) → n ≡ countedFor version text table question s
   some-counted question s many h m e =
       tally-counted question s (take (length s - 1) (drop 1 s)) many h m (take-all (length s - 1) (drop 1 s) (omega (arith, length-drop 1 s))) e
 

@@ -8,7 +8,7 @@ use lib.Dec.{eqb}
 use lib.ListN.{length, getD, take, drop}
 use Rattle.targets.specs.Matching.{request}
 use Rattle.folder.specs.Added.{Added}
-use Rattle.folder.specs.Cases.{Case, caseOf, pastCase, casesOf}
+use Rattle.cases.specs.Cases.{Case, caseOf, pastCase, casesOf}
 use Rattle.folder.specs.Decimals.{numbersLine, refusedLine}
 use Rattle.desk.specs.Answers.{compileSays, compileLeaves, decideSays, tallySays}
 use Rattle.desk.specs.declared.DeskCompiled.{DeskCompiled}
@@ -65,15 +65,20 @@ pub record CasesAnswered (text table s : List ℕ) (at : ℕ) (new : List ℕ) (
   pub inside : step .filled ≤ length new
   pub few : at + answered ≤ step .next
 
+-- the number that a word says, 1 or 2; 0, which names no version, for any other word
+unfoldable pub versionIn : List ℕ → ℕ
+versionIn s = cond (eqb (length s) 1) (cond (eqb (getD s 0 0) (code "1")) 1 (cond (eqb (getD s 0 0) (code "2")) 2 0)) 0
+
 -- how many cases are answered: all; none where the text is refused
-unfoldable pub answeredFor : List ℕ → List ℕ → List ℕ → ℕ
-answeredFor text table s = cond (eqb (compileSays text table .refusal) 0) (casesFrom s 0) 0
+unfoldable pub answeredFor : ℕ → List ℕ → List ℕ → List ℕ → ℕ
+answeredFor version text table s = cond (eqb (compileSays version text table .refusal) 0) (casesFrom s 0) 0
 
 -- how many requests the bytes of requests.bin have: their first byte says it, and the requests stand behind it
 abbrev pub manyIn : List ℕ → ℕ
 manyIn s = getD s 0 0
 
 -- the refusal's number for a text, a question and the bytes of requests.bin, and 0 where the tally is printed
-unfoldable pub countedFor : List ℕ → List ℕ → List ℕ → List ℕ → ℕ
-countedFor text table question s =
-    cond (eqb (compileSays text table .refusal) 0) (tallySays text (compileLeaves text table) question (manyIn s) (drop 1 s)) (compileSays text table .refusal)
+unfoldable pub countedFor : ℕ → List ℕ → List ℕ → List ℕ → List ℕ → ℕ
+countedFor version text table question s =
+    cond (eqb (compileSays version text table .refusal) 0) (tallySays text (compileLeaves version text table) question (manyIn s) (drop 1 s))
+    (compileSays version text table .refusal)

@@ -1,23 +1,25 @@
-// The ask program, run in a folder with one word. `check`: whether policy.txt compiles. `decide`: what the desk answers to each case of cases.bin. `tally`: what it counts over
-// question.bin for the requests of requests.bin. All it says is what the desk's calls say.
+// The ask program, run in a folder with a word, and a version as a second, 1 where there is none. `check`: whether policy.txt compiles. `decide`: what the desk answers to
+// each case of cases.bin. `tally`: what it counts over question.bin for the requests of requests.bin. `sheet`: what the sheet program prints, under this version. All it says
+// is what the desk's calls say.
 ghost use mathlib.Core.Bool.{true};
 ghost use mathlib.Core.Path.{_≡_};
 ghost use Prim.Native.Nat.{_+_, _≤_, _<_};
 ghost use lib.ListN.{length, take};
 ghost use Rattle.desk.specs.Answers.{compileSays, beginsSays, tallySays};
 ghost use Rattle.folder.specs.Added.{Added};
-ghost use Rattle.ask.specs.Lines.{compiledLine, decidedLine, casesFrom, answeredFor, CaseAnswered, CasesAnswered, countedFor};
+ghost use Rattle.ask.specs.Lines.{versionIn, compiledLine, decidedLine, casesFrom, answeredFor, CaseAnswered, CasesAnswered, countedFor};
+use cases::part_at;
+use cases::wide;
+use counts::put_tally;
 use desk::DeskCompiled;
 use desk::DeskDecision;
-use folder::cases::part_at;
-use folder::cases::wide;
-use folder::counts::put_tally;
 use folder::lines::put_refusal;
 use folder::lines::put_three;
 use folder::lines::put_two;
 use folder::lines::put_word;
 use folder::read_file;
 use libc::STDOUT_FILENO;
+use printing::print_folder;
 
 // Where the next case begins, and how many bytes of the buffer are filled.
 pub struct CaseStep {
@@ -152,10 +154,10 @@ fn print_compiled(c: DeskCompiled) {
 }
 
 // What is printed for a text and cases: how many cases are answered; or only the text's refusal.
-fn print_answers<'a>(text: &'a [u8], table: &mut [u8], cases: &'a [u8]) -> usize
-    ensures { λ r. ⌜ r ≡ answeredFor (now (text .entry)) (now (table .entry)) (now (cases .entry)) ⌝ }
+fn print_answers<'a>(version: u64, text: &'a [u8], table: &mut [u8], cases: &'a [u8]) -> usize
+    ensures { λ r. ⌜ r ≡ answeredFor version (now (text .entry)) (now (table .entry)) (now (cases .entry)) ⌝ }
 {
-    let c = desk::desk_compile(text, table);
+    let c = desk::desk_compile(text, table, version);
     if 0 < c.refusal {
         print_compiled(c);
         return 0;
@@ -203,14 +205,15 @@ fn print_tally<'a>(
 
 // What is printed for a text, a question and requests, which stand behind their number in one byte: the tally; or the refusal's line. Gives the refusal's number.
 fn print_counted<'a>(
+    version: u64,
     text: &'a [u8],
     table: &mut [u8],
     question: &'a [u8],
     requests: &'a [u8],
 ) -> u32
-    ensures { λ r. ⌜ r ≡ countedFor (now (text .entry)) (now (table .entry)) (now (question .entry)) (now (requests .entry)) ⌝ }
+    ensures { λ r. ⌜ r ≡ countedFor version (now (text .entry)) (now (table .entry)) (now (question .entry)) (now (requests .entry)) ⌝ }
 {
-    let c = desk::desk_compile(text, table);
+    let c = desk::desk_compile(text, table, version);
     if 0 < c.refusal {
         print_compiled(c);
         return c.refusal;
@@ -230,15 +233,15 @@ fn print_counted<'a>(
 }
 
 // A file is read with room for one byte more than its limit, so that what is too long is refused and not cut.
-fn check() {
+fn check(version: u64) {
     let mut text = [0u8; 8193];
     let mut table = [0u8; 65544];
     let n = read_file(b"policy.txt", &mut text);
-    print_compiled(desk::desk_compile(&text[..n], &mut table));
+    print_compiled(desk::desk_compile(&text[..n], &mut table, version));
 }
 
 // Cases are read as a whole, up to 131,072 bytes; of more none is answered.
-fn decide() {
+fn decide(version: u64) {
     let mut text = [0u8; 8193];
     let mut table = [0u8; 65544];
     let mut cases = [0u8; 131073];
@@ -248,11 +251,11 @@ fn decide() {
         io::write_all(STDOUT_FILENO, b"cases too long\n");
         return;
     }
-    print_answers(&text[..n], &mut table, &cases[..m]);
+    print_answers(version, &text[..n], &mut table, &cases[..m]);
 }
 
 // Eight requests have 6,145 bytes at most; what lies behind them is not looked at.
-fn tally() {
+fn tally(version: u64) {
     let mut text = [0u8; 8193];
     let mut table = [0u8; 65544];
     let mut question = [0u8; 4097];
@@ -260,20 +263,55 @@ fn tally() {
     let n = read_file(b"policy.txt", &mut text);
     let q = read_file(b"question.bin", &mut question);
     let r = read_file(b"requests.bin", &mut requests);
-    print_counted(&text[..n], &mut table, &question[..q], &requests[..r]);
+    print_counted(
+        version,
+        &text[..n],
+        &mut table,
+        &question[..q],
+        &requests[..r],
+    );
+}
+
+// The number that a word says, 1 or 2; 0, which names no version, for any other word.
+fn version_in(word: &[u8]) -> u64
+    ensures { λ r. ⌜ r ≡ versionIn (now (word .entry)) ⌝ }
+{
+    if word.len() != 1 {
+        return 0;
+    }
+    if word[0] == b'1' {
+        return 1;
+    }
+    if word[0] == b'2' {
+        return 2;
+    }
+    0
+}
+
+// The version that the second word names, and 1 where there is none; a word of more bytes comes as none.
+fn version_asked() -> u64 {
+    if os::arg_count() < 3 {
+        return 1;
+    }
+    let mut word = [0u8; 1];
+    let n = os::arg(2, &mut word);
+    version_in(&word[..n])
 }
 
 fn main() {
     let mut word = [0u8; 8];
     let n = os::arg(1, &mut word);
-    let single = os::arg_count() == 2;
-    if single & slices::same(&word[..n], b"check") {
-        check();
-    } else if single & slices::same(&word[..n], b"decide") {
-        decide();
-    } else if single & slices::same(&word[..n], b"tally") {
-        tally();
+    let few = os::arg_count() < 4;
+    let version = version_asked();
+    if few & slices::same(&word[..n], b"check") {
+        check(version);
+    } else if few & slices::same(&word[..n], b"decide") {
+        decide(version);
+    } else if few & slices::same(&word[..n], b"tally") {
+        tally(version);
+    } else if few & slices::same(&word[..n], b"sheet") {
+        print_folder(version);
     } else {
-        io::write_all(STDOUT_FILENO, b"usage check decide tally\n");
+        io::write_all(STDOUT_FILENO, b"usage check decide tally sheet\n");
     }
 }

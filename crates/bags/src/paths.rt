@@ -9,7 +9,7 @@ use tokens::classes::Sort;
 use tokens::classes::is_of;
 use tokens::runs::run_end;
 use tokens::sizes::MOST_PATH_BYTES;
-use tokens::words::is_reserved;
+use words::is_reserved;
 
 // Whether a run of word bytes is a name.
 fn is_name(classes: &[u8; 256], run: &[u8]) -> bool

@@ -1,4 +1,4 @@
-// Compiles one text again and again, and asks again and again whether its table begins right, so that the instructions can be counted. The input: how often to
+// Compiles one text again and again under version 1, and asks again and again whether its table begins right, so that the instructions can be counted. The input: how often to
 // compile and how often to ask, in 4 bytes each, and the text as one part.
 ghost use Prim.Native.Nat.{_<_};
 use compiling::Compiled;
@@ -28,7 +28,7 @@ fn compile_once(text: &[u8], table: &mut [u8], sum: u64) -> u64
     ensures { λ r. ⌜ r < 1000003 ⌝ }
 {
     stamp(table, sum);
-    let answer = compile(text, table);
+    let answer = compile(1, text, table);
     (sum + used(answer) % 1000003) % 1000003
 }
 

@@ -1,4 +1,4 @@
-// Decides one request again and again, so that the instructions can be counted. The input: how often, in 4 bytes, and as parts the text that is compiled, the text that
+// Decides one request again and again, so that the instructions can be counted. The input: how often, and the version, in 4 bytes each, and as parts the text that is compiled, the text that
 // is lent beside its table (another one gets refusal 20), the bag, the subject, the action and the resource.
 ghost use Prim.Native.Nat.{_<_};
 use compiling::Compiled;
@@ -87,13 +87,14 @@ fn main() {
     let mut action = [0u8; 101];
     let mut resource = [0u8; 101];
     let times = vectors::vector_count();
+    let version = vectors::vector_count();
     let c = vectors::read_part(&mut compiled);
     let n = vectors::read_part(&mut text);
     let b = vectors::read_part(&mut bag);
     let s = vectors::read_part(&mut subject);
     let a = vectors::read_part(&mut action);
     let r = vectors::read_part(&mut resource);
-    compile(&compiled[..c], &mut table);
+    compile(version as u64, &compiled[..c], &mut table);
     let sum = decide_often(
         times,
         &text[..n],

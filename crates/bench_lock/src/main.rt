@@ -1,8 +1,8 @@
 // Writes one lock's permit again and again, so that the instructions can be counted. The input: how often, in 4 bytes, and as parts the vocabulary, the lock, the actions and the resource.
 ghost use lib.ListN.{length};
 ghost use Prim.Native.Nat.{_<_, _≤_};
+use locking::lock;
 use locks::Answer;
-use locks::lock;
 
 // A number for each answer.
 fn told(answer: Answer) -> u64

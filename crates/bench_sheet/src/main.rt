@@ -103,7 +103,7 @@ fn main() {
     let s = vectors::read_part(&mut subject);
     let a = vectors::read_part(&mut action);
     let r = vectors::read_part(&mut resource);
-    compile(&text[..n], &mut table);
+    compile(1, &text[..n], &mut table);
     let sum = ask_often(
         times,
         &text[..n],

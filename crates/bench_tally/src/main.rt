@@ -70,7 +70,7 @@ fn main() {
     let n = vectors::read_part(&mut text);
     let b = vectors::read_part(&mut question);
     let r = vectors::read_part(&mut requests);
-    compile(&text[..n], &mut table);
+    compile(1, &text[..n], &mut table);
     let sum = tally_often(
         times,
         &text[..n],

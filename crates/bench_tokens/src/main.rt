@@ -3,10 +3,10 @@
 ghost use mathlib.Core.Path.{_≡_};
 ghost use Rattle.tokens.specs.Table.{classTable};
 use std::num::wrapping_add_u64;
+use token_reader::next_token;
 use tokens::classes::class_table;
 use tokens::kinds;
 use tokens::reader::Token;
-use tokens::reader::next_token;
 
 // The sum with a token.
 fn plus(sum: u64, t: Token) -> u64 {

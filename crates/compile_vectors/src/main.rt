@@ -44,13 +44,13 @@ fn room(n: usize, low: u8, high: u8) -> usize
     }
 }
 
-// Compiles a text into the table that it is lent.
-fn run(text: &[u8], table: &mut [u8]) {
-    let answer = desk::desk_compile(text, table);
+// Compiles a text into the table that it is lent, under a version.
+fn run(text: &[u8], table: &mut [u8], version: u64) {
+    let answer = desk::desk_compile(text, table, version);
     report(answer, table);
 }
 
-// One vector, which lies unpacked in the memory: a text and the room's shift.
+// One vector, which lies unpacked in the memory: a text, the room's shift and the version.
 fn vector(memory: &[u8], at: usize, table: &mut [u8])
     requires { ⌜ at ≤ length (now memory) ⌝ }
 {
@@ -58,6 +58,8 @@ fn vector(memory: &[u8], at: usize, table: &mut [u8])
     let text_end = packed::part_end(memory, text);
     let shift = packed::part_start(memory, text_end);
     let shift_end = packed::part_end(memory, shift);
+    let version = packed::part_start(memory, shift_end);
+    let version_end = packed::part_end(memory, version);
     let n = text_end - text;
     if shift_end - shift < 2 {
         return;
@@ -67,7 +69,11 @@ fn vector(memory: &[u8], at: usize, table: &mut [u8])
     }
     let r = room(n, memory[shift], memory[shift + 1]);
     if r <= table.len() {
-        run(&memory[text..text_end], &mut table[..r]);
+        run(
+            &memory[text..text_end],
+            &mut table[..r],
+            vectors::number_in(&memory[version..version_end]),
+        );
     }
 }
 

@@ -17,9 +17,10 @@ use Rattle.reading.specs.Reader.{Reader, took, refuse, bind, need, before}
 use Rattle.reading.proofs.Readers.{need-bind}
 use Rattle.grammar.specs.Policies.{Part, Actions, Tree, Policy}
 use Rattle.grammar.specs.Parser.{read-principal, read-action, read-resource, read-when, read-policy}
+use Rattle.grammar.specs.declared.Version.{Version}
 use Rattle.table.specs.declared.Entry.{Entry}
 use Rattle.table.specs.Layout.{held}
-use Rattle.table.specs.Entries.{entry, partEntry, actionEntries, conditionEntries, effectKind, targetEntries, policyEntries}
+use Rattle.table.specs.Entries.{entry, partEntry, principalEntry, actionEntries, conditionEntries, effectKind, targetEntries, policyEntries}
 use Rattle.table.proofs.Holding.{and-true}
 use Rattle.parts.specs.Answers.{Taken, AnswerIs, read, refused, Put, Done, closedOf, EntryPut, expectedOf}
 use Rattle.parts.specs.declared.answers.Answer.{Answer}
@@ -142,14 +143,14 @@ module _ (permits : Bool) where
       unfolding bind
       policy-last e₃ = policy-third ∙ rw e₃
 
-module _ {text seen : List ℕ} {from′ from first free₁ free₂ free₃ : ℕ} {same same₁ same₂ same₃ : Bool} {next₁ next₂ next₃ : Token} {T T₁ T₂ T₃ T₄ T₅ : List ℕ}
-    {p₁ p₃ : reader.Answer Part} {p₂ : reader.Answer Actions} {p₄ : reader.Answer (Option Tree)} {r r₂ : Answer}
-    (k₁ : Taken (λ e p. partEntry p ∷ []) text seen from first same p₁ next₁ free₁ same₁) (w₁ : Put (λ e p. partEntry p ∷ []) first T T₁ p₁)
+module _ (version : Version) {text seen : List ℕ} {from′ from first free₁ free₂ free₃ : ℕ} {same same₁ same₂ same₃ : Bool} {next₁ next₂ next₃ : Token}
+    {T T₁ T₂ T₃ T₄ T₅ : List ℕ} {p₁ p₃ : reader.Answer Part} {p₂ : reader.Answer Actions} {p₄ : reader.Answer (Option Tree)} {r r₂ : Answer}
+    (k₁ : Taken (λ e p. principalEntry version p ∷ []) text seen from first same p₁ next₁ free₁ same₁) (w₁ : Put (λ e p. principalEntry version p ∷ []) first T T₁ p₁)
     (k₂ : Taken (λ e. actionEntries) text seen (next₁ .start) free₁ same₁ p₂ next₂ free₂ same₂) (w₂ : Put (λ e. actionEntries) free₁ T₁ T₂ p₂)
     (k₃ : Taken (λ e p. partEntry p ∷ []) text seen (next₂ .start) free₂ same₂ p₃ next₃ free₃ same₃) (w₃ : Put (λ e p. partEntry p ∷ []) free₂ T₂ T₃ p₃) where
   pub policy-done : (permits : Bool) → from′ + 2 ≤ from → Done conditionEntries text seen (next₃ .start - 1) free₃ same₃ T₃ T₄ p₄ r
       → (r₂ ≡ closedOf seen (λ _. entry (effectKind permits) first free₃) r) × EntryPut T₄ (λ _. entry (effectKind permits) first free₃) r T₅
-      → Done policyEntries text seen from′ first same T T₅ (bind p₄ (λ c. took (policyWith permits (k₁ .value) (k₂ .value) (k₃ .value) c))) r₂
+      → Done (policyEntries version) text seen from′ first same T T₅ (bind p₄ (λ c. took (policyWith permits (k₁ .value) (k₂ .value) (k₃ .value) c))) r₂
   unfolding policyEntries targetEntries
   policy-done permits l d c =
       let x = k₁ .room in let y = k₂ .room in let z = k₃ .room in let past = k₃ .lies .low in

@@ -19,6 +19,7 @@ use Rattle.reading.proofs.Stream.{tokens-from, stream-end, stream-token, next-o
 use Rattle.grammar.specs.Policies.{Policy}
 use Rattle.grammar.specs.Rules.{isEffect}
 use Rattle.grammar.specs.Parser.{noPolicy, mayBegin, read-policy, read-next-policy, atEnd, read-text}
+use Rattle.grammar.specs.declared.Version.{Version}
 use Rattle.grammar.proofs.Steps.{policies-step}
 use Rattle.table.proofs.Counting.{policies-append}
 use Rattle.table.specs.declared.Entry.{Entry}
@@ -34,17 +35,18 @@ abbrev onAndOn : List Policy → Reader (List Policy)
 onAndOn = onwards mayBegin read-next-policy
 
 -- where a policy may begin: `total` is the policies so far and all from there on
-pub record Underway (text seen T₀ T : List ℕ) (total : reader.Answer (List Policy)) (t : Token) (policies free : ℕ) (ok : Bool) : Type 0 where
+pub record Underway (version : Version) (text seen T₀ T : List ℕ) (total : reader.Answer (List Policy)) (t : Token) (policies free : ℕ) (ok : Bool) : Type 0 where
   pub value : List Policy
   pub many : policies ≡ length value
   pub few : policies ≤ mostPolicies
   pub rest : total ≡ bind (onAndOn value (stream text t)) atEnd
-  pub kept : Kept seen T₀ 0 true (policiesEntries 0 value) free ok T
+  pub kept : Kept seen T₀ 0 true (policiesEntries version 0 value) free ok T
   pub lies : Reads text free t
 
-pub at-start : {text seen T : List ℕ} (t : Token) → t ≡ tokenAt text 0 → Reads text 0 t → Underway text seen T T (read-text (tokensOf text)) t 0 0 true
+pub at-start : {version : Version} {text seen T : List ℕ} (t : Token) → t ≡ tokenAt text 0 → Reads text 0 t
+    → Underway version text seen T T (read-text (tokensOf text)) t 0 0 true
 unfolding read-text policiesEntries
-at-start {text} {seen} {T} t q r = record {
+at-start {text = text} {seen} {T} t q r = record {
   value = [];
   many = refl;
   few = omega arith;
@@ -53,7 +55,8 @@ at-start {text} {seen} {T} t q r = record {
   lies = r;
 }
 
-module _ {text seen T₀ T : List ℕ} {total : reader.Answer (List Policy)} {t : Token} {policies free : ℕ} {ok : Bool} (b : Underway text seen T₀ T total t policies free ok) where
+module _ {version : Version} {text seen T₀ T : List ℕ} {total : reader.Answer (List Policy)} {t : Token} {policies free : ℕ} {ok : Bool}
+    (b : Underway version text seen T₀ T total t policies free ok) where
   begins-is : (effect : Bool) → isEffect (lexeme text t) && ltb policies mostPolicies ≡ effect → mayBegin (b .value) (lexeme text t) ≡ effect
   unfolding mayBegin
   begins-is effect e = rw (← b .many) e
@@ -64,7 +67,7 @@ module _ {text seen T₀ T : List ℕ} {total : reader.Answer (List Policy)} {t 
       b .rest ∙ ap (λ (p : reader.Answer (List Policy)). bind p atEnd) (policies-step (b .value) (stream text t) ∙ next-off text t (mayBegin (b .value)) _ _ (begins-is false e))
 
   -- no policy begins, and the text ends
-  pub ended : not (isEffect (lexeme text t) && ltb policies mostPolicies) ≡ true → t .kind ≡ 0 → Told text seen T₀ T total (All policies free ok)
+  pub ended : not (isEffect (lexeme text t) && ltb policies mostPolicies) ≡ true → t .kind ≡ 0 → Told version text seen T₀ T total (All policies free ok)
   unfolding atEnd
   ended e z =
       let l = b .lies .low in let o = b .lies .order in let h = b .lies .high in
@@ -80,7 +83,7 @@ module _ {text seen T₀ T : List ℕ} {total : reader.Answer (List Policy)} {t 
 
   -- none may begin, and another token stands there
   pub stopped : {f : Refusal} → not (isEffect (lexeme text t) && ltb policies mostPolicies) ≡ true → (t .kind ≡ 0 → ⊥)
-      → f ≡ turnedAway (length text) (noPolicy (lexeme text t)) t → Told text seen T₀ T total (Lost f)
+      → f ≡ turnedAway (length text) (noPolicy (lexeme text t)) t → Told version text seen T₀ T total (Lost f)
   unfolding atEnd
   stopped e z q =
       lost (turned-as {p = refuseBy noPolicy (stream text t)} (at-end (not-true (isEffect (lexeme text t) && ltb policies mostPolicies) e) ∙ rw (stream-token text t z)) (turned text t noPolicy q))
@@ -96,23 +99,23 @@ module _ {text seen T₀ T : List ℕ} {total : reader.Answer (List Policy)} {t 
         (policies-step (b .value) (stream text t) ∙ next-on text t (mayBegin (b .value)) _ _ n (effect-some e) (b .lies .high) q (begins-is true (not-false (isEffect (lexeme text t) && ltb policies mostPolicies) e)))
 
     -- a policy begins, and is refused
-    pub broken : {f : Refusal} {T₂ : List ℕ} → TurnedAway text (read-policy (is kinds.permitWord (lexeme text t)) (stream text n)) f → Told text seen T₀ T₂ total (Lost f)
+    pub broken : {f : Refusal} {T₂ : List ℕ} → TurnedAway text (read-policy (is kinds.permitWord (lexeme text t)) (stream text n)) f → Told version text seen T₀ T₂ total (Lost f)
     broken h = lost (turned-as next-policy (turned-bind atEnd (turned-bind onAndOn (turned-bind (λ p. took (b .value ++ p ∷ [])) h))))
 
     -- a policy begins, and is read
     pub further : {from free₂ : ℕ} {ok₂ : Bool} {next : Token} {T₂ : List ℕ} → t .start ≤ from
-        → (k : Taken policyEntries text seen from free ok (read-policy (is kinds.permitWord (lexeme text t)) (stream text n)) next free₂ ok₂)
-        → Put policyEntries free T T₂ (read-policy (is kinds.permitWord (lexeme text t)) (stream text n))
-        → Underway text seen T₀ T₂ total next (policies + 1) free₂ ok₂
+        → (k : Taken (policyEntries version) text seen from free ok (read-policy (is kinds.permitWord (lexeme text t)) (stream text n)) next free₂ ok₂)
+        → Put (policyEntries version) free T T₂ (read-policy (is kinds.permitWord (lexeme text t)) (stream text n))
+        → Underway version text seen T₀ T₂ total next (policies + 1) free₂ ok₂
     unfolding bind
     further {free₂ = free₂} {ok₂} {next} {T₂} l k w =
         let many = b .many in let room = k .room in let low = b .lies .low in
-        let z : 0 + length (policiesEntries 0 (b .value)) ≡ free = sym (b .kept .counted .free-is) in
+        let z : 0 + length (policiesEntries version 0 (b .value)) ≡ free = sym (b .kept .counted .free-is) in
         record {
           value = b .value ++ k .value ∷ [];
           many = let x = length-append (b .value) (k .value ∷ []) in omega arith;
           few = let x = ltb-true policies mostPolicies (and-right (isEffect (lexeme text t)) (ltb policies mostPolicies) (not-false (isEffect (lexeme text t) && ltb policies mostPolicies) e)) in omega arith;
           rest = next-policy ∙ rw (k .is);
-          kept = subst (λ (es : List Entry). Kept seen T₀ 0 true es free₂ ok₂ T₂) (sym (policies-append 0 (b .value) (k .value) ∙ rw z)) (kept-append (b .kept) (as-kept k w));
+          kept = subst (λ (es : List Entry). Kept seen T₀ 0 true es free₂ ok₂ T₂) (sym (policies-append version 0 (b .value) (k .value) ∙ rw z)) (kept-append (b .kept) (as-kept k w));
           lies = standing next (omega arith) (k .lies);
         }

@@ -6,17 +6,23 @@ ghost use Prim.Native.Nat.{_≤_};
 ghost use lib.ListN.{length};
 ghost use Rattle.tokens.specs.Table.{classTable};
 ghost use Rattle.compiling.specs.declared.Found.the-variants.{Turned};
-ghost use Rattle.compiling.specs.Outcome.{foundOf, toldOf, heldOf, beginsOf, CompiledInto};
+ghost use Rattle.compiling.specs.declared.Compiled.the-variants.{Refused};
+ghost use Rattle.compiling.specs.Outcome.{nowhere, foundOf, toldOf, compiledUnder, tableUnder, heldOf, beginsOf, CompiledInto};
 use crate::policies::Whole;
 use crate::policies::read_all;
+use grammar::Version;
 use parts::answers::Refusal;
+use places::place_of;
 use table::ENTRY_SIZE;
+use table::recorded;
 use tokens::classes::class_table;
-use tokens::places::place_of;
 use tokens::sizes::MOST_TEXT_BYTES;
 
 // How many bytes of table must be lent for each byte of text.
 const TABLE_PER_BYTE: usize = 8;
+
+// The refusal of a number that names no version.
+const OTHER_VERSION: u8 = 30;
 
 // What a text has: so many policies and entries; or its refusal, by its size or the table's, or at a token.
 pub enum Found {
@@ -25,7 +31,7 @@ pub enum Found {
     Turned(Refusal),
 }
 
-// Where a text is refused: the line and column of the refused token, from 1, and how many bytes it has; zeros where it goes by a size.
+// Where a text is refused: the line and column of the refused token, from 1, and how many bytes it has; zeros where it goes by a size or the version.
 pub struct Spot {
     pub line: usize,
     pub column: usize,
@@ -44,10 +50,10 @@ pub enum Held {
     Wrong,
 }
 
-// What a text has, where a table of so many bytes is lent; nothing is written.
-pub fn recognise(classes: &[u8; 256], text: &[u8], room: usize) -> Found
+// What a text has under a version, where a table of so many bytes is lent; nothing is written.
+pub fn recognise(classes: &[u8; 256], text: &[u8], room: usize, version: Version) -> Found
     requires { ⌜ now classes ≡ classTable ⌝ }
-    ensures { λ r. ⌜ r ≡ foundOf (now (text .entry)) room ⌝ }
+    ensures { λ r. ⌜ r ≡ foundOf version (now (text .entry)) room ⌝ }
 {
     if MOST_TEXT_BYTES < text.len() {
         return Found::Unfit(1);
@@ -57,7 +63,7 @@ pub fn recognise(classes: &[u8; 256], text: &[u8], room: usize) -> Found
     }
     let mut none = [0u8; 1];
     let empty = [0u8; 1];
-    let whole = read_all(classes, text, &mut none, &empty);
+    let whole = read_all(classes, text, &mut none, &empty, version);
     match whole {
         Whole::Lost(f) => Found::Turned(f),
         Whole::All(policies, entries, _) => Found::Accepted(policies, entries),
@@ -78,31 +84,50 @@ fn told(text: &[u8], f: Refusal) -> Compiled
     Compiled::Refused(f.number, spot)
 }
 
-// Compiles a text into the table. The bytes past those used stay, and a refusal changes nothing.
-pub fn compile(text: &[u8], table: &mut [u8]) -> Compiled
-    ensures { λ r. ⌜ CompiledInto (now (text .entry)) (now (table .entry)) (now (table .exit)) r ⌝ }
+// A refusal that goes by no token has no place.
+fn unplaced(number: u8) -> Compiled
+    ensures { λ r. ⌜ r ≡ Refused number nowhere ⌝ }
+{
+    let spot = Spot {
+        line: 0,
+        column: 0,
+        length: 0,
+    };
+    Compiled::Refused(number, spot)
+}
+
+// Compiles a text into the table under a version. The bytes past those used stay, and a refusal changes nothing.
+fn compile_under(version: Version, text: &[u8], table: &mut [u8]) -> Compiled
+    ensures { λ r. ⌜ (r ≡ compiledUnder version (now (text .entry)) (length (now (table .entry))))
+        × (now (table .exit) ≡ tableUnder version (now (text .entry)) (now (table .entry))) ⌝ }
 {
     let classes = class_table();
-    let found = recognise(&classes, text, table.len());
+    let found = recognise(&classes, text, table.len(), version);
     match found {
-        Found::Unfit(number) => {
-            let nowhere = Spot {
-                line: 0,
-                column: 0,
-                length: 0,
-            };
-            Compiled::Refused(number, nowhere)
-        }
+        Found::Unfit(number) => unplaced(number),
         Found::Turned(f) => told(text, f),
         Found::Accepted(policies, entries) => {
             let empty = [0u8; 1];
-            read_all(&classes, text, table, &empty);
+            read_all(&classes, text, table, &empty, version);
             Compiled::Policies(policies, ENTRY_SIZE * entries)
         }
     }
 }
 
-// The policies and entries of a text whose table begins with the bytes that it compiles to.
+// The same under the version that a number names; any other number is refused before all.
+pub fn compile(number: u64, text: &[u8], table: &mut [u8]) -> Compiled
+    ensures { λ r. ⌜ CompiledInto number (now (text .entry)) (now (table .entry)) (now (table .exit)) r ⌝ }
+{
+    if number == 1 {
+        return compile_under(Version::First, text, table);
+    }
+    if number == 2 {
+        return compile_under(Version::Second, text, table);
+    }
+    unplaced(OTHER_VERSION)
+}
+
+// The policies and entries of a text whose table begins with the bytes that it compiles to under the version that the table records.
 pub fn held_policies(classes: &[u8; 256], text: &[u8], table: &[u8]) -> Held
     requires { ⌜ now classes ≡ classTable ⌝ }
     ensures { λ r. ⌜ r ≡ heldOf (now (text .entry)) (now (table .entry)) ⌝ }
@@ -110,8 +135,9 @@ pub fn held_policies(classes: &[u8; 256], text: &[u8], table: &[u8]) -> Held
     if MOST_TEXT_BYTES < text.len() {
         return Held::Wrong;
     }
+    let version = recorded(table);
     let mut none = [0u8; 1];
-    let whole = read_all(classes, text, &mut none, table);
+    let whole = read_all(classes, text, &mut none, table, version);
     match whole {
         Whole::Lost(_) => Held::Wrong,
         Whole::All(policies, entries, same) => {
@@ -124,7 +150,7 @@ pub fn held_policies(classes: &[u8; 256], text: &[u8], table: &[u8]) -> Held
     }
 }
 
-// Whether a text compiles and the table begins with its bytes.
+// Whether a text compiles and the table begins with its bytes, under the version that it records.
 pub fn begins(text: &[u8], table: &[u8]) -> bool
     ensures { λ r. ⌜ r ≡ beginsOf (now (text .entry)) (now (table .entry)) ⌝ }
 {

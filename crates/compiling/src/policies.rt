@@ -9,11 +9,12 @@ ghost use Rattle.tokens.specs.Sizes.{mostTextBytes};
 ghost use Rattle.reading.specs.Lexemes.{lexeme, stream, tokensOf};
 ghost use Rattle.reading.specs.Reader.{need, before};
 ghost use Rattle.grammar.specs.Parser.{noPolicy, read-principal, read-action, read-resource, read-when, read-policy, read-text};
-ghost use Rattle.table.specs.Entries.{partEntry, actionEntries, conditionEntries, policyEntries, effectKind};
+ghost use Rattle.table.specs.Entries.{partEntry, principalEntry, actionEntries, conditionEntries, policyEntries, effectKind};
 ghost use Rattle.tokens.specs.Kinds as kinds;
 ghost use Rattle.parts.specs.Answers.{ReadyToRead, Done};
 ghost use Rattle.compiling.specs.Whole.{Told};
 use conditions::read_whole;
+use grammar::Version;
 use heads::read_action;
 use heads::read_principal;
 use heads::read_resource;
@@ -25,9 +26,9 @@ use parts::answers::turned_away;
 use parts::refusals;
 use table::Entry;
 use table::entries;
+use token_reader::next_token;
 use tokens::kinds;
 use tokens::reader::Token;
-use tokens::reader::next_token;
 use tokens::sizes::MOST_INSIDE;
 use tokens::sizes::MOST_POLICIES;
 
@@ -68,17 +69,18 @@ fn read_first(
     t: Token,
     number: usize,
     same: bool,
+    version: Version,
 ) -> Answer
     requires { ⌜ ReadyToRead (now classes) (now text) (number + 1) t ⌝ }
-    ensures { λ r. ⌜ Done (λ e p. partEntry p ∷ []) (now (text .entry)) (now (seen .entry)) (t .start + 1) number same (now (table .entry)) (now (table .exit))
-        (need kinds.leftRound (need kinds.principalWord (before kinds.comma read-principal)) (stream (now (text .entry)) t)) r ⌝ }
+    ensures { λ r. ⌜ Done (λ e p. principalEntry version p ∷ []) (now (text .entry)) (now (seen .entry)) (t .start + 1) number same (now (table .entry))
+        (now (table .exit)) (need kinds.leftRound (need kinds.principalWord (before kinds.comma read-principal)) (stream (now (text .entry)) t)) r ⌝ }
 {
     let round = expected(classes, text, Answer::Read(t, number, same), b'(');
     let word = expected(classes, text, round, kinds::PRINCIPAL);
     let Answer::Read(next, free, ok) = word else {
         return word;
     };
-    let part = read_principal(classes, text, table, seen, next, free, ok);
+    let part = read_principal(classes, text, table, seen, next, free, ok, version);
     expected(classes, text, part, b',')
 }
 
@@ -175,12 +177,13 @@ fn read_policy(
     t: Token,
     number: usize,
     same: bool,
+    version: Version,
 ) -> Answer
     requires { ⌜ ReadyToRead (now classes) (now text) (number + 1) t × (length (now text) ≤ mostTextBytes) ⌝ }
-    ensures { λ r. ⌜ Done policyEntries (now (text .entry)) (now (seen .entry)) (t .start - 1) number same (now (table .entry)) (now (table .exit))
+    ensures { λ r. ⌜ Done (policyEntries version) (now (text .entry)) (now (seen .entry)) (t .start - 1) number same (now (table .entry)) (now (table .exit))
         (read-policy permits (stream (now (text .entry)) t)) r ⌝ }
 {
-    let first = read_first(classes, text, table, seen, t, number, same);
+    let first = read_first(classes, text, table, seen, t, number, same, version);
     let Answer::Read(next1, free1, same1) = first else {
         return first;
     };
@@ -206,10 +209,17 @@ fn read_policy(
     )
 }
 
-// A whole text: its entries are put into the one table and compared with the other.
-pub fn read_all(classes: &[u8; 256], text: &[u8], table: &mut [u8], seen: &[u8]) -> Whole
+// A whole text under a version: its entries are put into the one table and compared with the other.
+pub fn read_all(
+    classes: &[u8; 256],
+    text: &[u8],
+    table: &mut [u8],
+    seen: &[u8],
+    version: Version,
+) -> Whole
     requires { ⌜ (now classes ≡ classTable) × (length (now text) ≤ mostTextBytes) ⌝ }
-    ensures { λ r. ⌜ Told (now (text .entry)) (now (seen .entry)) (now (table .entry)) (now (table .exit)) (read-text (tokensOf (now (text .entry)))) r ⌝ }
+    ensures { λ r. ⌜ Told version (now (text .entry)) (now (seen .entry)) (now (table .entry)) (now (table .exit))
+        (read-text (tokensOf (now (text .entry)))) r ⌝ }
 {
     let mut t = next_token(classes, text, 0);
     let mut policies = 0;
@@ -225,7 +235,7 @@ pub fn read_all(classes: &[u8; 256], text: &[u8], table: &mut [u8], seen: &[u8])
             return Whole::Lost(turned_away(text, t, no_policy(t)));
         }
         let next = next_token(classes, text, t.end);
-        let one = read_policy(classes, text, table, seen, permits, next, free, ok);
+        let one = read_policy(classes, text, table, seen, permits, next, free, ok, version);
         match one {
             Answer::Refused(f) => {
                 return Whole::Lost(f);

@@ -30,9 +30,9 @@ use parts::refusals;
 use table::Entry;
 use table::append;
 use table::entries;
+use token_reader::next_token;
 use tokens::kinds;
 use tokens::reader::Token;
-use tokens::reader::next_token;
 
 // An answer in half the bytes. Where something was read: whether the table that is seen has the entries so far, the kind of the token after what was
 // read, the next free entry, and where that token starts and ends. Where nothing was, a refusal: `kind` is its number, `start` the place and `end`

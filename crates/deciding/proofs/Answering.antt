@@ -5,6 +5,7 @@ use mathlib.Core.List.{List}
 use Prim.Native.Nat.{ℕ}
 use lib.Dec.{leb}
 use lib.ListN.{length}
+use Rattle.table.specs.Recorded.{recorded}
 use Rattle.compiling.specs.Outcome.{beginsOf}
 use Rattle.bags.specs.Sections.{sectionsOf, isBag}
 use Rattle.bags.specs.declared.sections.Sections.{Sections}
@@ -12,7 +13,7 @@ use Rattle.bags.specs.declared.sections.Divided.the-variants.{In}
 use Rattle.views.specs.Meaning.{look}
 use Rattle.views.specs.Values.{baseBag}
 use Rattle.meaning.specs.Targets.{Request, typeIn, isTyped, isSystem, isSubject, isAction, isResource}
-use Rattle.meaning.specs.Decisions.{decisionOf, decidedMark, policiesMarked, systemMarked}
+use Rattle.meaning.specs.Decisions.{under, decisionOf, decidedMark, policiesMarked, systemMarked}
 use Rattle.deciding.specs.Answers.{wordsIn, viewIn, viewOf, heldDecide, decideAnswer}
 use Rattle.deciding.specs.declared.Answer.the-variants.{Decided, Refused}
 
@@ -72,7 +73,7 @@ module _ (text table bag : List ℕ) (q : Request) where
             unfolding decideAnswer
             refused-20 e = rw (other, subject, action, resource, form, e)
 
-            pub decided-then : beginsOf text table ≡ true → Decided (policiesMarked (viewOf bag) q (wordsIn text)) ≡ decideAnswer text table bag q
+            pub decided-then : beginsOf text table ≡ true → Decided (policiesMarked (under (recorded table) (viewOf bag)) q (wordsIn text)) ≡ decideAnswer text table bag q
             unfolding decideAnswer decisionOf decidedMark
             decided-then e = rw (other, subject, action, resource, form, e)
 
@@ -83,6 +84,6 @@ module _ (text table bag : List ℕ) (q : Request) where
                 view-is : viewOf bag ≡ look (baseBag bag p)
                 view-is = rw d
 
-                go : (b : Bool) → beginsOf text table ≡ b → cond b (Decided (policiesMarked (look (baseBag bag p)) q (wordsIn text))) (Refused 20) ≡ decideAnswer text table bag q
+                go : (b : Bool) → beginsOf text table ≡ b → cond b (Decided (policiesMarked (under (recorded table) (look (baseBag bag p))) q (wordsIn text))) (Refused 20) ≡ decideAnswer text table bag q
                 go true e = rw (← view-is) (decided-then e)
                 go false e = refused-20 e

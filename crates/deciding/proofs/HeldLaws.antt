@@ -9,6 +9,7 @@ use Rattle.placing.proofs.Theorems.{policies-placed}
 use Rattle.table.specs.Entries.{policiesEntries}
 use Rattle.slices.specs.Parts.{Begins}
 use Rattle.table.specs.Layout.{bytesOf}
+use Rattle.table.specs.Recorded.{recorded}
 use Rattle.table.proofs.Holding.{starts-decides, held-starts}
 use Rattle.stored.specs.Stored.{TextSays}
 use Rattle.stored.specs.ReadBack.{policiesAt}
@@ -25,7 +26,7 @@ use Rattle.views.specs.Values.{baseBag}
 use Rattle.views.specs.Rows.{chosenOf, rowView}
 use Rattle.placing.specs.Said.{wordsOf}
 use Rattle.meaning.specs.Targets.{Request}
-use Rattle.meaning.specs.Decisions.{policiesMarked}
+use Rattle.meaning.specs.Decisions.{under, policiesMarked}
 use Rattle.meaning.specs.declared.Marked.{Marked}
 use Rattle.deciding.specs.Answers.{policiesIn, policiesOf, heldDecide}
 use Rattle.deciding.specs.declared.Answer.the-variants.{Decided, Refused}
@@ -49,14 +50,14 @@ module _ (text table : List ℕ) (policies entries : ℕ) (h : heldOf text table
   unfolding said
   says = record { short = holds .short; read = holds .is }
 
-  begins : Begins (bytesOf (policiesEntries 0 (holds .value))) table
-  begins = starts-decides (bytesOf (policiesEntries 0 (holds .value))) table .sound (sym (held-starts table 0 (policiesEntries 0 (holds .value))) ∙ holds .held-all)
+  begins : Begins (bytesOf (policiesEntries (recorded table) 0 (holds .value))) table
+  begins = starts-decides (bytesOf (policiesEntries (recorded table) 0 (holds .value))) table .sound (sym (held-starts table 0 (policiesEntries (recorded table) 0 (holds .value))) ∙ holds .held-all)
 
   pub held-ready : ReadyPolicies text table entries
-  held-ready = rw (holds .count) (compiled-ready says begins)
+  held-ready = rw (holds .count) (compiled-ready (recorded table) says begins)
 
   pub held-says : policiesAt table entries ≡ policiesOf text
-  held-says = ap (λ (n : ℕ). policiesAt table n) (holds .count) ∙ compiled-says says begins ∙ sym (policies-said text (holds .value) (holds .is))
+  held-says = ap (λ (n : ℕ). policiesAt table n) (holds .count) ∙ compiled-says (recorded table) says begins ∙ sym (policies-said text (holds .value) (holds .is))
 
   pub held-many : policies ≡ length (policiesAt table entries)
   held-many = holds .many ∙ ap length (sym (policies-said text (holds .value) (holds .is)) ∙ sym held-says)
@@ -65,7 +66,7 @@ module _ (text table : List ℕ) (policies entries : ℕ) (h : heldOf text table
   pub held-few : policies ≤ 64
   held-few = rw (holds .many) (policies-placed text (holds .value) (says .read) .few)
 
-  pub held-decides : (view : View) (q : Request) {m : Marked} → m ≡ policiesMarked view q (wordsOf text (policiesAt table entries))
+  pub held-decides : (view : View) (q : Request) {m : Marked} → m ≡ policiesMarked (under (recorded table) view) q (wordsOf text (policiesAt table entries))
       → Decided m ≡ heldDecide text table view q
   unfolding heldDecide
   held-decides view q e = rw (e, held-says, ← right-begins text table (sym h))

@@ -9,10 +9,9 @@ use lib.Bits.{bitOr, or-shifted}
 use lib.Dec.{eqb}
 use lib.ListN.{length, length-append}
 use Rattle.grammar.specs.Policies.{Policy}
-use Rattle.views.specs.Meaning.{View}
 use Rattle.placing.specs.Said.{policyWords, wordsOf}
 use Rattle.meaning.specs.Targets.{Request}
-use Rattle.meaning.specs.Decisions.{satisfied, firstOf, byNumbers, forbids, permits, policiesDecide, markOf}
+use Rattle.meaning.specs.Decisions.{Terms, satisfied, firstOf, byNumbers, forbids, permits, policiesDecide, markOf}
 use Rattle.meaning.specs.declared.Decision.{Decision}
 use Rattle.meaning.proofs.Marking.{markAfter, none-met, met-more}
 use Rattle.meaning.proofs.WordLaws.{first-words, mark-words}
@@ -56,34 +55,34 @@ met false false a c k forbid permit = rw (or-else-assoc a 0 forbid, or-else-asso
 
 -- ---- the policies left, and the lowest numbers known so far of those behind them
 
-unfoldable pub decidesFrom : List ℕ → View → Request → List Policy → ℕ → ℕ → Decision
-decidesFrom t view q ps forbid permit =
-    byNumbers (orElse (firstOf (λ p. forbids view q (policyWords t p)) 1 ps) forbid) (orElse (firstOf (λ p. permits view q (policyWords t p)) 1 ps) permit)
+unfoldable pub decidesFrom : List ℕ → Terms → Request → List Policy → ℕ → ℕ → Decision
+decidesFrom t terms q ps forbid permit =
+    byNumbers (orElse (firstOf (λ p. forbids terms q (policyWords t p)) 1 ps) forbid) (orElse (firstOf (λ p. permits terms q (policyWords t p)) 1 ps) permit)
 
 -- and the mark, where `mark` is that of those behind them
-abbrev pub marksFrom : List ℕ → View → Request → List Policy → ℕ → ℕ
-marksFrom t view q ps mark = markAfter (λ p. satisfied view q (policyWords t p)) ps mark
+abbrev pub marksFrom : List ℕ → Terms → Request → List Policy → ℕ → ℕ
+marksFrom t terms q ps mark = markAfter (λ p. satisfied terms q (policyWords t p)) ps mark
 
-module _ (t : List ℕ) (view : View) (q : Request) where
+module _ (t : List ℕ) (terms : Terms) (q : Request) where
   or-none : (a : ℕ) → orElse a 0 ≡ a
   unfolding orElse
   or-none zero = refl
   or-none (suc a) = refl
 
-  pub none-known : (ps : List Policy) → decidesFrom t view q ps 0 0 ≡ policiesDecide view q (wordsOf t ps)
+  pub none-known : (ps : List Policy) → decidesFrom t terms q ps 0 0 ≡ policiesDecide terms q (wordsOf t ps)
   unfolding decidesFrom policiesDecide
   none-known ps =
-      rw (first-words t (forbids view q) 1 ps, first-words t (permits view q) 1 ps, or-none (firstOf (λ p. forbids view q (policyWords t p)) 1 ps), or-none (firstOf (λ p. permits view q (policyWords t p)) 1 ps))
+      rw (first-words t (forbids terms q) 1 ps, first-words t (permits terms q) 1 ps, or-none (firstOf (λ p. forbids terms q (policyWords t p)) 1 ps), or-none (firstOf (λ p. permits terms q (policyWords t p)) 1 ps))
 
-  pub none-left : (table : List ℕ) (end forbid permit : ℕ) → end ≤ 0 → byNumbers forbid permit ≡ decidesFrom t view q (policiesAt table end) forbid permit
+  pub none-left : (table : List ℕ) (end forbid permit : ℕ) → end ≤ 0 → byNumbers forbid permit ≡ decidesFrom t terms q (policiesAt table end) forbid permit
   unfolding decidesFrom policiesUpTo firstOf orElse
   none-left table zero forbid permit l = refl
   none-left table (suc end) forbid permit l = absurd (omega arith)
 
-  pub none-marked : (ps : List Policy) → marksFrom t view q ps 0 ≡ markOf view q (wordsOf t ps)
-  none-marked ps = none-met (λ p. satisfied view q (policyWords t p)) ps ∙ sym (mark-words t (satisfied view q) ps)
+  pub none-marked : (ps : List Policy) → marksFrom t terms q ps 0 ≡ markOf terms q (wordsOf t ps)
+  none-marked ps = none-met (λ p. satisfied terms q (policyWords t p)) ps ∙ sym (mark-words t (satisfied terms q) ps)
 
-  pub all-marked : (table : List ℕ) (end mark : ℕ) → end ≤ 0 → mark ≡ marksFrom t view q (policiesAt table end) mark
+  pub all-marked : (table : List ℕ) (end mark : ℕ) → end ≤ 0 → mark ≡ marksFrom t terms q (policiesAt table end) mark
   unfolding policiesUpTo markAfter
   all-marked table zero mark l = refl
   all-marked table (suc end) mark l = absurd (omega arith)
@@ -102,28 +101,28 @@ module _ {t : List ℕ} {at : ℕ → Entry} {many end number : ℕ} {x : Entry}
   number-falls = let e = count-is in omega arith
 
   -- the last of the policies left, and those before it
-  met-last : (view : View) (q : Request) (forbid permit f g : ℕ)
-      → ((a c : ℕ) → byNumbers (orElse (orElse a (cond (not (eqb (x .kind) 34) && satisfied view q (policyWords t (policyBy at end x))) number 0)) forbid)
-      (orElse (orElse c (cond (eqb (x .kind) 34 && satisfied view q (policyWords t (policyBy at end x))) number 0)) permit) ≡ byNumbers (orElse a f) (orElse c g))
-      → decidesFrom t view q (policiesBy at (x .first)) f g ≡ decidesFrom t view q (policiesBy at end) forbid permit
+  met-last : (terms : Terms) (q : Request) (forbid permit f g : ℕ)
+      → ((a c : ℕ) → byNumbers (orElse (orElse a (cond (not (eqb (x .kind) 34) && satisfied terms q (policyWords t (policyBy at end x))) number 0)) forbid)
+      (orElse (orElse c (cond (eqb (x .kind) 34 && satisfied terms q (policyWords t (policyBy at end x))) number 0)) permit) ≡ byNumbers (orElse a f) (orElse c g))
+      → decidesFrom t terms q (policiesBy at (x .first)) f g ≡ decidesFrom t terms q (policiesBy at end) forbid permit
   unfolding decidesFrom policyBy
-  met-last view q forbid permit f g h =
+  met-last terms q forbid permit f g h =
       let ps = policiesBy at (x .first) in
       let one : 1 + length ps ≡ number = let e = count-is in omega arith in
-      rw (last .is, first-after (λ p. forbids view q (policyWords t p)) 0 ps (policyBy at end x), first-after (λ p. permits view q (policyWords t p)) 0 ps (policyBy at end x), one)
+      rw (last .is, first-after (λ p. forbids terms q (policyWords t p)) 0 ps (policyBy at end x), first-after (λ p. permits terms q (policyWords t p)) 0 ps (policyBy at end x), one)
       (sym (h _ _))
 
   -- it is met: its number is known where it is satisfied
-  pub met-one : (view : View) (q : Request) (forbid permit f g : ℕ) (hit : Bool) → hit ≡ satisfied view q (policyWords t (policyBy at end x))
+  pub met-one : (terms : Terms) (q : Request) (forbid permit f g : ℕ) (hit : Bool) → hit ≡ satisfied terms q (policyWords t (policyBy at end x))
       → f ≡ cond (hit && not (eqb (x .kind) 34)) number forbid → g ≡ cond (hit && eqb (x .kind) 34) number permit
-      → decidesFrom t view q (policiesBy at (x .first)) f g ≡ decidesFrom t view q (policiesBy at end) forbid permit
-  met-one view q forbid permit f g hit h d e =
-      met-last view q forbid permit f g (λ a c. rw (d, e, h, count-is) (met (eqb (x .kind) 34) (satisfied view q (policyWords t (policyBy at end x))) a c _ forbid permit))
+      → decidesFrom t terms q (policiesBy at (x .first)) f g ≡ decidesFrom t terms q (policiesBy at end) forbid permit
+  met-one terms q forbid permit f g hit h d e =
+      met-last terms q forbid permit f g (λ a c. rw (d, e, h, count-is) (met (eqb (x .kind) 34) (satisfied terms q (policyWords t (policyBy at end x))) a c _ forbid permit))
 
   -- and its bit is the lowest of the mark
-  pub mark-one : (view : View) (q : Request) (mark m : ℕ) (hit : Bool) → hit ≡ satisfied view q (policyWords t (policyBy at end x)) → m ≡ cond hit 1 0 + 2 * mark
-      → marksFrom t view q (policiesBy at (x .first)) m ≡ marksFrom t view q (policiesBy at end) mark
-  mark-one view q mark m hit h e = rw (e, h, last .is) (sym (met-more (λ p. satisfied view q (policyWords t p)) (policiesBy at (x .first)) (policyBy at end x) mark))
+  pub mark-one : (terms : Terms) (q : Request) (mark m : ℕ) (hit : Bool) → hit ≡ satisfied terms q (policyWords t (policyBy at end x)) → m ≡ cond hit 1 0 + 2 * mark
+      → marksFrom t terms q (policiesBy at (x .first)) m ≡ marksFrom t terms q (policiesBy at end) mark
+  mark-one terms q mark m hit h e = rw (e, h, last .is) (sym (met-more (λ p. satisfied terms q (policyWords t p)) (policiesBy at (x .first)) (policyBy at end x) mark))
 
 -- ---- the mark's size: where `number` of 64 policies are left it has a bit for each of the others, and there is room for one more
 

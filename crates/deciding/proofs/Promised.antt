@@ -94,4 +94,4 @@ zeros-elsewhere (Refused number) n = (refl, refl, refl)
 
 pub answered-alike : AnsweredAlike
 unfolding AnsweredAlike decideAnswer
-answered-alike text text' table table' bag q same b b' = rw (begins-then text table b, begins-then text' table' b', same)
+answered-alike text text' table table' bag q same version b b' = rw (begins-then text table b, begins-then text' table' b', same, version)

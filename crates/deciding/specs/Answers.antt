@@ -1,4 +1,5 @@
--- What is answered to a request over a bag (document 01, 'Deciding' and 'Refusal numbers'). Definitions only.
+-- What is answered to a request over a bag, under the version that the table records (document 01, 'Deciding' and 'Refusal numbers'; document 02, request 7).
+-- Definitions only.
 use mathlib.Core.Bool.{Bool, cond, not, _||_}
 use mathlib.Core.List.{List, []}
 use Prim.Native.Nat.{ℕ}
@@ -6,6 +7,7 @@ use lib.Dec.{eqb}
 use Rattle.reading.specs.Reader as reader
 use Rattle.reading.specs.Reader.{took, refuse}
 use Rattle.grammar.specs.Policies.{PolicyOf, Policy}
+use Rattle.table.specs.Recorded.{recorded}
 use Rattle.compiling.specs.Outcome.{said, beginsOf}
 use Rattle.bags.specs.Sections.{sectionsOf, isBag}
 use Rattle.bags.specs.declared.sections.Divided.{Divided}
@@ -14,7 +16,7 @@ use Rattle.views.specs.Meaning.{absent, View, look}
 use Rattle.views.specs.Values.{baseBag}
 use Rattle.placing.specs.Said.{Word, wordsOf}
 use Rattle.meaning.specs.Targets.{Request, isSystem, isSubject, isAction, isResource}
-use Rattle.meaning.specs.Decisions.{outcomeOf, policyOf, policiesMarked, markedOf, systemMarked}
+use Rattle.meaning.specs.Decisions.{under, outcomeOf, policyOf, policiesMarked, markedOf, systemMarked}
 use Rattle.deciding.specs.declared.Answer.{Answer}
 use Rattle.deciding.specs.declared.Answer.the-variants.{Decided, Refused}
 
@@ -42,7 +44,7 @@ viewOf bag = viewIn bag (sectionsOf bag)
 
 -- what the policies decide over these attributes, where the table begins with the bytes that the text compiles to; else refusal 20
 unfoldable pub heldDecide : List ℕ → List ℕ → View → Request → Answer
-heldDecide text table view q = cond (beginsOf text table) (Decided (policiesMarked view q (wordsIn text))) (Refused 20)
+heldDecide text table view q = cond (beginsOf text table) (Decided (policiesMarked (under (recorded table) view) q (wordsIn text))) (Refused 20)
 
 -- the answer: the system first, with nothing else looked at; then refusals 21, 22, 23, 24 and 20; else what is decided
 unfoldable pub decideAnswer : List ℕ → List ℕ → List ℕ → Request → Answer
@@ -52,7 +54,7 @@ decideAnswer text table bag q =
     (cond (not (isAction (q .action))) (Refused 22)
     (cond (not (isResource (q .resource))) (Refused 23)
     (cond (not (isBag bag)) (Refused 24)
-    (cond (not (beginsOf text table)) (Refused 20) (Decided (markedOf (viewOf bag) q (wordsIn text))))))))
+    (cond (not (beginsOf text table)) (Refused 20) (Decided (markedOf (under (recorded table) (viewOf bag)) q (wordsIn text))))))))
 
 -- the numbers of an answer: of the refusal, the outcome, the policy and the mark, with 0 for what there is none of
 pub record DecideSaid : Type 0 where

@@ -1,10 +1,11 @@
--- When a call for a decision gets which refusal, and that the words of its text alone decide. Demand 2 itself stands on the desk's page, and over any
--- attributes in meaning. Definitions only.
+-- When a call for a decision gets which refusal, and that the words of its text and the recorded version alone decide. Demand 2 itself stands on the
+-- desk's page, and over any attributes in meaning. Definitions only.
 use mathlib.Core.Path.{_≡_}
 use mathlib.Core.Logic.{_↔_}
 use mathlib.Core.Bool.{true, false}
 use mathlib.Core.List.{List}
 use Prim.Native.Nat.{ℕ}
+use Rattle.table.specs.Recorded.{recorded}
 use Rattle.compiling.specs.Promise.{Begun}
 use Rattle.bags.specs.Forms.{ABag, NoBag}
 use Rattle.meaning.specs.Targets.{Request, isSystem, isSubject, isAction, isResource}
@@ -48,7 +49,8 @@ DecideRefusedExactly = (c : DecideCall) (number : ℕ)
 
 -- ---- what a text says
 
--- Two texts that say the same, each with its table, get the same answers, wherever they say it and whatever else stands in them.
+-- Two texts that say the same, each with its table of the same version, get the same answers, wherever they say it and whatever else stands in them.
 unfoldable pub AnsweredAlike : Type 0
-AnsweredAlike = (text text' table table' bag : List ℕ) (q : Request) → wordsIn text ≡ wordsIn text' → Begun text table → Begun text' table'
+AnsweredAlike = (text text' table table' bag : List ℕ) (q : Request) → wordsIn text ≡ wordsIn text' → recorded table ≡ recorded table'
+    → Begun text table → Begun text' table'
     → decideAnswer text table bag q ≡ decideAnswer text' table' bag q

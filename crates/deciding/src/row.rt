@@ -6,6 +6,7 @@ ghost use Prim.Native.Nat.{_+_, _*_, _^_, _≤_, _<_};
 ghost use lib.ListN.{length};
 ghost use Rattle.tokens.specs.Sizes.{mostPolicies};
 ghost use Rattle.bags.specs.Sections.{Sectioned};
+ghost use Rattle.table.specs.Recorded.{recorded};
 ghost use Rattle.stored.specs.ReadBack.{policyAt, policiesAt};
 ghost use Rattle.stored.specs.Ready.{ReadyPolicies, Last};
 ghost use Rattle.views.specs.Meaning.{look};
@@ -14,7 +15,7 @@ ghost use Rattle.views.specs.Rows.{rowView, RowStands};
 ghost use Rattle.placing.specs.Said.{policyWords, wordsOf};
 ghost use Rattle.meaning.specs.Values.{withAction};
 ghost use Rattle.meaning.specs.Conditions.{isYes};
-ghost use Rattle.meaning.specs.Decisions.{conditionHolds, satisfied, byNumbers, policiesMarked};
+ghost use Rattle.meaning.specs.Decisions.{under, conditionHolds, satisfied, byNumbers, policiesMarked};
 ghost use Rattle.targets.specs.Matching.{request, TypesOf};
 use bags::sections::Sections;
 use evaluating::evaluate;
@@ -54,7 +55,8 @@ pub fn condition_holds<'a>(
 ) -> bool
     requires { ⌜ Last (now text) (now table) end x ⌝ }
     requires { ⌜ RowStands (now s) p n (now heads) (now values) ⌝ }
-    ensures { λ r. ⌜ r ≡ conditionHolds (withAction (now (action .entry)) (rowView (now (s .entry)) p n (now (heads .entry)) (now (values .entry))))
+    ensures { λ r. ⌜ r ≡ conditionHolds
+        (under (recorded (now (table .entry))) (withAction (now (action .entry)) (rowView (now (s .entry)) p n (now (heads .entry)) (now (values .entry)))))
         (policyWords (now (text .entry)) (policyAt (now (table .entry)) end x) .condition) ⌝ }
 {
     // a condition would begin before the policy's own entry
@@ -81,7 +83,8 @@ fn is_satisfied<'a>(
     requires { ⌜ Last (now text) (now table) end x ⌝ }
     requires { ⌜ Sectioned (now bag) p ⌝ }
     requires { ⌜ TypesOf types (now subject) (now resource) ⌝ }
-    ensures { λ r. ⌜ r ≡ satisfied (look (baseBag (now (bag .entry)) p)) (request (now (subject .entry)) (now (action .entry)) (now (resource .entry)))
+    ensures { λ r. ⌜ r ≡ satisfied (under (recorded (now (table .entry))) (look (baseBag (now (bag .entry)) p)))
+        (request (now (subject .entry)) (now (action .entry)) (now (resource .entry)))
         (policyWords (now (text .entry)) (policyAt (now (table .entry)) end x)) ⌝ }
 {
     if !target_matches(text, table, end, x, subject, action, resource, types) {
@@ -146,7 +149,8 @@ pub fn decision<'a>(
     requires { ⌜ policies ≤ mostPolicies ⌝ }
     requires { ⌜ Sectioned (now bag) p ⌝ }
     requires { ⌜ TypesOf types (now subject) (now resource) ⌝ }
-    ensures { λ r. ⌜ r ≡ policiesMarked (look (baseBag (now (bag .entry)) p)) (request (now (subject .entry)) (now (action .entry)) (now (resource .entry)))
+    ensures { λ r. ⌜ r ≡ policiesMarked (under (recorded (now (table .entry))) (look (baseBag (now (bag .entry)) p)))
+        (request (now (subject .entry)) (now (action .entry)) (now (resource .entry)))
         (wordsOf (now (text .entry)) (policiesAt (now (table .entry)) entries)) ⌝ }
 {
     let none = [0usize; MOST_COLUMNS];

@@ -8,7 +8,7 @@ use Rattle.reading.proofs.Listed.{tokens-stand, one-list}
 use Rattle.numbers.proofs.Rounded.{rounded-once}
 use Rattle.numbers.proofs.Spelled.{written-value}
 use Rattle.utf8.proofs.Readings.{says-exactly}
-use Rattle.tokens.proofs.PlaceLaws.{one-column}
+use Rattle.places.proofs.PlaceLaws.{one-column}
 use Rattle.patterns.proofs.Computed.{likes-decides, text-decides}
 use Rattle.placing.specs.Words.{AllSaidAlike}
 use Rattle.placing.proofs.Theorems.{policies-placed}
@@ -50,7 +50,7 @@ grounds = record {
   likes-decides = likes-decides;
   text-decides = text-decides;
   policies-placed = λ text ps s. policies-placed text ps (read-as text ps s);
-  compiled-says = λ text table ps s b. compiled-says (record { short = s .short; read = read-as text ps s }) b;
+  compiled-says = λ version text table ps s b. compiled-says version (record { short = s .short; read = read-as text ps s }) b;
   said-alike = all-said-alike;
   bag-exactly = bag-exactly;
   one-bag = λ s b c v w. one-bag v w;

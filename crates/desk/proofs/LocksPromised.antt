@@ -7,14 +7,17 @@ use Prim.Native.Nat.{ℕ, suc, _≤_, _<_}
 use native.Mathlib.Omega.{arith}
 use lib.ListN.{length, drop}
 use Rattle.grammar.specs.Policies.{Policy, PolicyOf, text, oneOf, pinned, any}
+use Rattle.grammar.specs.declared.Version.{Version}
+use Rattle.grammar.specs.declared.Version.the-variants.{First, Second}
 use Rattle.placing.specs.Said.{Word, wordsOf}
+use Rattle.table.specs.Recorded.{recorded}
 use Rattle.compiling.specs.Outcome.{roomFor}
 use Rattle.tokens.specs.Sizes.{mostTextBytes}
 use Rattle.bags.specs.Forms.{Contents, BagBytes}
 use Rattle.bags.proofs.Exactly.{one-bag}
 use Rattle.views.specs.Meaning.{View, asBag, look}
 use Rattle.meaning.specs.Targets.{Request, isSystem}
-use Rattle.meaning.specs.Decisions.{satisfied, Numbered, first, later, SatisfiedAs, SomeSatisfied}
+use Rattle.meaning.specs.Decisions.{Terms, under, satisfied, Numbered, first, later, SatisfiedAs, SomeSatisfied}
 use Rattle.deciding.specs.Promise.{DecideCall}
 use Rattle.permits.specs.Permits.{Test, permitText, permitPolicy}
 use Rattle.permits.specs.Meaning.{LockHolds, Made}
@@ -85,18 +88,18 @@ one-lock c acts acts′ ts ts′ = locks.one-lock (c .vocabulary) (c .lock) (c .
 
 -- ---- one policy that is a permit
 
-module _ (view : View) (q : Request) (p : PolicyOf Word) (is-permit : p .permits ≡ true) where
-  one-satisfied : SomeSatisfied view q (p ∷ []) true → satisfied view q p ≡ true
+module _ (terms : Terms) (q : Request) (p : PolicyOf Word) (is-permit : p .permits ≡ true) where
+  one-satisfied : SomeSatisfied terms q (p ∷ []) true → satisfied terms q p ≡ true
   one-satisfied s = go (s .satisfied-as .numbered) (s .satisfied-as .satisfied-there)
     where
-      go : {n : ℕ} {r : PolicyOf Word} → Numbered n r (p ∷ []) → satisfied view q r ≡ true → satisfied view q p ≡ true
+      go : {n : ℕ} {r : PolicyOf Word} → Numbered n r (p ∷ []) → satisfied terms q r ≡ true → satisfied terms q p ≡ true
       go first e = e
       go (later m) e = elim m [ ]
 
-  satisfied-one : satisfied view q p ≡ true → SomeSatisfied view q (p ∷ []) true
+  satisfied-one : satisfied terms q p ≡ true → SomeSatisfied terms q (p ∷ []) true
   satisfied-one e = record { number = 1; satisfied-as = record { policy = p; numbered = first; effect = is-permit; satisfied-there = e } }
 
-  none-forbids : SomeSatisfied view q (p ∷ []) false → ⊥
+  none-forbids : SomeSatisfied terms q (p ∷ []) false → ⊥
   none-forbids s = go (s .satisfied-as .numbered) (s .satisfied-as .effect)
     where
       go : {n : ℕ} {r : PolicyOf Word} → Numbered n r (p ∷ []) → r .permits ≡ false → ⊥
@@ -106,25 +109,25 @@ module _ (view : View) (q : Request) (p : PolicyOf Word) (is-permit : p .permits
 -- a text with one permit: what is decided over a bag
 module _ (t : List ℕ) (ps : List Policy) (says : Says t ps) (p : PolicyOf Word) (one : wordsOf t ps ≡ p ∷ []) (is-permit : p .permits ≡ true) where
   decided-by-one : (table bag : List ℕ) (contents : Contents) (q : Request) → decideSays t table bag q .refusal ≡ 0 → BagBytes bag contents → isSystem (q .subject) ≡ false
-      → (decideSays t table bag q .outcome ≡ 1) ↔ (satisfied (look (asBag contents)) q p ≡ true)
+      → (decideSays t table bag q .outcome ≡ 1) ↔ (satisfied (under (recorded table) (look (asBag contents))) q p ≡ true)
   decided-by-one table bag contents q r w n = (to, from)
     where
       c : DecideCall
       c = record { text = t; table = table; bag = bag; request = q }
 
-      view : View
-      view = look (asBag contents)
+      terms : Terms
+      terms = under (recorded table) (look (asBag contents))
 
-      granted : Granted t bag q → satisfied view q p ≡ true
+      granted : Granted (recorded table) t bag q → satisfied terms q p ≡ true
       granted g =
           let e : g .policies ≡ ps = texts.one-reading t (g .policies) ps (g .says) says in
           let b : g .contents ≡ contents = one-bag (g .bag-says) w in
-          one-satisfied view q p is-permit (rw (e, one, b) at (g .permit))
+          one-satisfied terms q p is-permit (rw (e, one, b) at (g .permit))
 
-      to : decideSays t table bag q .outcome ≡ 1 → satisfied view q p ≡ true
+      to : decideSays t table bag q .outcome ≡ 1 → satisfied terms q p ≡ true
       to h = ⊎-elim (λ (s : isSystem (q .subject) ≡ true). absurd (false≢true (sym n ∙ s))) granted (requests.yes-exactly c r .0 (allowed h))
 
-      only-one : {o k : ℕ} → OutcomeIs t view q o k → Yes o → o ≡ 1
+      only-one : {o k : ℕ} → OutcomeIs t terms q o k → Yes o → o ≡ 1
       only-one (by-permit a b x y) h = refl
       only-one (by-forbid a b x) (allowed h) = h
       only-one (by-forbid a b x) (system h) = absurd (omega arith)
@@ -132,19 +135,25 @@ module _ (t : List ℕ) (ps : List Policy) (says : Says t ps) (p : PolicyOf Word
       only-one (by-none a b x y) (system h) = absurd (omega arith)
       only-one (by-system s) h = absurd (false≢true (sym n ∙ s))
 
-      grants : satisfied view q p ≡ true → Granted t bag q
+      grants : satisfied terms q p ≡ true → Granted (recorded table) t bag q
       grants e =
           record {
             policies = ps;
             says = says;
             contents = contents;
             bag-says = w;
-            permit = rw one (satisfied-one view q p is-permit e);
-            no-forbid = λ s. none-forbids view q p is-permit (rw one at s);
+            permit = rw one (satisfied-one terms q p is-permit e);
+            no-forbid = λ s. none-forbids terms q p is-permit (rw one at s);
           }
 
-      from : satisfied view q p ≡ true → decideSays t table bag q .outcome ≡ 1
+      from : satisfied terms q p ≡ true → decideSays t table bag q .outcome ≡ 1
       from e = only-one (requests.outcome-rightly c contents r w) (requests.yes-exactly c r .1 (inr (grants e)))
+
+-- two tests that are passed exactly when the same holds are the same
+same-truth : {P : Type 0} (a b : Bool) → (a ≡ true) ↔ P → (b ≡ true) ↔ P → a ≡ b
+same-truth true b f g = sym (g .1 (f .0 refl))
+same-truth false true f g = f .1 (g .0 refl)
+same-truth false false f g = refl
 
 -- ---- the lock
 
@@ -157,12 +166,12 @@ module _ (c : LockCall) where
       let p : PolicyOf Word = permitPolicy actions (c .resource) t ts in
       let y : Says (permitFor c actions (t ∷ ts)) (k .policies) = record { short = k .short; belongs = k .says } in
       let i = fits s (lock-exactly c 0 .0 h) in
-      let e : (view : View) (q : Request) → (satisfied view q p ≡ true) ↔ LockHolds view q actions (c .resource) (t ∷ ts) =
-      λ view q. permit-means view q actions (c .resource) t ts in
+      let e : (version : Version) (view : View) (q : Request) → (satisfied (under version view) q p ≡ true) ↔ LockHolds view q actions (c .resource) (t ∷ ts) =
+      λ version view q. permit-means version view q actions (c .resource) t ts in
       record {
         long = ap (λ (a : Answer). lockedAs a .length) (locks.answered-exactly c _ .1 (permit s i));
         written = locks.permit-stands c actions (t ∷ ts) s i;
-        compiles = λ table r. texts.accepted-exactly (permitFor c actions (t ∷ ts)) table r .1 (record { policies = k .policies; says = y });
+        compiles = λ version table r. texts.accepted-exactly version (permitFor c actions (t ∷ ts)) table r .1 (record { policies = k .policies; says = y });
         policies = k .policies;
         says = y;
         policy = p;
@@ -172,10 +181,11 @@ module _ (c : LockCall) where
         these-actions = refl;
         pinned-there = refl;
         satisfied-exactly = e;
-        over-bag = λ contents q. e (look (asBag contents)) q;
-        over-row = λ base columns choices q. e (promises.attributes base columns choices) q;
+        over-bag = λ version contents q. e version (look (asBag contents)) q;
+        over-row = λ version base columns choices q. e version (promises.attributes base columns choices) q;
+        agree = λ view q. same-truth _ _ (e First view q) (e Second view q);
         decided = λ table bag contents q r w n.
-            Iff·trans (decided-by-one (permitFor c actions (t ∷ ts)) (k .policies) y p (k .words) refl table bag contents q r w n) (e (look (asBag contents)) q);
+            Iff·trans (decided-by-one (permitFor c actions (t ∷ ts)) (k .policies) y p (k .words) refl table bag contents q r w n) (e (recorded table) (look (asBag contents)) q);
       }
     where
       fits : {us : List Test} → SaysLock c actions us → LockRefused c 0 → length (permitFor c actions us) ≤ length (c .room)

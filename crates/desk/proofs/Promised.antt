@@ -1,15 +1,16 @@
 -- The desk's page of promises holds: specs/Promises.antt, record by record. Assumes nothing.
 use mathlib.Core.Path.{sym, _∙_, ap, subst}
 use Rattle.slices.proofs.Parts.{one-part}
-use Rattle.compiling.specs.Promise.{BeginsExactly}
-use Rattle.compiling.proofs.Promised.{begins-exactly}
+use Rattle.compiling.specs.Promise.{NoPoliciesNoVersion, BeginsExactly}
+use Rattle.compiling.proofs.Promised.{no-policies-no-version, begins-exactly}
+use Rattle.meaning.proofs.Versions.{missing-exactly, second-exactly, satisfied-second}
 use Rattle.bags.proofs.Exactly.{not-a-bag}
 use Rattle.views.specs.Meaning.{View}
 use Rattle.pages.specs.Rows.{choicesAt}
 use Rattle.pages.proofs.Combinations.{row-below, choices-of-row, choices-combine, row-of-choices}
 use Rattle.pages.proofs.LineLaws.{sooner-row, row-sooner, row-read, mark-read}
 use Rattle.desk.specs.Answers.{lookupSays}
-use Rattle.desk.specs.Promises.{DemandOne, DemandTwo, DemandThree, TheTallies, Means, LookUps, Refusals, Locks, OneResult}
+use Rattle.desk.specs.Promises.{DemandOne, DemandTwo, Versions, DemandThree, TheTallies, Means, LookUps, Refusals, Locks, OneResult}
 use Rattle.desk.proofs.RefusalNumbers.{lengths}
 use Rattle.desk.proofs.TextsPromised as texts
 use Rattle.desk.proofs.RequestsPromised as requests
@@ -43,6 +44,7 @@ demand-two = record {
   used-begins = texts.used-begins;
   enough-room = texts.enough-room;
   no-policies-no-bytes = texts.no-policies-no-bytes;
+  policies-few = texts.policies-few;
   one-reading = texts.one-reading;
   yes-exactly = requests.yes-exactly;
   outcome-rightly = requests.outcome-rightly;
@@ -54,6 +56,17 @@ demand-two = record {
   mark-few = requests.mark-few;
   mark-decides = requests.mark-decides;
   words-decide = requests.words-decide;
+}
+
+pub versions : Versions
+unfolding NoPoliciesNoVersion
+versions = record {
+  records = texts.records;
+  one-version = λ version text table ps s some b. texts.one-version version table ps some b;
+  no-policies-no-version = no-policies-no-version;
+  missing-exactly = missing-exactly;
+  second-exactly = second-exactly;
+  satisfied-second = satisfied-second;
 }
 
 pub demand-three : DemandThree
@@ -95,6 +108,7 @@ look-ups = record {
 pub refusals : Refusals
 unfolding BeginsExactly
 refusals = record {
+  other-version = texts.other-versions;
   too-long = texts.too-long;
   no-room = texts.no-room;
   token-exactly = texts.token-exactly;
@@ -112,7 +126,7 @@ refusals = record {
 
 pub one-result : OneResult
 one-result = record {
-  of-compile = λ text before after after′ r r′ a b. (a .answered ∙ sym (b .answered), a .table ∙ sym (b .table));
+  of-compile = λ version text before after after′ r r′ a b. (a .answered ∙ sym (b .answered), a .table ∙ sym (b .table));
   of-begins = λ text table r r′ a b. a ∙ sym b;
   of-decide = λ c r r′ a b. a ∙ sym b;
   of-lookup = λ bag root path r r′ a b. a ∙ sym b;

@@ -13,6 +13,7 @@ use lib.ListN.{length}
 use Rattle.tokens.specs.Bytes.{oneOf}
 use Rattle.tokens.proofs.TokenLaws.{never, or-cases}
 use Rattle.grammar.specs.Policies.{PolicyOf, Policy}
+use Rattle.table.specs.Recorded.{recorded}
 use Rattle.compiling.specs.Outcome.{said}
 use Rattle.compiling.specs.Promise.{Begun}
 use Rattle.bags.specs.Sections.{isBag}
@@ -24,7 +25,7 @@ use Rattle.views.proofs.BagForms.{bag-shows}
 use Rattle.placing.specs.Said.{Word, wordsOf}
 use Rattle.placing.proofs.Theorems.{policies-placed}
 use Rattle.meaning.specs.Targets.{Request, isSystem}
-use Rattle.meaning.specs.Decisions.{Numbered, first, later, SomeSatisfied, LowestSatisfied, NamesPolicy, the-system as nobody, a-forbid, a-permit, none-named, byNumbers, policiesDecide, decisionOf, outcomeOf, policyOf, isAllowed, satisfied, markOf, decidedMark, markedOf, effectsOf, decidedBy, MarksExactly, for-the-system, for-another}
+use Rattle.meaning.specs.Decisions.{Terms, under, Numbered, first, later, SomeSatisfied, LowestSatisfied, NamesPolicy, the-system as nobody, a-forbid, a-permit, none-named, byNumbers, policiesDecide, decisionOf, outcomeOf, policyOf, isAllowed, satisfied, markOf, decidedMark, markedOf, effectsOf, decidedBy, MarksExactly, for-the-system, for-another}
 use Rattle.meaning.specs.Decisions as meaning
 use Rattle.meaning.specs.declared.Decision.{Decision}
 use Rattle.meaning.specs.declared.Decision.the-variants.{Allowed, Forbidden, Nothing, System}
@@ -89,9 +90,9 @@ from-one : {A : Type 0} {n : ℕ} {p : A} {ps : List A} → Numbered n p ps → 
 from-one first = omega arith
 from-one (later h) = omega arith
 
-module _ (view : View) (q : Request) (ps : List (PolicyOf Word)) where
+module _ (terms : Terms) (q : Request) (ps : List (PolicyOf Word)) where
   abbrev decision : Decision
-  decision = decisionOf view q ps
+  decision = decisionOf terms q ps
 
   by-policies : isSystem (q .subject) ≡ false → Sorted decision
   unfolding decisionOf policiesDecide
@@ -101,152 +102,152 @@ module _ (view : View) (q : Request) (ps : List (PolicyOf Word)) where
   unfolding decisionOf outcomeOf
   four-for-system s = rw s
 
-  allowed-then : isSystem (q .subject) ≡ false → isAllowed decision ≡ true → SomeSatisfied view q ps false → ⊥
+  allowed-then : isSystem (q .subject) ≡ false → isAllowed decision ≡ true → SomeSatisfied terms q ps false → ⊥
   unfolding meaning.YesExactly
-  allowed-then s y = ⊎-elim (λ t. absurd (meaning-proofs.never s t)) (λ w. w .1) (meaning-proofs.yes-exactly view q ps .0 y)
+  allowed-then s y = ⊎-elim (λ t. absurd (meaning-proofs.never s t)) (λ w. w .1) (meaning-proofs.yes-exactly terms q ps .0 y)
 
-  permit-allowed : SomeSatisfied view q ps true → (SomeSatisfied view q ps false → ⊥) → isAllowed decision ≡ true
+  permit-allowed : SomeSatisfied terms q ps true → (SomeSatisfied terms q ps false → ⊥) → isAllowed decision ≡ true
   unfolding meaning.YesExactly
-  permit-allowed p f = meaning-proofs.yes-exactly view q ps .1 (inr (p, f))
+  permit-allowed p f = meaning-proofs.yes-exactly terms q ps .1 (inr (p, f))
 
-  named-then : {n : ℕ} → policyOf decision ≡ n → LowestSatisfied view q ps false n → 0 < policyOf decision
+  named-then : {n : ℕ} → policyOf decision ≡ n → LowestSatisfied terms q ps false n → 0 < policyOf decision
   named-then e l = rw e (from-one (l .satisfied-as .numbered))
 
   -- the outcome, by the policy that is named
-  one-for-permit : {n : ℕ} → isSystem (q .subject) ≡ false → (SomeSatisfied view q ps false → ⊥) → LowestSatisfied view q ps true n → outcomeOf decision ≡ 1
+  one-for-permit : {n : ℕ} → isSystem (q .subject) ≡ false → (SomeSatisfied terms q ps false → ⊥) → LowestSatisfied terms q ps true n → outcomeOf decision ≡ 1
   one-for-permit {n} s f l = one-if-allowed (by-policies s) (permit-allowed (record { number = n; satisfied-as = l .satisfied-as }) f)
 
-  two-for-forbid : {n : ℕ} → isSystem (q .subject) ≡ false → policyOf decision ≡ n → LowestSatisfied view q ps false n → outcomeOf decision ≡ 2
+  two-for-forbid : {n : ℕ} → isSystem (q .subject) ≡ false → policyOf decision ≡ n → LowestSatisfied terms q ps false n → outcomeOf decision ≡ 2
   two-for-forbid {n} s e l = two-if-named (by-policies s) (λ y. allowed-then s y (record { number = n; satisfied-as = l .satisfied-as })) (named-then e l)
 
   -- and the policy that is named
-  named-as : {n : ℕ} → NamesPolicy view q ps n → policyOf decision ≡ n
+  named-as : {n : ℕ} → NamesPolicy terms q ps n → policyOf decision ≡ n
   unfolding meaning.NamedRightly meaning.OneName
-  named-as {n} m = meaning-proofs.one-name view q ps (policyOf decision) n (meaning-proofs.named-rightly view q ps) m
+  named-as {n} m = meaning-proofs.one-name terms q ps (policyOf decision) n (meaning-proofs.named-rightly terms q ps) m
 
--- ---- over any attributes
+-- ---- on any terms
 
-module _ (text : List ℕ) (view : View) (q : Request) where
+module _ (text : List ℕ) (terms : Terms) (q : Request) where
   -- the decision of the policies that the text says
   abbrev pub decidedOver : Decision
-  decidedOver = decisionOf view q (wordsIn text)
+  decidedOver = decisionOf terms q (wordsIn text)
 
   words-said : (ps : List Policy) → Says text ps → wordsIn text ≡ wordsOf text ps
   unfolding said
   words-said ps says = ap (wordsOf text) (policies-said text ps (read-as text ps says))
 
-  outcome-named : (ps : List Policy) → Says text ps → (n : ℕ) → policyOf (decisionOf view q (wordsOf text ps)) ≡ n → NamesPolicy view q (wordsOf text ps) n
-      → OutcomeIs text view q (outcomeOf (decisionOf view q (wordsOf text ps))) n
-  outcome-named ps says n e (nobody s) = rw (four-for-system view q (wordsOf text ps) s) (by-system s)
-  outcome-named ps says n e (a-forbid s l) = rw (two-for-forbid view q (wordsOf text ps) s e l) (by-forbid s says l)
-  outcome-named ps says n e (a-permit s f l) = rw (one-for-permit view q (wordsOf text ps) s f l) (by-permit s says f l)
-  outcome-named ps says n e (none-named s f g) = rw (three-if-none (by-policies view q (wordsOf text ps) s) e) (by-none s says f g)
+  outcome-named : (ps : List Policy) → Says text ps → (n : ℕ) → policyOf (decisionOf terms q (wordsOf text ps)) ≡ n → NamesPolicy terms q (wordsOf text ps) n
+      → OutcomeIs text terms q (outcomeOf (decisionOf terms q (wordsOf text ps))) n
+  outcome-named ps says n e (nobody s) = rw (four-for-system terms q (wordsOf text ps) s) (by-system s)
+  outcome-named ps says n e (a-forbid s l) = rw (two-for-forbid terms q (wordsOf text ps) s e l) (by-forbid s says l)
+  outcome-named ps says n e (a-permit s f l) = rw (one-for-permit terms q (wordsOf text ps) s f l) (by-permit s says f l)
+  outcome-named ps says n e (none-named s f g) = rw (three-if-none (by-policies terms q (wordsOf text ps) s) e) (by-none s says f g)
 
   -- what the policies that a text says decide
-  pub outcome-over : (ps : List Policy) → Says text ps → OutcomeIs text view q (outcomeOf decidedOver) (policyOf decidedOver)
+  pub outcome-over : (ps : List Policy) → Says text ps → OutcomeIs text terms q (outcomeOf decidedOver) (policyOf decidedOver)
   unfolding meaning.NamedRightly
   outcome-over ps says =
-      rw (words-said ps says) (outcome-named ps says (policyOf (decisionOf view q (wordsOf text ps))) refl (meaning-proofs.named-rightly view q (wordsOf text ps)))
+      rw (words-said ps says) (outcome-named ps says (policyOf (decisionOf terms q (wordsOf text ps))) refl (meaning-proofs.named-rightly terms q (wordsOf text ps)))
 
   -- what is decided for the system
-  pub system-over : isSystem (q .subject) ≡ true → OutcomeIs text view q (outcomeOf decidedOver) (policyOf decidedOver)
+  pub system-over : isSystem (q .subject) ≡ true → OutcomeIs text terms q (outcomeOf decidedOver) (policyOf decidedOver)
   unfolding decisionOf outcomeOf policyOf
   system-over s = rw s (by-system s)
 
   -- and nothing else is
-  pub decided-as : {o n : ℕ} → OutcomeIs text view q o n → (o ≡ outcomeOf decidedOver) × (n ≡ policyOf decidedOver)
+  pub decided-as : {o n : ℕ} → OutcomeIs text terms q o n → (o ≡ outcomeOf decidedOver) × (n ≡ policyOf decidedOver)
   unfolding decisionOf outcomeOf policyOf
   decided-as (by-permit {ps = ps} s says f l) =
-      rw (words-said ps says) (sym (one-for-permit view q (wordsOf text ps) s f l), sym (named-as view q (wordsOf text ps) (a-permit s f l)))
+      rw (words-said ps says) (sym (one-for-permit terms q (wordsOf text ps) s f l), sym (named-as terms q (wordsOf text ps) (a-permit s f l)))
   decided-as (by-forbid {ps = ps} s says l) =
-      let n = named-as view q (wordsOf text ps) (a-forbid s l) in
-      rw (words-said ps says) (sym (two-for-forbid view q (wordsOf text ps) s n l), sym n)
+      let n = named-as terms q (wordsOf text ps) (a-forbid s l) in
+      rw (words-said ps says) (sym (two-for-forbid terms q (wordsOf text ps) s n l), sym n)
   decided-as (by-none {ps = ps} s says f g) =
-      let n = named-as view q (wordsOf text ps) (none-named s f g) in
-      rw (words-said ps says) (sym (three-if-none (by-policies view q (wordsOf text ps) s) n), sym n)
+      let n = named-as terms q (wordsOf text ps) (none-named s f g) in
+      rw (words-said ps says) (sym (three-if-none (by-policies terms q (wordsOf text ps) s) n), sym n)
   decided-as (by-system s) = rw s (refl, refl)
 
   -- the mark of the policies that the text says
   abbrev pub markOver : ℕ
-  markOver = decidedMark view q (wordsIn text)
+  markOver = decidedMark terms q (wordsIn text)
 
-  marks-said : (ps : List Policy) → Says text ps → {mark : ℕ} → MarksExactly view q (wordsOf text ps) mark → MarkIs text view q mark
+  marks-said : (ps : List Policy) → Says text ps → {mark : ℕ} → MarksExactly terms q (wordsOf text ps) mark → MarkIs text terms q mark
   marks-said ps says (for-the-system s) = no-bit s
   marks-said ps says (for-another s f) = every-bit s says f
 
-  pub mark-over : (ps : List Policy) → Says text ps → MarkIs text view q markOver
+  pub mark-over : (ps : List Policy) → Says text ps → MarkIs text terms q markOver
   unfolding meaning.MarkedRightly
-  mark-over ps says = rw (words-said ps says) (marks-said ps says (marking.marked-rightly view q (wordsOf text ps)))
+  mark-over ps says = rw (words-said ps says) (marks-said ps says (marking.marked-rightly terms q (wordsOf text ps)))
 
   -- none for the system
-  pub system-marks : isSystem (q .subject) ≡ true → MarkIs text view q markOver
+  pub system-marks : isSystem (q .subject) ≡ true → MarkIs text terms q markOver
   unfolding decidedMark
   system-marks s = rw s (no-bit s)
 
   -- and there is no other
-  marked-by : (ps : List Policy) {mark : ℕ} → MarksExactly view q (wordsOf text ps) mark → mark ≡ decidedMark view q (wordsOf text ps)
+  marked-by : (ps : List Policy) {mark : ℕ} → MarksExactly terms q (wordsOf text ps) mark → mark ≡ decidedMark terms q (wordsOf text ps)
   unfolding meaning.MarkedRightly meaning.OneMark
-  marked-by ps {mark} m = marking.one-mark view q (wordsOf text ps) mark _ m (marking.marked-rightly view q (wordsOf text ps))
+  marked-by ps {mark} m = marking.one-mark terms q (wordsOf text ps) mark _ m (marking.marked-rightly terms q (wordsOf text ps))
 
-  pub marked-as : {mark : ℕ} → MarkIs text view q mark → mark ≡ markOver
+  pub marked-as : {mark : ℕ} → MarkIs text terms q mark → mark ≡ markOver
   unfolding decidedMark
   marked-as (every-bit {ps = ps} s says f) = rw (words-said ps says) (marked-by ps (for-another s f))
   marked-as (no-bit s) = rw s
 
   -- who gets yes
   pub yes-over : (ps : List Policy) → Says text ps
-      → (isAllowed decidedOver ≡ true) ↔ ((isSystem (q .subject) ≡ true) ⊎ (SomeSatisfied view q (wordsOf text ps) true × (SomeSatisfied view q (wordsOf text ps) false → ⊥)))
+      → (isAllowed decidedOver ≡ true) ↔ ((isSystem (q .subject) ≡ true) ⊎ (SomeSatisfied terms q (wordsOf text ps) true × (SomeSatisfied terms q (wordsOf text ps) false → ⊥)))
   unfolding meaning.YesExactly
-  yes-over ps says = rw (words-said ps says) (meaning-proofs.yes-exactly view q (wordsOf text ps))
+  yes-over ps says = rw (words-said ps says) (meaning-proofs.yes-exactly terms q (wordsOf text ps))
 
   words-many : (ps : List Policy) → length (wordsOf text ps) ≡ length ps
   unfolding wordsOf
   words-many [] = refl
   words-many (p ∷ ps) = ap suc (words-many ps)
 
-  number-few : {effect : Bool} {n : ℕ} (ps : List Policy) → Says text ps → LowestSatisfied view q (wordsOf text ps) effect n → n ≤ 64
+  number-few : {effect : Bool} {n : ℕ} (ps : List Policy) → Says text ps → LowestSatisfied terms q (wordsOf text ps) effect n → n ≤ 64
   number-few ps says l =
       let few = policies-placed text ps (read-as text ps says) .few in
       let k = meaning-proofs.numbered-few (l .satisfied-as .numbered) in
       omega (arith, words-many ps)
 
-  pub policy-few : (outcome policy : ℕ) → OutcomeIs text view q outcome policy → policy ≤ 64
+  pub policy-few : (outcome policy : ℕ) → OutcomeIs text terms q outcome policy → policy ≤ 64
   policy-few o n (by-permit {ps = ps} s says f l) = number-few ps says l
   policy-few o n (by-forbid {ps = ps} s says l) = number-few ps says l
   policy-few o n (by-none s says f g) = omega arith
   policy-few o n (by-system s) = omega arith
 
-  others-marked : (ps : List Policy) → isSystem (q .subject) ≡ false → decidedMark view q (wordsOf text ps) ≡ markOf view q (wordsOf text ps)
+  others-marked : (ps : List Policy) → isSystem (q .subject) ≡ false → decidedMark terms q (wordsOf text ps) ≡ markOf terms q (wordsOf text ps)
   unfolding decidedMark
   others-marked ps s = rw s
 
-  pub mark-few : (mark : ℕ) → MarkIs text view q mark → mark < 2 ^ 64
+  pub mark-few : (mark : ℕ) → MarkIs text terms q mark → mark < 2 ^ 64
   mark-few mark (every-bit {ps = ps} s says f) =
       let few : length (wordsOf text ps) ≤ 64 = rw (words-many ps) (policies-placed text ps (read-as text ps says) .few) in
-      let is : mark ≡ markOf view q (wordsOf text ps) = marked-by ps (for-another s f) ∙ others-marked ps s in
-      rw is (lt-of-lt-of-le (marking.mark-below (satisfied view q) (wordsOf text ps)) (pow-le-pow-right (omega arith) few))
+      let is : mark ≡ markOf terms q (wordsOf text ps) = marked-by ps (for-another s f) ∙ others-marked ps s in
+      rw is (lt-of-lt-of-le (marking.mark-below (satisfied terms q) (wordsOf text ps)) (pow-le-pow-right (omega arith) few))
   mark-few mark (no-bit s) = omega arith
 
   -- outcome and policy follow from it
-  pub mark-decides : (ps : List Policy) (outcome policy mark : ℕ) → isSystem (q .subject) ≡ false → Says text ps → OutcomeIs text view q outcome policy
-      → MarkIs text view q mark
+  pub mark-decides : (ps : List Policy) (outcome policy mark : ℕ) → isSystem (q .subject) ≡ false → Says text ps → OutcomeIs text terms q outcome policy
+      → MarkIs text terms q mark
       → (outcome ≡ outcomeOf (decidedBy (effectsOf (wordsOf text ps)) mark)) × (policy ≡ policyOf (decidedBy (effectsOf (wordsOf text ps)) mark))
   unfolding meaning.MarkedRightly meaning.MarkDecides
   mark-decides ps outcome policy mark s says o m =
       let same = words-said ps says in
-      let is : mark ≡ decidedMark view q (wordsOf text ps) = marked-as m ∙ ap (decidedMark view q) same in
-      let marks : MarksExactly view q (wordsOf text ps) mark = subst (MarksExactly view q (wordsOf text ps)) (sym is) (marking.marked-rightly view q (wordsOf text ps)) in
-      let by : decidedOver ≡ decidedBy (effectsOf (wordsOf text ps)) mark = ap (decisionOf view q) same ∙ marking.mark-decides view q (wordsOf text ps) mark s marks in
+      let is : mark ≡ decidedMark terms q (wordsOf text ps) = marked-as m ∙ ap (decidedMark terms q) same in
+      let marks : MarksExactly terms q (wordsOf text ps) mark = subst (MarksExactly terms q (wordsOf text ps)) (sym is) (marking.marked-rightly terms q (wordsOf text ps)) in
+      let by : decidedOver ≡ decidedBy (effectsOf (wordsOf text ps)) mark = ap (decisionOf terms q) same ∙ marking.mark-decides terms q (wordsOf text ps) mark s marks in
       let k = decided-as o in
       (k .0 ∙ ap outcomeOf by, k .1 ∙ ap policyOf by)
 
-pub one-mark : (text : List ℕ) (view : View) (q : Request) (mark mark′ : ℕ) → MarkIs text view q mark → MarkIs text view q mark′ → mark ≡ mark′
-one-mark text view q mark mark′ a b = marked-as text view q a ∙ sym (marked-as text view q b)
+pub one-mark : (text : List ℕ) (terms : Terms) (q : Request) (mark mark′ : ℕ) → MarkIs text terms q mark → MarkIs text terms q mark′ → mark ≡ mark′
+one-mark text terms q mark mark′ a b = marked-as text terms q a ∙ sym (marked-as text terms q b)
 
-pub one-outcome : (text : List ℕ) (view : View) (q : Request) (outcome outcome′ policy policy′ : ℕ)
-    → OutcomeIs text view q outcome policy → OutcomeIs text view q outcome′ policy′ → (outcome ≡ outcome′) × (policy ≡ policy′)
-one-outcome text view q outcome outcome′ policy policy′ a b =
-    let x = decided-as text view q a in let y = decided-as text view q b in (x .0 ∙ sym (y .0), x .1 ∙ sym (y .1))
+pub one-outcome : (text : List ℕ) (terms : Terms) (q : Request) (outcome outcome′ policy policy′ : ℕ)
+    → OutcomeIs text terms q outcome policy → OutcomeIs text terms q outcome′ policy′ → (outcome ≡ outcome′) × (policy ≡ policy′)
+one-outcome text terms q outcome outcome′ policy policy′ a b =
+    let x = decided-as text terms q a in let y = decided-as text terms q b in (x .0 ∙ sym (y .0), x .1 ∙ sym (y .1))
 
 -- a decision is yes by its outcome
 no-yes : {o : ℕ} → (o ≡ 1 → ⊥) → (o ≡ 4 → ⊥) → Yes o → ⊥
@@ -282,10 +283,10 @@ alike-words {text} {text′} a =
     ap (wordsOf text) (policies-said text (a .policies) (read-as text (a .policies) (a .says))) ∙ a .alike
     ∙ sym (ap (wordsOf text′) (policies-said text′ (a .policies′) (read-as text′ (a .policies′) (a .says′))))
 
-pub words-decide : (text text′ table table′ bag : List ℕ) (q : Request) → SayAlike text text′ → Begun text table → Begun text′ table′
-    → decideSays text table bag q ≡ decideSays text′ table′ bag q
+pub words-decide : (text text′ table table′ bag : List ℕ) (q : Request) → SayAlike text text′ → recorded table ≡ recorded table′ → Begun text table
+    → Begun text′ table′ → decideSays text table bag q ≡ decideSays text′ table′ bag q
 unfolding decideSays AnsweredAlike
-words-decide text text′ table table′ bag q a b b′ = rw (answered-alike text text′ table table′ bag q (alike-words a) b b′)
+words-decide text text′ table table′ bag q a v b b′ = rw (answered-alike text text′ table table′ bag q (alike-words a) v b b′)
 
 -- ---- deciding
 
@@ -335,17 +336,21 @@ module _ (c : DecideCall) where
   heard : decisionFor c .refusal ≡ 0 → Heard
   heard e = heard-by e (decide-exactly (decisionFor c .refusal) .0 refl)
 
+  -- attributes as this call meets them: under the version that its table records
+  abbrev recorded-for : View → Terms
+  recorded-for view = under (recorded (c .table)) view
+
   -- what deciding sees, and what it decides over that
-  abbrev view : View
-  view = viewOf (c .bag)
+  abbrev terms : Terms
+  terms = recorded-for (viewOf (c .bag))
 
   abbrev decision-there : Decision
-  decision-there = decidedOver (c .text) view (c .request)
+  decision-there = decidedOver (c .text) terms (c .request)
 
   abbrev mark-there : ℕ
-  mark-there = markOver (c .text) view (c .request)
+  mark-there = markOver (c .text) terms (c .request)
 
-  answered : Heard → decideAnswer (c .text) (c .table) (c .bag) (c .request) ≡ Decided (markedOf view (c .request) (wordsIn (c .text)))
+  answered : Heard → decideAnswer (c .text) (c .table) (c .bag) (c .request) ≡ Decided (markedOf terms (c .request) (wordsIn (c .text)))
   unfolding decideAnswer decisionOf decidedMark
   answered (of-the-system s) = rw s
   answered (of-another f w b) = rw (f .other, f .subject-is, f .action-is, f .resource-is, bag-exactly (c .bag) .1 w, begins-then (c .text) (c .table) b)
@@ -354,53 +359,53 @@ module _ (c : DecideCall) where
   unfolding decideSays decideSaid
   outcome-told h = rw (answered h) (refl, refl, refl)
 
-  outcome-there : Heard → OutcomeIs (c .text) view (c .request) (outcomeOf decision-there) (policyOf decision-there)
-  outcome-there (of-the-system s) = system-over (c .text) view (c .request) s
-  outcome-there (of-another f w b) = outcome-over (c .text) view (c .request) (b .value) (begun-says b)
+  outcome-there : Heard → OutcomeIs (c .text) terms (c .request) (outcomeOf decision-there) (policyOf decision-there)
+  outcome-there (of-the-system s) = system-over (c .text) terms (c .request) s
+  outcome-there (of-another f w b) = outcome-over (c .text) terms (c .request) (b .value) (begun-says b)
 
   pub outcome-rightly : (contents : Contents) → decisionFor c .refusal ≡ 0 → BagBytes (c .bag) contents
-      → OutcomeIs (c .text) (look (asBag contents)) (c .request) (decisionFor c .outcome) (decisionFor c .policy)
+      → OutcomeIs (c .text) (recorded-for (look (asBag contents))) (c .request) (decisionFor c .outcome) (decisionFor c .policy)
   outcome-rightly contents e w =
       let h = heard e in
       let t = outcome-told h in
-      subst (λ (v : View). OutcomeIs (c .text) v (c .request) (decisionFor c .outcome) (decisionFor c .policy)) (seen w) (rw (t .0, t .1) (outcome-there h))
+      subst (λ (v : View). OutcomeIs (c .text) (recorded-for v) (c .request) (decisionFor c .outcome) (decisionFor c .policy)) (seen w) (rw (t .0, t .1) (outcome-there h))
 
-  marked-there : Heard → MarkIs (c .text) view (c .request) mark-there
-  marked-there (of-the-system s) = system-marks (c .text) view (c .request) s
-  marked-there (of-another f w b) = mark-over (c .text) view (c .request) (b .value) (begun-says b)
+  marked-there : Heard → MarkIs (c .text) terms (c .request) mark-there
+  marked-there (of-the-system s) = system-marks (c .text) terms (c .request) s
+  marked-there (of-another f w b) = mark-over (c .text) terms (c .request) (b .value) (begun-says b)
 
   pub mark-exactly : (contents : Contents) → decisionFor c .refusal ≡ 0 → BagBytes (c .bag) contents
-      → MarkIs (c .text) (look (asBag contents)) (c .request) (decisionFor c .mark)
+      → MarkIs (c .text) (recorded-for (look (asBag contents))) (c .request) (decisionFor c .mark)
   mark-exactly contents e w =
       let h = heard e in
-      subst (λ (v : View). MarkIs (c .text) v (c .request) (decisionFor c .mark)) (seen w) (rw (outcome-told h .2) (marked-there h))
+      subst (λ (v : View). MarkIs (c .text) (recorded-for v) (c .request) (decisionFor c .mark)) (seen w) (rw (outcome-told h .2) (marked-there h))
 
   -- ---- yes
 
-  granted-there : Heard → (isAllowed decision-there ≡ true) ↔ ((isSystem (c .request .subject) ≡ true) ⊎ Granted (c .text) (c .bag) (c .request))
+  granted-there : Heard → (isAllowed decision-there ≡ true) ↔ ((isSystem (c .request .subject) ≡ true) ⊎ Granted (recorded (c .table)) (c .text) (c .bag) (c .request))
   unfolding decisionOf isAllowed
   granted-there (of-the-system s) = (λ y. inl s, λ y. rw s)
   granted-there (of-another f w b) =
-      let yes = yes-over (c .text) view (c .request) (b .value) (begun-says b) in (
+      let yes = yes-over (c .text) terms (c .request) (b .value) (begun-says b) in (
         λ y. ⊎-elim inl (λ g. inr (rightly (w .1) g)) (yes .0 y),
         λ g. yes .1 (⊎-elim inl (λ g. inr (granted g)) g),
       )
     where
       rightly : {contents : Contents} → BagBytes (c .bag) contents
-          → SomeSatisfied view (c .request) (wordsOf (c .text) (b .value)) true × (SomeSatisfied view (c .request) (wordsOf (c .text) (b .value)) false → ⊥)
-          → Granted (c .text) (c .bag) (c .request)
+          → SomeSatisfied terms (c .request) (wordsOf (c .text) (b .value)) true × (SomeSatisfied terms (c .request) (wordsOf (c .text) (b .value)) false → ⊥)
+          → Granted (recorded (c .table)) (c .text) (c .bag) (c .request)
       rightly {contents} w g =
-          let h = subst (λ (v : View). SomeSatisfied v (c .request) (wordsOf (c .text) (b .value)) true × (SomeSatisfied v (c .request) (wordsOf (c .text) (b .value)) false → ⊥)) (seen w) g in
+          let h = subst (λ (v : View). SomeSatisfied (recorded-for v) (c .request) (wordsOf (c .text) (b .value)) true × (SomeSatisfied (recorded-for v) (c .request) (wordsOf (c .text) (b .value)) false → ⊥)) (seen w) g in
           record { policies = b .value; says = begun-says b; contents = contents; bag-says = w; permit = h .0; no-forbid = h .1 }
 
-      granted : Granted (c .text) (c .bag) (c .request)
-          → SomeSatisfied view (c .request) (wordsOf (c .text) (b .value)) true × (SomeSatisfied view (c .request) (wordsOf (c .text) (b .value)) false → ⊥)
+      granted : Granted (recorded (c .table)) (c .text) (c .bag) (c .request)
+          → SomeSatisfied terms (c .request) (wordsOf (c .text) (b .value)) true × (SomeSatisfied terms (c .request) (wordsOf (c .text) (b .value)) false → ⊥)
       granted g =
           let same = one-reading (c .text) (g .policies) (b .value) (g .says) (begun-says b) in
-          subst (λ (v : View). SomeSatisfied v (c .request) (wordsOf (c .text) (b .value)) true × (SomeSatisfied v (c .request) (wordsOf (c .text) (b .value)) false → ⊥)) (sym (seen (g .bag-says)))
-          (subst (λ (ps : List Policy). SomeSatisfied (look (asBag (g .contents))) (c .request) (wordsOf (c .text) ps) true × (SomeSatisfied (look (asBag (g .contents))) (c .request) (wordsOf (c .text) ps) false → ⊥)) same (g .permit, g .no-forbid))
+          subst (λ (v : View). SomeSatisfied (recorded-for v) (c .request) (wordsOf (c .text) (b .value)) true × (SomeSatisfied (recorded-for v) (c .request) (wordsOf (c .text) (b .value)) false → ⊥)) (sym (seen (g .bag-says)))
+          (subst (λ (ps : List Policy). SomeSatisfied (recorded-for (look (asBag (g .contents)))) (c .request) (wordsOf (c .text) ps) true × (SomeSatisfied (recorded-for (look (asBag (g .contents)))) (c .request) (wordsOf (c .text) ps) false → ⊥)) same (g .permit, g .no-forbid))
 
-  pub yes-exactly : decisionFor c .refusal ≡ 0 → Yes (decisionFor c .outcome) ↔ ((isSystem (c .request .subject) ≡ true) ⊎ Granted (c .text) (c .bag) (c .request))
+  pub yes-exactly : decisionFor c .refusal ≡ 0 → Yes (decisionFor c .outcome) ↔ ((isSystem (c .request .subject) ≡ true) ⊎ Granted (recorded (c .table)) (c .text) (c .bag) (c .request))
   yes-exactly e =
       let h = heard e in
       let y = yes-by-outcome decision-there (outcome-told h .0) in

@@ -10,6 +10,7 @@ use native.Mathlib.Omega.{arith}
 use lib.ListN.{length, take, drop}
 use lib.Seq.{take-at}
 use Rattle.tokens.proofs.TokenLaws.{never}
+use Rattle.table.specs.Recorded.{recorded}
 use Rattle.compiling.specs.Promise.{Begun}
 use Rattle.bags.specs.Forms.{Contents, BagBytes}
 use Rattle.questions.specs.Forms.{Column, QuestionBytes, NoQuestion}
@@ -17,7 +18,7 @@ use Rattle.questions.specs.Questions.{isQuestion, product}
 use Rattle.questions.proofs.Exactly.{question-exactly, not-a-question}
 use Rattle.views.specs.Meaning.{View, asBag, look}
 use Rattle.meaning.specs.Targets.{Request, isSystem}
-use Rattle.meaning.specs.Decisions.{outcomeOf, policyOf, isAllowed}
+use Rattle.meaning.specs.Decisions.{Terms, under, outcomeOf, policyOf, isAllowed}
 use Rattle.meaning.specs.declared.Decision.{Decision}
 use Rattle.deciding.specs.Answers.{wordsIn}
 use Rattle.deciding.specs.Promise.{DecideCall, Wellformed, RequestRefused, bad-subject, bad-action, bad-resource}
@@ -36,7 +37,7 @@ use Rattle.sheets.specs.Promise.{SheetCall, Wellasked, SheetRefused, no-room, n
 use Rattle.sheets.proofs.Promised as sheets-proofs
 use Rattle.sheets.proofs.Promised.{counts-asked, rows-asked, decision-asked, mark-asked}
 use Rattle.desk.specs.Answers.{decisionFor, sheetSays, sheetLeaves, pageFor, sheetFor, rowsSay}
-use Rattle.desk.specs.Promises.{SayAlike, OutcomeIs, MarkIs, attributes, LineOf, Sheet, writtenBy, PageOf, again, Pages, no-page, page, TheSheet, Shows}
+use Rattle.desk.specs.Promises.{SayAlike, OutcomeIs, MarkIs, attributes, termsOf, LineOf, Sheet, writtenBy, PageOf, again, Pages, no-page, page, TheSheet, Shows}
 use Rattle.desk.proofs.RequestsPromised.{among, decidedOver, markOver, outcome-over, system-over, decided-as, mark-over, system-marks, marked-as, yes-by-outcome, begun-says, alike-words, request-some, outcome-rightly, mark-exactly}
 
 -- ---- the number of rows
@@ -125,15 +126,16 @@ module _ (c : SheetCall) where
   well-asked (of-the-system w s) = w
   well-asked (of-another w f b) = w
 
-  -- what is decided over any attributes
-  pub outcome-there : Heard → (view : View) → OutcomeIs (c .text) view (c .request) (outcomeOf (decidedOver (c .text) view (c .request))) (policyOf (decidedOver (c .text) view (c .request)))
-  outcome-there (of-the-system w s) view = system-over (c .text) view (c .request) s
-  outcome-there (of-another w f b) view = outcome-over (c .text) view (c .request) (b .value) (begun-says b)
+  -- what is decided on any terms
+  pub outcome-there : Heard → (terms : Terms)
+      → OutcomeIs (c .text) terms (c .request) (outcomeOf (decidedOver (c .text) terms (c .request))) (policyOf (decidedOver (c .text) terms (c .request)))
+  outcome-there (of-the-system w s) terms = system-over (c .text) terms (c .request) s
+  outcome-there (of-another w f b) terms = outcome-over (c .text) terms (c .request) (b .value) (begun-says b)
 
   -- and its mark
-  marked-there : Heard → (view : View) → MarkIs (c .text) view (c .request) (markOver (c .text) view (c .request))
-  marked-there (of-the-system w s) view = system-marks (c .text) view (c .request) s
-  marked-there (of-another w f b) view = mark-over (c .text) view (c .request) (b .value) (begun-says b)
+  marked-there : Heard → (terms : Terms) → MarkIs (c .text) terms (c .request) (markOver (c .text) terms (c .request))
+  marked-there (of-the-system w s) terms = system-marks (c .text) terms (c .request) s
+  marked-there (of-another w f b) terms = mark-over (c .text) terms (c .request) (b .value) (begun-says b)
 
   -- a call with another start row is not refused either
   starts-at : (row : ℕ) → Wellasked (again c row (c .sheet) (c .at)) → Heard → SheetRefused (again c row (c .sheet) (c .at)) 0
@@ -143,13 +145,17 @@ module _ (c : SheetCall) where
 -- ---- the one list
 
 module _ (c : SheetCall) (h : Heard c) {base : Contents} {columns : List Column} (w : QuestionBytes (c .question) base columns) where
+  -- the terms of a combination: its attributes under the version that the table records
+  abbrev pub terms-there : List ℕ → Terms
+  terms-there choices = termsOf (recorded (c .table)) base columns choices
+
   -- what is decided of a combination
   abbrev pub of-choices : List ℕ → Decision
-  of-choices choices = decisionBy (c .question) (sectionsIn (c .question)) (c .request) (wordsIn (c .text)) choices
+  of-choices choices = decisionBy (recorded (c .table)) (c .question) (sectionsIn (c .question)) (c .request) (wordsIn (c .text)) choices
 
   -- and its mark
   abbrev pub of-marks : List ℕ → ℕ
-  of-marks choices = markThere (c .question) (sectionsIn (c .question)) (c .request) (wordsIn (c .text)) choices
+  of-marks choices = markThere (recorded (c .table)) (c .question) (sectionsIn (c .question)) (c .request) (wordsIn (c .text)) choices
 
   abbrev pub ns : List ℕ
   ns = counts columns
@@ -158,14 +164,14 @@ module _ (c : SheetCall) (h : Heard c) {base : Contents} {columns : List Column}
   lines = linesOf of-choices of-marks ns
 
   -- over its attributes
-  pub over-attributes : {choices : List ℕ} → Combination ns choices → of-choices choices ≡ decidedOver (c .text) (attributes base columns choices) (c .request)
-  over-attributes ok = decision-asked w ok (c .request) (wordsIn (c .text))
+  pub over-attributes : {choices : List ℕ} → Combination ns choices → of-choices choices ≡ decidedOver (c .text) (terms-there choices) (c .request)
+  over-attributes ok = decision-asked w ok (recorded (c .table)) (c .request) (wordsIn (c .text))
 
-  marked-over : {choices : List ℕ} → Combination ns choices → of-marks choices ≡ markOver (c .text) (attributes base columns choices) (c .request)
-  marked-over ok = mark-asked w ok (c .request) (wordsIn (c .text))
+  marked-over : {choices : List ℕ} → Combination ns choices → of-marks choices ≡ markOver (c .text) (terms-there choices) (c .request)
+  marked-over ok = mark-asked w ok (recorded (c .table)) (c .request) (wordsIn (c .text))
 
   listed-line : (l : Line) → Combination ns (l .choices) → l ≡ lineOf of-choices of-marks ns (l .choices) → isAllowed (of-choices (l .choices)) ≡ true
-      → LineOf (c .text) base columns (c .request) l
+      → LineOf (recorded (c .table)) (c .text) base columns (c .request) l
   listed-line l ok e y =
       let d = over-attributes ok in
       let o : l .outcome ≡ outcomeOf (of-choices (l .choices)) = ap (λ (x : Line). x .outcome) e in
@@ -173,36 +179,36 @@ module _ (c : SheetCall) (h : Heard c) {base : Contents} {columns : List Column}
       let m : l .mark ≡ of-marks (l .choices) = ap (λ (x : Line). x .mark) e in
       record {
         combination = ok;
-        decided = rw (o, n, d) (outcome-there c h (attributes base columns (l .choices)));
-        marked = rw (m, marked-over ok) (marked-there c h (attributes base columns (l .choices)));
+        decided = rw (o, n, d) (outcome-there c h (terms-there (l .choices)));
+        marked = rw (m, marked-over ok) (marked-there c h (terms-there (l .choices)));
         yes = yes-by-outcome (of-choices (l .choices)) o .0 y;
       }
 
-  line-listed : (l : Line) → LineOf (c .text) base columns (c .request) l → List·Memᴰ l lines
+  line-listed : (l : Line) → LineOf (recorded (c .table)) (c .text) base columns (c .request) l → List·Memᴰ l lines
   line-listed l r =
       let d = over-attributes (r .combination) in
-      let k = decided-as (c .text) (attributes base columns (l .choices)) (c .request) (r .decided) in
+      let k = decided-as (c .text) (terms-there (l .choices)) (c .request) (r .decided) in
       let o : l .outcome ≡ outcomeOf (of-choices (l .choices)) = k .0 ∙ ap outcomeOf (sym d) in
       let n : l .policy ≡ policyOf (of-choices (l .choices)) = k .1 ∙ ap policyOf (sym d) in
-      let m : l .mark ≡ of-marks (l .choices) = marked-as (c .text) (attributes base columns (l .choices)) (c .request) (r .marked) ∙ sym (marked-over (r .combination)) in
+      let m : l .mark ≡ of-marks (l .choices) = marked-as (c .text) (terms-there (l .choices)) (c .request) (r .marked) ∙ sym (marked-over (r .combination)) in
       lines-yes of-choices of-marks ns l .1 (r .combination, line-is (l .choices) o n m, yes-by-outcome (of-choices (l .choices)) o .1 (r .yes))
 
-  is-sheet : Sheet (c .text) base columns (c .request) lines
+  is-sheet : Sheet (recorded (c .table)) (c .text) base columns (c .request) lines
   is-sheet = record {
     lists = λ l. ((λ i. let y = lines-yes of-choices of-marks ns l .0 i in listed-line l (y .0) (y .1) (y .2)), line-listed l);
     in-order = lines-ordered of-choices of-marks ns;
   }
 
-  pub no-other : (others : List Line) → Sheet (c .text) base columns (c .request) others → others ≡ lines
+  pub no-other : (others : List Line) → Sheet (recorded (c .table)) (c .text) base columns (c .request) others → others ≡ lines
   no-other others s =
       one-list others lines (s .in-order) (is-sheet .in-order) (λ l i. is-sheet .lists l .1 (s .lists l .0 i)) (λ l i. s .lists l .1 (is-sheet .lists l .0 i))
 
   -- ---- its pages
 
-  pub decisions-are : decisions (c .text) (c .question) (c .request) ≡ decidedAt of-choices ns
+  pub decisions-are : decisions (c .text) (c .table) (c .question) (c .request) ≡ decidedAt of-choices ns
   decisions-are = ap {B = ℕ → Decision} (λ ks row. of-choices (choicesAt ks row)) (counts-asked w)
 
-  marks-are : rowMarks (c .text) (c .question) (c .request) ≡ markedAt of-marks ns
+  marks-are : rowMarks (c .text) (c .table) (c .question) (c .request) ≡ markedAt of-marks ns
   marks-are = ap {B = ℕ → ℕ} (λ ks row. of-marks (choicesAt ks row)) (counts-asked w)
 
   -- what a call for a page of it writes
@@ -215,7 +221,7 @@ module _ (c : SheetCall) (h : Heard c) {base : Contents} {columns : List Column}
       let after = drop at (sheetFor (again c start sheet at)) in
       subst (λ (rows : ℕ). PageWritten (decidedAt of-choices ns) (markedAt of-marks ns) rows start (drop at sheet) p after) (rows-asked w)
       (subst (λ (m : ℕ → ℕ). PageWritten (decidedAt of-choices ns) m (rowsAsked (c .question)) start (drop at sheet) p after) marks-are
-      (subst (λ (d : ℕ → Decision). PageWritten d (rowMarks (c .text) (c .question) (c .request)) (rowsAsked (c .question)) start (drop at sheet) p after) decisions-are
+      (subst (λ (d : ℕ → Decision). PageWritten d (rowMarks (c .text) (c .table) (c .question) (c .request)) (rowsAsked (c .question)) start (drop at sheet) p after) decisions-are
       (sheets-proofs.page-written (c .text) (c .table) (c .question) (c .request) start sheet at e)))
 
   within : (start : ℕ) (sheet : List ℕ) (at : ℕ) → pageFor (again c start sheet at) .refusal ≡ 0 → start ≤ product ns
@@ -276,11 +282,12 @@ the-sheet c e =
 
 pub decided-alike : (c : DecideCall) (contents base : Contents) (columns : List Column) (choices : List ℕ) → decisionFor c .refusal ≡ 0 → BagBytes (c .bag) contents
     → Shows contents base columns choices
-    → OutcomeIs (c .text) (attributes base columns choices) (c .request) (decisionFor c .outcome) (decisionFor c .policy)
-    × MarkIs (c .text) (attributes base columns choices) (c .request) (decisionFor c .mark)
+    → OutcomeIs (c .text) (termsOf (recorded (c .table)) base columns choices) (c .request) (decisionFor c .outcome) (decisionFor c .policy)
+    × MarkIs (c .text) (termsOf (recorded (c .table)) base columns choices) (c .request) (decisionFor c .mark)
 decided-alike c contents base columns choices e w shows =
     let same : look (asBag contents) ≡ attributes base columns choices = fun-ext (λ root. fun-ext (shows root)) in
-    subst (λ (view : View). OutcomeIs (c .text) view (c .request) (decisionFor c .outcome) (decisionFor c .policy) × MarkIs (c .text) view (c .request) (decisionFor c .mark)) same
+    subst (λ (view : View). OutcomeIs (c .text) (under (recorded (c .table)) view) (c .request) (decisionFor c .outcome) (decisionFor c .policy)
+    × MarkIs (c .text) (under (recorded (c .table)) view) (c .request) (decisionFor c .mark)) same
     (outcome-rightly c contents e w, mark-exactly c contents e w)
 
 -- ---- to the last page
@@ -336,11 +343,11 @@ to-the-last c e =
 
 -- ---- what a text says
 
-pub words-list : (text text′ table table′ question : List ℕ) (q : Request) (start : ℕ) (sheet : List ℕ) (at : ℕ) → SayAlike text text′ → Begun text table
-    → Begun text′ table′
+pub words-list : (text text′ table table′ question : List ℕ) (q : Request) (start : ℕ) (sheet : List ℕ) (at : ℕ) → SayAlike text text′
+    → recorded table ≡ recorded table′ → Begun text table → Begun text′ table′
     → (sheetSays text table question q start sheet at ≡ sheetSays text′ table′ question q start sheet at)
     × (sheetLeaves text table question q start sheet at ≡ sheetLeaves text′ table′ question q start sheet at)
 unfolding sheetSays ListedAlike
-words-list text text′ table table′ question q start sheet at a b b′ =
-    let k = sheets-proofs.listed-alike text text′ table table′ question q start sheet at (alike-words a) b b′ in
+words-list text text′ table table′ question q start sheet at a v b b′ =
+    let k = sheets-proofs.listed-alike text text′ table table′ question q start sheet at (alike-words a) v b b′ in
     (rw (k .0), k .1)

@@ -7,14 +7,16 @@ use Prim.Native.Nat.{ℕ, suc, _+_, _-_, _*_, _≤_, _<_, zero-le}
 use native.Mathlib.Decide.{decLt}
 use native.Mathlib.Omega.{arith}
 use lib.ListN.{length, getD, take, drop, replicate, length-append, length-map, length-replicate, getD-replicate}
+use Rattle.grammar.specs.declared.Version.{Version}
+use Rattle.table.specs.Recorded.{recorded}
 use Rattle.compiling.specs.Promise.{Begun}
 use Rattle.bags.specs.Forms.{Contents}
 use Rattle.questions.specs.Forms.{Column, QuestionBytes}
 use Rattle.questions.specs.Questions.{product}
-use Rattle.views.specs.Meaning.{View, look}
+use Rattle.views.specs.Meaning.{look}
 use Rattle.views.specs.Rows.{bagOfRow}
 use Rattle.meaning.specs.Targets.{Request}
-use Rattle.meaning.specs.Decisions.{Numbered, outcomeOf, policyOf, isAllowed}
+use Rattle.meaning.specs.Decisions.{Terms, under, Numbered, outcomeOf, policyOf, isAllowed}
 use Rattle.meaning.specs.declared.Decision.{Decision}
 use Rattle.meaning.proofs.Deciding.{numbered-few}
 use Rattle.deciding.specs.Answers.{wordsIn}
@@ -41,7 +43,7 @@ use Rattle.tallies.proofs.Deciders.{decided-some, counts-outcome, counts-policy
 use Rattle.tallies.proofs.Promised as tallies-proofs
 use Rattle.tallies.proofs.Promised.{tally-heard, counts-there, requests-many}
 use Rattle.desk.specs.Answers.{tallySays, refusalFor, countsFor}
-use Rattle.desk.specs.Promises.{OutcomeIs, attributes, Sheet, groupIn, ofOutcome, ofPolicy, TallyOf, TheTally}
+use Rattle.desk.specs.Promises.{OutcomeIs, termsOf, Sheet, groupIn, ofOutcome, ofPolicy, TallyOf, TheTally}
 use Rattle.desk.proofs.RequestsPromised.{among, decidedOver, decided-as, policy-few}
 use Rattle.desk.proofs.SheetsPromised as sheets-desk
 use Rattle.desk.proofs.SheetsPromised.{Heard, of-the-system, of-another, outcome-there, of-choices, of-marks, over-attributes, no-other, decisions-are}
@@ -103,9 +105,9 @@ one-many ns Such n n′ a b =
         let r = Memᴰ·of-map asLine (x .those) i in
         subst (λ (l : Line). List·Memᴰ l (map asLine (y .those))) (r .2) (Memᴰ·map asLine (y .lists (r .0) .1 (x .lists (r .0) .0 (r .1))))
 
-pub one-tally : (text : List ℕ) (base : Contents) (columns : List Column) (q : Request) (group group′ : List ℕ)
-    → TallyOf text base columns q group → TallyOf text base columns q group′ → (k : ℕ) → k < groupSize → getD group k 0 ≡ getD group′ k 0
-one-tally text base columns q group group′ a b k h = elim (decLt k 4) [
+pub one-tally : (version : Version) (text : List ℕ) (base : Contents) (columns : List Column) (q : Request) (group group′ : List ℕ)
+    → TallyOf version text base columns q group → TallyOf version text base columns q group′ → (k : ℕ) → k < groupSize → getD group k 0 ≡ getD group′ k 0
+one-tally version text base columns q group group′ a b k h = elim (decLt k 4) [
   | yes l ↦
       let e : k + 1 - 1 ≡ k = omega arith in
       let same = one-many _ _ _ _ (a .outcomes (k + 1) (omega arith) (omega arith)) (b .outcomes (k + 1) (omega arith) (omega arith)) in
@@ -140,7 +142,7 @@ module _ (text table question : List ℕ) (q : Request) (a : Passes text table q
   ns = counts columns
 
   abbrev group : List ℕ
-  group = groupFor text question (sectionsIn question) q
+  group = groupFor text table question (sectionsIn question) q
 
   group-is : group ≡ tallyOf (decidedAt of ns) (product ns)
   group-is = ap (λ (d : ℕ → Decision). tallyOf d (rowsAsked question)) (decisions-are call h w) ∙ ap (tallyOf (decidedAt of ns)) (rows-asked w)
@@ -149,32 +151,32 @@ module _ (text table question : List ℕ) (q : Request) (a : Passes text table q
   count-is k l = ap (λ (g : List ℕ). getD g k 0) group-is ∙ group-at (decidedAt of ns) (product ns) k l
 
   -- what is decided over a combination's attributes
-  decided-there : {choices : List ℕ} → Combination ns choices → OutcomeIs text (attributes base columns choices) q (outcomeOf (of choices)) (policyOf (of choices))
-  decided-there {choices} ok = rw (over-attributes call h w ok) (outcome-there call h (attributes base columns choices))
+  decided-there : {choices : List ℕ} → Combination ns choices → OutcomeIs text (termsOf (recorded table) base columns choices) q (outcomeOf (of choices)) (policyOf (of choices))
+  decided-there {choices} ok = rw (over-attributes call h w ok) (outcome-there call h (termsOf (recorded table) base columns choices))
 
-  told-there : {choices : List ℕ} {o n : ℕ} → Combination ns choices → OutcomeIs text (attributes base columns choices) q o n
+  told-there : {choices : List ℕ} {o n : ℕ} → Combination ns choices → OutcomeIs text (termsOf (recorded table) base columns choices) q o n
       → (outcomeOf (of choices) ≡ o) × (policyOf (of choices) ≡ n)
   told-there {choices} ok r =
       let d = over-attributes call h w ok in
-      let k = decided-as text (attributes base columns choices) q r in
+      let k = decided-as text (termsOf (recorded table) base columns choices) q r in
       (ap outcomeOf d ∙ sym (k .0), ap policyOf d ∙ sym (k .1))
 
-  outcomes : (o : ℕ) → 1 ≤ o → o ≤ 4 → SoMany ns (λ choices. (policy : ℕ) × OutcomeIs text (attributes base columns choices) q o policy) (ofOutcome group o)
+  outcomes : (o : ℕ) → 1 ≤ o → o ≤ 4 → SoMany ns (λ choices. (policy : ℕ) × OutcomeIs text (termsOf (recorded table) base columns choices) q o policy) (ofOutcome group o)
   outcomes o some few =
-      subst (λ (m : ℕ). SoMany ns (λ choices. (policy : ℕ) × OutcomeIs text (attributes base columns choices) q o policy) m) (sym (count-is (o - 1) (omega arith)))
+      subst (λ (m : ℕ). SoMany ns (λ choices. (policy : ℕ) × OutcomeIs text (termsOf (recorded table) base columns choices) q o policy) m) (sym (count-is (o - 1) (omega arith)))
       (such-alike
       (λ choices ok. (
-        (λ t. (policyOf (of choices), subst (λ (x : ℕ). OutcomeIs text (attributes base columns choices) q x (policyOf (of choices))) (counts-outcome o some few (of choices) .0 t) (decided-there ok))),
+        (λ t. (policyOf (of choices), subst (λ (x : ℕ). OutcomeIs text (termsOf (recorded table) base columns choices) q x (policyOf (of choices))) (counts-outcome o some few (of choices) .0 t) (decided-there ok))),
         λ r. counts-outcome o some few (of choices) .1 (told-there ok (r .1) .0),
       ))
       (so-many (λ choices. countsAt (o - 1) (of choices)) ns))
 
-  policies : (n : ℕ) → 1 ≤ n → n ≤ 64 → SoMany ns (λ choices. (outcome : ℕ) × OutcomeIs text (attributes base columns choices) q outcome n) (ofPolicy group n)
+  policies : (n : ℕ) → 1 ≤ n → n ≤ 64 → SoMany ns (λ choices. (outcome : ℕ) × OutcomeIs text (termsOf (recorded table) base columns choices) q outcome n) (ofPolicy group n)
   policies n some few =
-      subst (λ (m : ℕ). SoMany ns (λ choices. (outcome : ℕ) × OutcomeIs text (attributes base columns choices) q outcome n) m) (sym (count-is (n + 3) (omega arith)))
+      subst (λ (m : ℕ). SoMany ns (λ choices. (outcome : ℕ) × OutcomeIs text (termsOf (recorded table) base columns choices) q outcome n) m) (sym (count-is (n + 3) (omega arith)))
       (such-alike
       (λ choices ok. (
-        (λ t. (outcomeOf (of choices), subst (λ (x : ℕ). OutcomeIs text (attributes base columns choices) q (outcomeOf (of choices)) x) (counts-policy n (of choices) some .0 t) (decided-there ok))),
+        (λ t. (outcomeOf (of choices), subst (λ (x : ℕ). OutcomeIs text (termsOf (recorded table) base columns choices) q (outcomeOf (of choices)) x) (counts-policy n (of choices) some .0 t) (decided-there ok))),
         λ r. counts-policy n (of choices) some .1 (told-there ok (r .1) .1),
       ))
       (so-many (λ choices. countsAt (n + 3) (of choices)) ns))
@@ -184,16 +186,16 @@ module _ (text table question : List ℕ) (q : Request) (a : Passes text table q
   unfolding decisionBy
   countable row =
       let p = sectionsIn question in
-      let view : View = look (bagOfRow question p (columnsIn question p) (firstIn p) (choicesAt ns row)) in
-      record { some = decided-some view q (wordsIn text); few = policy-few text view q _ _ (outcome-there call h view) }
+      let terms : Terms = under (recorded table) (look (bagOfRow question p (columnsIn question p) (firstIn p) (choicesAt ns row))) in
+      record { some = decided-some terms q (wordsIn text); few = policy-few text terms q _ _ (outcome-there call h terms) }
 
-  listed-as : (lines : List Line) → Sheet text base columns q lines → length lines ≡ ofOutcome group 1 + ofOutcome group 4
+  listed-as : (lines : List Line) → Sheet (recorded table) text base columns q lines → length lines ≡ ofOutcome group 1 + ofOutcome group 4
   listed-as lines s =
       ap length (no-other call h w lines s) ∙ length-map (listed (decidedAt of ns) (product ns) 0) (lineAt of (of-marks call h w) ns) ∙ listed-many (decidedAt of ns) (product ns)
       ∙ yes-counted (decidedAt of ns) (product ns)
       ∙ (let x = count-is 0 (omega arith) in let y = count-is 3 (omega arith) in omega (arith, x, y))
 
-  tally-of : TallyOf text base columns q group
+  tally-of : TallyOf (recorded table) text base columns q group
   tally-of = record {
     outcomes = outcomes;
     policies = policies;
@@ -209,10 +211,10 @@ module _ (c : TallyCall) (e : refusalFor c ≡ 0) where
   qs = requestsOf (c .many) (c .requests)
 
   abbrev groups-by : Request → List ℕ
-  groups-by q = groupFor (c .text) (c .question) (sectionsIn (c .question)) q
+  groups-by q = groupFor (c .text) (c .table) (c .question) (sectionsIn (c .question)) q
 
   long-by : (q : Request) → length (groups-by q) ≡ groupSize
-  long-by q = group-long (decisions (c .text) (c .question) q) (rowsAsked (c .question))
+  long-by q = group-long (decisions (c .text) (c .table) (c .question) q) (rowsAsked (c .question))
 
   abbrev groups : List ℕ
   groups = groupsOf groupCount groups-by qs
@@ -245,7 +247,7 @@ module _ (c : TallyCall) (e : refusalFor c ≡ 0) where
         lent = t .lent;
         counted = λ k q i.
             let l : k < groupCount = omega (arith, numbered-few i, requests-many (c .many) (c .requests), t .few) in
-            subst (λ (g : List ℕ). TallyOf (c .text) (t .base) (t .columns) q g)
+            subst (λ (g : List ℕ). TallyOf (recorded (c .table)) (c .text) (t .base) (t .columns) q g)
             (sym (group-are k l ∙ group-there groups-by long-by i groupCount k refl l (sumsOf groups)))
             (tally-of (c .text) (c .table) (c .question) q (t .accepted i) (t .question-says));
         others-none = λ k i m l h.

@@ -3,6 +3,8 @@ use mathlib.Core.Bool.{Bool, cond}
 use mathlib.Core.List.{List}
 use Prim.Native.Nat.{ℕ}
 use lib.ListN.{length}
+use Rattle.grammar.specs.Versions.{versionNumber}
+use Rattle.grammar.specs.declared.Version.{Version}
 use Rattle.compiling.specs.Outcome as compiling
 use Rattle.compiling.specs.Outcome.{spot}
 use Rattle.compiling.specs.declared.Spot.{Spot}
@@ -26,7 +28,7 @@ use Rattle.desk.specs.declared.DeskString.{DeskString}
 use Rattle.desk.specs.declared.DeskPage.{DeskPage}
 use Rattle.desk.specs.declared.DeskLock.{DeskLock}
 
--- ---- compile(text, table)
+-- ---- compile(text, table, version)
 
 -- the refusal with its place and length, or the policies and bytes used
 abbrev pub compiledAs : compiling.CompileSaid → DeskCompiled
@@ -37,13 +39,20 @@ compiledAs s =
 abbrev pub spotSaid : DeskCompiled → Spot
 spotSaid c = spot (c .line) (c .column) (c .length)
 
--- what is answered
-unfoldable pub compileSays : List ℕ → List ℕ → DeskCompiled
-compileSays text table = compiledAs (compiling.compileSaid (compiling.compiledOf text (length table)))
+-- what is answered, where this number names the version
+unfoldable pub compileSays : ℕ → List ℕ → List ℕ → DeskCompiled
+compileSays number text table = compiledAs (compiling.compileSaid (compiling.compiledOf number text (length table)))
 
 -- the table afterwards
-abbrev pub compileLeaves : List ℕ → List ℕ → List ℕ
-compileLeaves text table = compiling.tableAfter text table
+abbrev pub compileLeaves : ℕ → List ℕ → List ℕ → List ℕ
+compileLeaves number text table = compiling.tableAfter number text table
+
+-- the same under a version, by its number
+abbrev pub saysUnder : Version → List ℕ → List ℕ → DeskCompiled
+saysUnder version text table = compileSays (versionNumber version) text table
+
+abbrev pub leavesUnder : Version → List ℕ → List ℕ → List ℕ
+leavesUnder version text table = compileLeaves (versionNumber version) text table
 
 -- ---- begins(text, table)
 

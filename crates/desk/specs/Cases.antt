@@ -1,11 +1,13 @@
--- Document 01's checked examples over the desk's answers: A to L as one statement, C to F with document 02's lengths, decisions and rows with its marks; and
--- the worked example. Definitions only.
+-- Document 01's checked examples over the desk's answers: A to L as one statement, C to F with document 02's lengths, decisions and rows with its marks, and
+-- case I under version 2; and the worked example, under version 1. Definitions only.
 use mathlib.Core.Path.{_≡_}
 use mathlib.Core.List.{List, [], _∷_, _++_}
 use Prim.Native.Nat.{ℕ, zero, suc, _*_}
 use Prim.Native.String.{String}
 use lib.ListN.{length, take}
 use Rattle.slices.specs.Ascii.{bytes}
+use Rattle.grammar.specs.declared.Version.{Version}
+use Rattle.grammar.specs.declared.Version.the-variants.{First, Second}
 use Rattle.compiling.specs.Promise.{bytesFor}
 use Rattle.compiling.specs.Outcome.{roomFor}
 use Rattle.meaning.specs.Targets.{Request}
@@ -23,9 +25,9 @@ abbrev pub zeros : ℕ → List ℕ
 zeros zero = []
 zeros (suc n) = 0 ∷ zeros n
 
--- what compiling answers where just enough table is lent
+-- what compiling under version 1 answers where just enough table is lent
 abbrev pub compiled : List ℕ → DeskCompiled
-compiled text = compileSays text (zeros (roomFor text))
+compiled text = compileSays 1 text (zeros (roomFor text))
 
 -- a refusal with its line, its column and the length of its token
 abbrev pub refusedAt : ℕ → ℕ → ℕ → ℕ → DeskCompiled
@@ -42,9 +44,13 @@ P-when condition = P ++ bytes "when{" ++ bytes condition ++ bytes "};"
 abbrev pub K7 : Request
 K7 = record { subject = bytes "person:K7"; action = bytes "teach"; resource = bytes "shaft:A" }
 
--- what is decided then where no attribute is known, over a text and its compiled bytes
+-- what is decided then where no attribute is known, over a text and its compiled bytes under a version
+abbrev pub decidedUnder : Version → List ℕ → DeskDecision
+decidedUnder version text = decideSays text (bytesFor version text) (0 ∷ 0 ∷ 0 ∷ []) K7
+
+-- under version 1
 abbrev pub decided : List ℕ → DeskDecision
-decided text = decideSays text (bytesFor text) (0 ∷ 0 ∷ 0 ∷ []) K7
+decided text = decidedUnder First text
 
 -- an outcome with its policy and its mark
 abbrev pub outcome : ℕ → ℕ → ℕ → DeskDecision
@@ -57,6 +63,13 @@ Holds condition = decided (P-when condition) ≡ outcome 1 1 1
 abbrev pub Fails : String → Type 0
 Fails condition = decided (P-when condition) ≡ outcome 3 0 0
 
+-- the same under version 2
+abbrev pub HoldsSecond : String → Type 0
+HoldsSecond condition = decidedUnder Second (P-when condition) ≡ outcome 1 1 1
+
+abbrev pub FailsSecond : String → Type 0
+FailsSecond condition = decidedUnder Second (P-when condition) ≡ outcome 3 0 0
+
 -- document 01's table, row by row
 pub record CasesAtoL : Type 0 where
   pub A : (compiled [] .refusal ≡ 0) × (compiled [] .policies ≡ 0)
@@ -68,9 +81,22 @@ pub record CasesAtoL : Type 0 where
   pub G : Holds "true || false && false"
   pub H : Fails "if true then true else true && false"
   pub I : Fails "principal.a != \"x\"" × Holds "!(principal.a != \"x\")"
+  -- document 02: under version 2 case I is unsatisfied both ways
+  pub I-second : FailsSecond "principal.a != \"x\"" × FailsSecond "!(principal.a != \"x\")"
   pub J : Holds "\"shaft:A1\" like \"shaft:*\"" × Holds "\"shaft:\" like \"shaft:*\"" × Fails "\"shaft:b:A1\" like \"shaft:*\""
   pub K : Holds "\"A1A1\" like \"*A1\""
   pub L : decided (P ++ bytes ";forbid(principal,action,resource);") ≡ outcome 2 2 3
+
+-- parts that are not met do not matter under version 2: `&&` stops at false, `||` at true, `if` meets only the chosen branch
+pub record MetInOrder : Type 0 where
+  pub after-false : HoldsSecond "!(false && principal.a == 1)"
+  pub after-true : HoldsSecond "true || principal.a == 1"
+  pub not-else : HoldsSecond "if true then true else principal.a == 1"
+  pub not-then : HoldsSecond "if false then principal.a == 1 else true"
+  -- but an absent part that is met first beats a later false, and both operands are met though their kinds differ; `has` never misses
+  pub met-first : FailsSecond "!(principal.a == 1 && false)"
+  pub both-met : FailsSecond "!(1 in principal.a)"
+  pub has-meets : HoldsSecond "!(principal has a)"
 
 -- ---- the worked example: document 01's two policies, and the request person:K7, teach, shaft:A
 
@@ -95,10 +121,10 @@ gradeThree = (1 ∷ 5 ∷ []) ++ bytes "grade" ++ (2 ∷ 0 ∷ 0 ∷ 0 ∷ 0 ∷
 pub record WorkedExample : Type 0 where
   -- rows 9; 3 1 1 1; 4 1 1 1; allowed 2
   pub rows : rowsSay question ≡ 9
-  pub listed : sheetSays rules (bytesFor rules) question K7 0 (zeros 126) 0 ≡ record { refusal = 0; written = 2; next = 9 }
-  pub written : take 28 (sheetLeaves rules (bytesFor rules) question K7 0 (zeros 126) 0)
+  pub listed : sheetSays rules (bytesFor First rules) question K7 0 (zeros 126) 0 ≡ record { refusal = 0; written = 2; next = 9 }
+  pub written : take 28 (sheetLeaves rules (bytesFor First rules) question K7 0 (zeros 126) 0)
       ≡ 3 ∷ 0 ∷ 0 ∷ 0 ∷ 1 ∷ 1 ∷ 1 ∷ 0 ∷ 0 ∷ 0 ∷ 0 ∷ 0 ∷ 0 ∷ 0 ∷ 4 ∷ 0 ∷ 0 ∷ 0 ∷ 1 ∷ 1 ∷ 1 ∷ 0 ∷ 0 ∷ 0 ∷ 0 ∷ 0 ∷ 0 ∷ 0 ∷ []
   -- row 3, second choice and first, is the bag that knows grade 3 and nothing else, and is decided so
   pub row-three : (contents base : Contents) (columns : List Column) → BagBytes gradeThree contents → QuestionBytes question base columns
       → (rowOf (counts columns) (1 ∷ 0 ∷ []) ≡ 3) × Shows contents base columns (1 ∷ 0 ∷ [])
-  pub decided-three : decideSays rules (bytesFor rules) gradeThree K7 ≡ outcome 1 1 1
+  pub decided-three : decideSays rules (bytesFor First rules) gradeThree K7 ≡ outcome 1 1 1

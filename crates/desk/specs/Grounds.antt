@@ -13,7 +13,7 @@ use Rattle.slices.specs.Decides.{Decides}
 use Rattle.utf8.specs.Characters.{Spells, Utf8}
 use Rattle.utf8.specs.Reading.{utf8, points}
 use Rattle.tokens.specs.Forms.{StandsAt}
-use Rattle.tokens.specs.Places.{OneColumn}
+use Rattle.places.specs.Places.{OneColumn}
 use Rattle.tokens.specs.Tokens.{tokenAt}
 use Rattle.tokens.specs.declared.reader.Token.{Token}
 use Rattle.tokens.specs.Sizes.{mostDigits}
@@ -23,6 +23,7 @@ use Rattle.numbers.specs.Literals.{NumberLiteral, WellFormed, literalBytes, sig
 use Rattle.patterns.specs.Like.{Matches}
 use Rattle.patterns.specs.Likes.{likes, likesText}
 use Rattle.grammar.specs.Policies.{Policy}
+use Rattle.grammar.specs.declared.Version.{Version}
 use Rattle.placing.specs.Placed.{Each, PoliciesPlaced}
 use Rattle.placing.specs.Said.{wordsOf}
 use Rattle.placing.specs.Words.{SameWords}
@@ -81,9 +82,9 @@ pub record Grounds : Type 0 where
   pub text-decides : (pattern s : List ℕ) → Decides (Utf8 s × Matches (points pattern) (points s)) (likesText pattern s)
   -- The strings, numbers and paths of a text's policies lie in the text and have their forms and sizes there.
   pub policies-placed : (text : List ℕ) (ps : List Policy) → Says text ps → PoliciesPlaced text ps
-  -- A table that begins with a text's compiled bytes says the text's policies.
-  pub compiled-says : (text table : List ℕ) (ps : List Policy) → Says text ps → Begins (compiledBytes ps) table
-      → policiesAt table (length (policiesEntries 0 ps)) ≡ ps
+  -- A table that begins with a text's compiled bytes, under either version, says the text's policies.
+  pub compiled-says : (version : Version) (text table : List ℕ) (ps : List Policy) → Says text ps → Begins (compiledBytes version ps) table
+      → policiesAt table (length (policiesEntries version 0 ps)) ≡ ps
   -- The policies are said without the text's other bytes: what they say depends on the bytes at the places that they hold.
   pub said-alike : (text text' : List ℕ) (ps : List Policy) → Each (SameWords text text') ps → wordsOf text ps ≡ wordsOf text' ps
   -- A bag is the three sections, with nothing after them: `isBag` takes these bytes and no others, and they say one bag.

@@ -1,4 +1,5 @@
--- The desk's promises on one page: the three demands, the tally, what a look-up finds, when each refusal is given, and that every call has one result.
+-- The desk's promises on one page: the three demands, the versions of the rules, the tally, what a look-up finds, when each refusal is given, locks, and that
+-- every call has one result.
 -- proofs/Promised.antt proves each record. Definitions only.
 -- `compileSays`, `decisionFor`, `lookupSays`, `pageFor` and `refusalFor` are what the calls answer, `compileLeaves`, `sheetFor` and `countsFor` what they leave
 -- in the table, the sheet and the counts (Answers.antt; src/lib.rt has the contracts). That every call ends and reads nothing outside what it is lent is what the
@@ -15,8 +16,13 @@ use Rattle.tokens.specs.Sizes.{mostTextBytes, mostPolicies}
 use Rattle.numbers.specs.Bits.{numberAt}
 use Rattle.grammar.specs.Policies.{Policy, PolicyOf, any, pinned, oneOf, text}
 use Rattle.grammar.specs.Grammar.{SaysPolicies}
+use Rattle.grammar.specs.Versions.{versionNumber}
+use Rattle.grammar.specs.declared.Version.{Version}
+use Rattle.grammar.specs.declared.Version.the-variants.{First, Second}
+use Rattle.slices.specs.Parts.{Begins}
+use Rattle.table.specs.Recorded.{recorded}
 use Rattle.compiling.specs.Outcome.{roomFor, compiledBytes, spot, nowhere}
-use Rattle.compiling.specs.Promise.{RefusedThere, Lengths, Begun}
+use Rattle.compiling.specs.Promise.{RefusedThere, Lengths, NoVersion, Begun}
 use Rattle.compiling.specs.declared.Spot.{Spot}
 use Rattle.bags.specs.Forms.{Contents, BagBytes, NoBag}
 use Rattle.bags.specs.Reading.{byte}
@@ -33,7 +39,8 @@ use Rattle.views.specs.Values.{stringAt, listAt}
 use Rattle.views.specs.Rows.{pickedAll}
 use Rattle.placing.specs.Said.{Word, wordsOf}
 use Rattle.meaning.specs.Targets.{Request, isSystem}
-use Rattle.meaning.specs.Decisions.{satisfied, Numbered, SomeSatisfied, LowestSatisfied, BitSet, SatisfiedAt}
+use Rattle.meaning.specs.Decisions.{Terms, under, satisfied, Numbered, SomeSatisfied, LowestSatisfied, BitSet, SatisfiedAt}
+use Rattle.meaning.specs.Versions.{MissingExactly, SecondExactly, SatisfiedSecond}
 use Rattle.meaning.specs.Decisions.{outcomeOf, policyOf, effectsOf, decidedBy}
 use Rattle.deciding.specs.Promise.{DecideCall, DecideRefused}
 use Rattle.lookups.specs.Lookups.{lookupOf, startOf, lengthOf}
@@ -51,7 +58,7 @@ use Rattle.locks.specs.Forms.{NoLock}
 use Rattle.locks.specs.Promise as locks
 use Rattle.locks.specs.Promise.{LockCall, permitFor}
 use Rattle.desk.specs.Answers.{lockSays, lockLeaves, lockFor, lockRoom}
-use Rattle.desk.specs.Answers.{spotSaid, compileSays, compileLeaves, beginsSays, decideSays, decisionFor, lookupSays, stringSays}
+use Rattle.desk.specs.Answers.{spotSaid, compileSays, compileLeaves, saysUnder, leavesUnder, beginsSays, decideSays, decisionFor, lookupSays, stringSays}
 use Rattle.desk.specs.Answers.{sheetSays, sheetLeaves, pageFor, sheetFor, tallySays, tallyLeaves, refusalFor, countsFor, rowsSay}
 use Rattle.desk.specs.declared.DeskCompiled.{DeskCompiled}
 use Rattle.desk.specs.declared.DeskDecision.{DeskDecision}
@@ -65,19 +72,20 @@ use Rattle.desk.specs.declared.DeskLock.{DeskLock}
 
 pub record DemandOne : Type 0 where
   -- the refusals that each call can give; 0 is none
-  pub compile-refusals : (text table : List ℕ) → compileSays text table .refusal ≤ 17
+  pub compile-refusals : (number : ℕ) (text table : List ℕ) → (compileSays number text table .refusal ≤ 17) ⊎ (compileSays number text table .refusal ≡ 30)
   pub decide-refusals : (c : DecideCall) → List·Memᴰ (decisionFor c .refusal) (0 ∷ 20 ∷ 21 ∷ 22 ∷ 23 ∷ 24 ∷ [])
   pub lookup-refusals : (bag : List ℕ) (root : ℕ) (path : List ℕ) → List·Memᴰ (lookupSays bag root path .refusal) (0 ∷ 24 ∷ [])
   pub sheet-refusals : (c : SheetCall) → List·Memᴰ (pageFor c .refusal) (0 ∷ 20 ∷ 21 ∷ 22 ∷ 23 ∷ 24 ∷ 25 ∷ 26 ∷ [])
   pub tally-refusals : (c : TallyCall) → List·Memᴰ (refusalFor c) (0 ∷ 20 ∷ 21 ∷ 22 ∷ 23 ∷ 24 ∷ 27 ∷ [])
-  -- refusals 3 to 17 stand at the one token before which nothing is broken and at which a rule is, with its line, column and length; 1 and 2 have the
+  -- refusals 3 to 17 stand at the one token before which nothing is broken and at which a rule is, with its line, column and length; 1, 2 and 30 have the
   -- place 0, 0 and the length 0
-  pub placed : (text table : List ℕ) → 2 < compileSays text table .refusal
-      → RefusedThere text (compileSays text table .refusal) (spotSaid (compileSays text table))
+  pub placed : (number : ℕ) (text table : List ℕ) → 2 < compileSays number text table .refusal → compileSays number text table .refusal ≤ 17
+      → RefusedThere text (compileSays number text table .refusal) (spotSaid (compileSays number text table))
   pub lengths : (text : List ℕ) (number : ℕ) (at : Spot) (r : RefusedThere text number at) → Lengths text number (at .length) (r .rest)
-  pub no-place : (text table : List ℕ) → compileSays text table .refusal ≤ 2 → spotSaid (compileSays text table) ≡ nowhere
+  pub no-place : (number : ℕ) (text table : List ℕ)
+      → (compileSays number text table .refusal ≤ 2) ⊎ (compileSays number text table .refusal ≡ 30) → spotSaid (compileSays number text table) ≡ nowhere
   -- a refused call changes nothing
-  pub table-stays : (text table : List ℕ) → (compileSays text table .refusal ≡ 0 → ⊥) → compileLeaves text table ≡ table
+  pub table-stays : (number : ℕ) (text table : List ℕ) → (compileSays number text table .refusal ≡ 0 → ⊥) → compileLeaves number text table ≡ table
   pub sheet-stays : (c : SheetCall) → (pageFor c .refusal ≡ 0 → ⊥) → sheetFor c ≡ c .sheet
   pub tally-stays : (c : TallyCall) → (refusalFor c ≡ 0 → ⊥) → countsFor c ≡ c .counts
   -- the same of locks (document 02, request 2)
@@ -111,76 +119,99 @@ pub data Yes (outcome : ℕ) : Type 0 where
   allowed : outcome ≡ 1 → Yes outcome
   system : outcome ≡ 4 → Yes outcome
 
--- over what the bag holds some permit that the text says is satisfied, and no forbid is
-pub record Granted (text bag : List ℕ) (q : Request) : Type 0 where
+-- under a version, over what the bag holds, some permit that the text says is satisfied, and no forbid is
+pub record Granted (version : Version) (text bag : List ℕ) (q : Request) : Type 0 where
   pub policies : List Policy
   pub says : Says text policies
   pub contents : Contents
   pub bag-says : BagBytes bag contents
-  pub permit : SomeSatisfied (look (asBag contents)) q (wordsOf text policies) true
-  pub no-forbid : SomeSatisfied (look (asBag contents)) q (wordsOf text policies) false → ⊥
+  pub permit : SomeSatisfied (under version (look (asBag contents))) q (wordsOf text policies) true
+  pub no-forbid : SomeSatisfied (under version (look (asBag contents))) q (wordsOf text policies) false → ⊥
 
 -- For any subject but the system the answer names the lowest-numbered satisfied forbid, else the lowest-numbered satisfied permit, else none; for the system it
 -- names none.
 
--- outcome and policy over these attributes: 1 where a permit decides, 2 where a forbid does, 3 where nothing is satisfied, 4 for the system, the last two with
+-- outcome and policy on these terms: 1 where a permit decides, 2 where a forbid does, 3 where nothing is satisfied, 4 for the system, the last two with
 -- policy 0
-pub data OutcomeIs (text : List ℕ) (view : View) (q : Request) : ℕ → ℕ → Type 0 where
+pub data OutcomeIs (text : List ℕ) (terms : Terms) (q : Request) : ℕ → ℕ → Type 0 where
   by-permit : {n : ℕ} {ps : List Policy} → isSystem (q .subject) ≡ false → Says text ps
-      → (SomeSatisfied view q (wordsOf text ps) false → ⊥) → LowestSatisfied view q (wordsOf text ps) true n → OutcomeIs text view q 1 n
+      → (SomeSatisfied terms q (wordsOf text ps) false → ⊥) → LowestSatisfied terms q (wordsOf text ps) true n → OutcomeIs text terms q 1 n
   by-forbid : {n : ℕ} {ps : List Policy} → isSystem (q .subject) ≡ false → Says text ps
-      → LowestSatisfied view q (wordsOf text ps) false n → OutcomeIs text view q 2 n
+      → LowestSatisfied terms q (wordsOf text ps) false n → OutcomeIs text terms q 2 n
   by-none : {ps : List Policy} → isSystem (q .subject) ≡ false → Says text ps
-      → (SomeSatisfied view q (wordsOf text ps) false → ⊥) → (SomeSatisfied view q (wordsOf text ps) true → ⊥) → OutcomeIs text view q 3 0
-  by-system : isSystem (q .subject) ≡ true → OutcomeIs text view q 4 0
+      → (SomeSatisfied terms q (wordsOf text ps) false → ⊥) → (SomeSatisfied terms q (wordsOf text ps) true → ⊥) → OutcomeIs text terms q 3 0
+  by-system : isSystem (q .subject) ≡ true → OutcomeIs text terms q 4 0
 
 -- The decision carries a 64-bit mark, bit n-1 set exactly when policy n is satisfied; 0 for the system (document 02, request 6).
 
--- the mark over these attributes
-pub data MarkIs (text : List ℕ) (view : View) (q : Request) : ℕ → Type 0 where
+-- the mark on these terms
+pub data MarkIs (text : List ℕ) (terms : Terms) (q : Request) : ℕ → Type 0 where
   every-bit : {mark : ℕ} {ps : List Policy} → isSystem (q .subject) ≡ false → Says text ps
-      → ((n : ℕ) → BitSet mark n ↔ SatisfiedAt view q (wordsOf text ps) n) → MarkIs text view q mark
-  no-bit : isSystem (q .subject) ≡ true → MarkIs text view q 0
+      → ((n : ℕ) → BitSet mark n ↔ SatisfiedAt terms q (wordsOf text ps) n) → MarkIs text terms q mark
+  no-bit : isSystem (q .subject) ≡ true → MarkIs text terms q 0
 
 pub record DemandTwo : Type 0 where
-  pub accepted-exactly : (text table : List ℕ) → roomFor text ≤ length table → (compileSays text table .refusal ≡ 0) ↔ Belongs text
+  pub accepted-exactly : (version : Version) (text table : List ℕ) → roomFor text ≤ length table → (saysUnder version text table .refusal ≡ 0) ↔ Belongs text
   -- what an accepted text gets: the number of its policies, and its compiled bytes at the table's start; the bytes past those stay
-  pub compiled : (text table : List ℕ) (ps : List Policy) → compileSays text table .refusal ≡ 0 → Says text ps
-      → (compileSays text table .policies ≡ length ps)
-      × (compileSays text table .bytes ≡ length (compiledBytes ps))
-      × (compileLeaves text table ≡ compiledBytes ps ++ drop (length (compiledBytes ps)) table)
+  pub compiled : (version : Version) (text table : List ℕ) (ps : List Policy) → saysUnder version text table .refusal ≡ 0 → Says text ps
+      → (saysUnder version text table .policies ≡ length ps)
+      × (saysUnder version text table .bytes ≡ length (compiledBytes version ps))
+      × (leavesUnder version text table ≡ compiledBytes version ps ++ drop (length (compiledBytes version ps)) table)
   -- a table into which a text was compiled begins right
-  pub compiled-begins : (text table : List ℕ) → compileSays text table .refusal ≡ 0 → beginsSays text (compileLeaves text table) ≡ true
+  pub compiled-begins : (number : ℕ) (text table : List ℕ) → compileSays number text table .refusal ≡ 0
+      → beginsSays text (compileLeaves number text table) ≡ true
   -- and so do the bytes used, alone
-  pub used-begins : (text table : List ℕ) → compileSays text table .refusal ≡ 0
-      → beginsSays text (take (compileSays text table .bytes) (compileLeaves text table)) ≡ true
+  pub used-begins : (number : ℕ) (text table : List ℕ) → compileSays number text table .refusal ≡ 0
+      → beginsSays text (take (compileSays number text table .bytes) (compileLeaves number text table)) ≡ true
   -- 8 bytes of table for each byte of text are enough, and no policies use no bytes
-  pub enough-room : (text table : List ℕ) → compileSays text table .bytes ≤ roomFor text
-  pub no-policies-no-bytes : (text table : List ℕ) → compileSays text table .policies ≡ 0 → compileSays text table .bytes ≡ 0
+  pub enough-room : (number : ℕ) (text table : List ℕ) → compileSays number text table .bytes ≤ roomFor text
+  pub no-policies-no-bytes : (number : ℕ) (text table : List ℕ) → compileSays number text table .policies ≡ 0 → compileSays number text table .bytes ≡ 0
+  -- a text has at most 64 policies
+  pub policies-few : (number : ℕ) (text table : List ℕ) → compileSays number text table .policies ≤ mostPolicies
   -- a text says one list of policies
   pub one-reading : (text : List ℕ) (ps qs : List Policy) → Says text ps → Says text qs → ps ≡ qs
   pub yes-exactly : (c : DecideCall) → decisionFor c .refusal ≡ 0
-      → Yes (decisionFor c .outcome) ↔ ((isSystem (c .request .subject) ≡ true) ⊎ Granted (c .text) (c .bag) (c .request))
-  -- outcome and policy are those of the policies over what the bag holds, and there are no others
+      → Yes (decisionFor c .outcome) ↔ ((isSystem (c .request .subject) ≡ true) ⊎ Granted (recorded (c .table)) (c .text) (c .bag) (c .request))
+  -- outcome and policy are those of the policies under the recorded version over what the bag holds, and there are no others
   pub outcome-rightly : (c : DecideCall) (contents : Contents) → decisionFor c .refusal ≡ 0 → BagBytes (c .bag) contents
-      → OutcomeIs (c .text) (look (asBag contents)) (c .request) (decisionFor c .outcome) (decisionFor c .policy)
-  pub one-outcome : (text : List ℕ) (view : View) (q : Request) (outcome outcome′ policy policy′ : ℕ)
-      → OutcomeIs text view q outcome policy → OutcomeIs text view q outcome′ policy′ → (outcome ≡ outcome′) × (policy ≡ policy′)
+      → OutcomeIs (c .text) (under (recorded (c .table)) (look (asBag contents))) (c .request) (decisionFor c .outcome) (decisionFor c .policy)
+  pub one-outcome : (text : List ℕ) (terms : Terms) (q : Request) (outcome outcome′ policy policy′ : ℕ)
+      → OutcomeIs text terms q outcome policy → OutcomeIs text terms q outcome′ policy′ → (outcome ≡ outcome′) × (policy ≡ policy′)
   pub system-names-none : (c : DecideCall) → isSystem (c .request .subject) ≡ true → decisionFor c ≡ record { refusal = 0; outcome = 4; policy = 0; mark = 0 }
-  -- a text has at most 64 policies, so that a policy's number fits its byte in a sheet
-  pub policy-few : (text : List ℕ) (view : View) (q : Request) (outcome policy : ℕ) → OutcomeIs text view q outcome policy → policy ≤ mostPolicies
-  -- the mark is that of the policies over what the bag holds, there is no other, and it has no bit beyond the 64
+  -- so a policy's number fits its byte in a sheet
+  pub policy-few : (text : List ℕ) (terms : Terms) (q : Request) (outcome policy : ℕ) → OutcomeIs text terms q outcome policy → policy ≤ mostPolicies
+  -- the mark is that of the policies under the recorded version over what the bag holds, there is no other, and it has no bit beyond the 64
   pub mark-exactly : (c : DecideCall) (contents : Contents) → decisionFor c .refusal ≡ 0 → BagBytes (c .bag) contents
-      → MarkIs (c .text) (look (asBag contents)) (c .request) (decisionFor c .mark)
-  pub one-mark : (text : List ℕ) (view : View) (q : Request) (mark mark′ : ℕ) → MarkIs text view q mark → MarkIs text view q mark′ → mark ≡ mark′
-  pub mark-few : (text : List ℕ) (view : View) (q : Request) (mark : ℕ) → MarkIs text view q mark → mark < 2 ^ mostPolicies
+      → MarkIs (c .text) (under (recorded (c .table)) (look (asBag contents))) (c .request) (decisionFor c .mark)
+  pub one-mark : (text : List ℕ) (terms : Terms) (q : Request) (mark mark′ : ℕ) → MarkIs text terms q mark → MarkIs text terms q mark′ → mark ≡ mark′
+  pub mark-few : (text : List ℕ) (terms : Terms) (q : Request) (mark : ℕ) → MarkIs text terms q mark → mark < 2 ^ mostPolicies
   -- outcome and policy follow from the mark and the effects of the policies
-  pub mark-decides : (text : List ℕ) (view : View) (q : Request) (ps : List Policy) (outcome policy mark : ℕ) → isSystem (q .subject) ≡ false
-      → Says text ps → OutcomeIs text view q outcome policy → MarkIs text view q mark
+  pub mark-decides : (text : List ℕ) (terms : Terms) (q : Request) (ps : List Policy) (outcome policy mark : ℕ) → isSystem (q .subject) ≡ false
+      → Says text ps → OutcomeIs text terms q outcome policy → MarkIs text terms q mark
       → (outcome ≡ outcomeOf (decidedBy (effectsOf (wordsOf text ps)) mark)) × (policy ≡ policyOf (decidedBy (effectsOf (wordsOf text ps)) mark))
-  -- the words that the policies say decide, without the text's other bytes: two texts that say the same, each with its table, get the same decisions
-  pub words-decide : (text text′ table table′ bag : List ℕ) (q : Request) → SayAlike text text′ → Begun text table → Begun text′ table′
-      → decideSays text table bag q ≡ decideSays text′ table′ bag q
+  -- the words that the policies say decide, and the version, without the text's other bytes: two texts that say the same, each with its table of the same
+  -- version, get the same decisions
+  pub words-decide : (text text′ table table′ bag : List ℕ) (q : Request) → SayAlike text text′ → recorded table ≡ recorded table′ → Begun text table
+      → Begun text′ table′ → decideSays text table bag q ≡ decideSays text′ table′ bag q
+
+-- ---- Rules of version 2 (document 02, request 7). The caller names the version when compiling; the table records it, and later calls read it there.
+
+pub record Versions : Type 0 where
+  -- the table records the version under which a text was compiled, where the text has policies
+  pub records : (version : Version) (text table : List ℕ) → saysUnder version text table .refusal ≡ 0 → (saysUnder version text table .policies ≡ 0 → ⊥)
+      → recorded (leavesUnder version text table) ≡ version
+  -- a table begins right under one version at most: the one that it records. So one whose bytes are under neither, or under another than it records, does not
+  -- begin right (`begins-exactly`), and gets 20
+  pub one-version : (version : Version) (text table : List ℕ) (ps : List Policy) → Says text ps → (ps ≡ [] → ⊥) → Begins (compiledBytes version ps) table
+      → recorded table ≡ version
+  -- a text without policies has no version: it uses no bytes under each
+  pub no-policies-no-version : (version : Version) → compiledBytes version [] ≡ []
+  -- under version 2 a condition is missing exactly where an absent attribute is met in it by any operator but `has`
+  pub missing-exactly : MissingExactly
+  -- it is true exactly where version 1 calls it true and nothing that was met is absent, and false likewise
+  pub second-exactly : SecondExactly
+  -- so a policy is satisfied exactly where it is under version 1 and its condition meets nothing absent, even under `!`
+  pub satisfied-second : SatisfiedSecond
 
 -- ---- Demand 3. The sheet lists every combination that demand 2 answers with yes, and no other, each exactly once, first column slowest, with its deciding
 -- rule. Asked for page by page from row 0 to the last, each page starting where the one before says to go on, the joined pages are that same list.
@@ -189,16 +220,20 @@ pub record DemandTwo : Type 0 where
 abbrev pub attributes : Contents → List Column → List ℕ → View
 attributes base columns choices = look (rowBag (asBag base) (pickedAll columns choices))
 
+-- this under a version
+abbrev pub termsOf : Version → Contents → List Column → List ℕ → Terms
+termsOf version base columns choices = under version (attributes base columns choices)
+
 -- a line of the sheet: a combination that demand 2 answers with yes, with its outcome, its deciding policy and its mark
-pub record LineOf (text : List ℕ) (base : Contents) (columns : List Column) (q : Request) (l : Line) : Type 0 where
+pub record LineOf (version : Version) (text : List ℕ) (base : Contents) (columns : List Column) (q : Request) (l : Line) : Type 0 where
   pub combination : Combination (counts columns) (l .choices)
-  pub decided : OutcomeIs text (attributes base columns (l .choices)) q (l .outcome) (l .policy)
-  pub marked : MarkIs text (attributes base columns (l .choices)) q (l .mark)
+  pub decided : OutcomeIs text (termsOf version base columns (l .choices)) q (l .outcome) (l .policy)
+  pub marked : MarkIs text (termsOf version base columns (l .choices)) q (l .mark)
   pub yes : Yes (l .outcome)
 
 -- the sheet: all these lines, and no other; the first column slowest, so that each is there exactly once
-pub record Sheet (text : List ℕ) (base : Contents) (columns : List Column) (q : Request) (lines : List Line) : Type 0 where
-  pub lists : (l : Line) → List·Memᴰ l lines ↔ LineOf text base columns q l
+pub record Sheet (version : Version) (text : List ℕ) (base : Contents) (columns : List Column) (q : Request) (lines : List Line) : Type 0 where
+  pub lists : (l : Line) → List·Memᴰ l lines ↔ LineOf version text base columns q l
   pub in-order : InOrder lines
 
 -- the bytes that a call writes, from the named byte on
@@ -233,14 +268,15 @@ pub data Pages (c : SheetCall) : ℕ → List ℕ → ℕ → Type 0 where
   page : {start last : ℕ} {bytes : List ℕ} (sheet : List ℕ) (at : ℕ) → pageFor (again c start sheet at) .refusal ≡ 0
       → Pages c (pageFor (again c start sheet at) .next) bytes last → Pages c start (writtenBy (again c start sheet at) ++ bytes) last
 
--- what a call that is not refused is about: the base and columns that its question says, the one list of lines, its page of them, and the bytes of all pages
+-- what a call that is not refused is about: the base and columns that its question says, the one list of lines under the
+-- recorded version, its page of them, and the bytes of all pages
 pub record TheSheet (c : SheetCall) : Type 0 where
   pub base : Contents
   pub columns : List Column
   pub question-says : QuestionBytes (c .question) base columns
   pub lines : List Line
-  pub is-sheet : Sheet (c .text) base columns (c .request) lines
-  pub no-other : (others : List Line) → Sheet (c .text) base columns (c .request) others → others ≡ lines
+  pub is-sheet : Sheet (recorded (c .table)) (c .text) base columns (c .request) lines
+  pub no-other : (others : List Line) → Sheet (recorded (c .table)) (c .text) base columns (c .request) others → others ≡ lines
   -- the joined pages are that list: from row 0 to the last, and from any other row the lines from there on
   pub joined : (bytes : List ℕ) → Pages c 0 bytes (rowsSay (c .question)) → bytes ≡ linesBytes (counts columns) lines
   pub joined-from : (start : ℕ) (bytes : List ℕ) → Pages c start bytes (rowsSay (c .question))
@@ -258,8 +294,8 @@ pub record DemandThree : Type 0 where
   -- a combination is decided and marked as demand 2 decides and marks over any bag that has its attributes
   pub decided-alike : (c : DecideCall) (contents base : Contents) (columns : List Column) (choices : List ℕ) → decisionFor c .refusal ≡ 0
       → BagBytes (c .bag) contents → Shows contents base columns choices
-      → OutcomeIs (c .text) (attributes base columns choices) (c .request) (decisionFor c .outcome) (decisionFor c .policy)
-      × MarkIs (c .text) (attributes base columns choices) (c .request) (decisionFor c .mark)
+      → OutcomeIs (c .text) (termsOf (recorded (c .table)) base columns choices) (c .request) (decisionFor c .outcome) (decisionFor c .policy)
+      × MarkIs (c .text) (termsOf (recorded (c .table)) base columns choices) (c .request) (decisionFor c .mark)
   -- a question has as many rows as its columns' candidates have combinations, at most 262,144
   pub rows-counted : (question : List ℕ) (base : Contents) (columns : List Column) → QuestionBytes question base columns
       → rowsSay question ≡ product (counts columns)
@@ -278,9 +314,9 @@ pub record DemandThree : Type 0 where
       → (c .start < rowsSay (c .question) → c .start < pageFor c .next) × (pageFor c .next ≤ rowsSay (c .question))
   pub none-refused : (c : SheetCall) (row : ℕ) → pageFor c .refusal ≡ 0 → row ≤ rowsSay (c .question) → pageFor (again c row (c .sheet) (c .at)) .refusal ≡ 0
   pub to-the-last : (c : SheetCall) → pageFor c .refusal ≡ 0 → (bytes : List ℕ) × Pages c (c .start) bytes (rowsSay (c .question))
-  -- and, for the same words, the same sheets
-  pub words-list : (text text′ table table′ question : List ℕ) (q : Request) (start : ℕ) (sheet : List ℕ) (at : ℕ) → SayAlike text text′ → Begun text table
-      → Begun text′ table′
+  -- and, for the same words and the same version, the same sheets
+  pub words-list : (text text′ table table′ question : List ℕ) (q : Request) (start : ℕ) (sheet : List ℕ) (at : ℕ) → SayAlike text text′
+      → recorded table ≡ recorded table′ → Begun text table → Begun text′ table′
       → (sheetSays text table question q start sheet at ≡ sheetSays text′ table′ question q start sheet at)
       × (sheetLeaves text table question q start sheet at ≡ sheetLeaves text′ table′ question q start sheet at)
 
@@ -298,17 +334,17 @@ ofOutcome group outcome = getD group (outcome - 1) 0
 abbrev pub ofPolicy : List ℕ → ℕ → ℕ
 ofPolicy group policy = getD group (policy + 3) 0
 
--- what a group of counts says of a request: so many combinations have the outcome, and so many the policy decides
-pub record TallyOf (text : List ℕ) (base : Contents) (columns : List Column) (q : Request) (group : List ℕ) : Type 0 where
+-- what a group of counts says of a request under a version: so many combinations have the outcome, and so many the policy decides
+pub record TallyOf (version : Version) (text : List ℕ) (base : Contents) (columns : List Column) (q : Request) (group : List ℕ) : Type 0 where
   pub outcomes : (o : ℕ) → 1 ≤ o → o ≤ 4
-      → SoMany (counts columns) (λ choices. (policy : ℕ) × OutcomeIs text (attributes base columns choices) q o policy) (ofOutcome group o)
+      → SoMany (counts columns) (λ choices. (policy : ℕ) × OutcomeIs text (termsOf version base columns choices) q o policy) (ofOutcome group o)
   pub policies : (n : ℕ) → 1 ≤ n → n ≤ 64
-      → SoMany (counts columns) (λ choices. (outcome : ℕ) × OutcomeIs text (attributes base columns choices) q outcome n) (ofPolicy group n)
+      → SoMany (counts columns) (λ choices. (outcome : ℕ) × OutcomeIs text (termsOf version base columns choices) q outcome n) (ofPolicy group n)
   -- the four add up to the number of rows, and the policies to outcomes 1 and 2 together
   pub rows-add-up : sumOf (take 4 group) ≡ product (counts columns)
   pub policies-add-up : sumOf (drop 4 group) ≡ ofOutcome group 1 + ofOutcome group 2
   -- the sheet of the same request lists the rows of outcomes 1 and 4
-  pub listed : (lines : List Line) → Sheet text base columns q lines → length lines ≡ ofOutcome group 1 + ofOutcome group 4
+  pub listed : (lines : List Line) → Sheet version text base columns q lines → length lines ≡ ofOutcome group 1 + ofOutcome group 4
 
 -- what a call that is not refused leaves: a group for each request that was lent, zeros for those that were not, and as the ninth group the sums of the eight
 pub record TheTally (c : TallyCall) : Type 0 where
@@ -317,7 +353,7 @@ pub record TheTally (c : TallyCall) : Type 0 where
   pub question-says : QuestionBytes (c .question) base columns
   pub requests : List Request
   pub lent : Lent (c .many) (c .requests) requests
-  pub counted : (k : ℕ) (q : Request) → Numbered (suc k) q requests → TallyOf (c .text) base columns q (groupIn (countsFor c) k)
+  pub counted : (k : ℕ) (q : Request) → Numbered (suc k) q requests → TallyOf (recorded (c .table)) (c .text) base columns q (groupIn (countsFor c) k)
   pub others-none : (k i : ℕ) → c .many ≤ k → k < groupCount → i < groupSize → getD (groupIn (countsFor c) k) i 0 ≡ 0
   pub summed : (i : ℕ) → i < groupSize
       → getD (groupIn (countsFor c) groupCount) i 0 ≡ sumOf (fromOn (λ k. getD (groupIn (countsFor c) k) i 0) 0 groupCount)
@@ -329,8 +365,8 @@ pub record TheTallies : Type 0 where
   -- bytes lend one list of so many requests
   pub one-lent : (n : ℕ) (bytes : List ℕ) → (qs : List Request) × Lent n bytes qs × ((others : List Request) → Lent n bytes others → others ≡ qs)
   -- a request has one tally
-  pub one-tally : (text : List ℕ) (base : Contents) (columns : List Column) (q : Request) (group group′ : List ℕ)
-      → TallyOf text base columns q group → TallyOf text base columns q group′ → (k : ℕ) → k < groupSize → getD group k 0 ≡ getD group′ k 0
+  pub one-tally : (version : Version) (text : List ℕ) (base : Contents) (columns : List Column) (q : Request) (group group′ : List ℕ)
+      → TallyOf version text base columns q group → TallyOf version text base columns q group′ → (k : ℕ) → k < groupSize → getD group k 0 ≡ getD group′ k 0
 
 -- ---- Look-ups. What is found in a bag is the attribute that deciding sees.
 
@@ -403,11 +439,15 @@ pub record LookUps : Type 0 where
 
 -- when each number is given, and what stands beside it
 pub record Refusals : Type 0 where
-  pub too-long : (text table : List ℕ) → (compileSays text table .refusal ≡ 1) ↔ (mostTextBytes < length text)
-  pub no-room : (text table : List ℕ) → (compileSays text table .refusal ≡ 2) ↔ ((length text ≤ mostTextBytes) × (length table < roomFor text))
+  -- 30 before all: a number that names no version
+  pub other-version : (number : ℕ) (text table : List ℕ) → (compileSays number text table .refusal ≡ 30) ↔ NoVersion number
+  pub too-long : (version : Version) (text table : List ℕ) → (saysUnder version text table .refusal ≡ 1) ↔ (mostTextBytes < length text)
+  pub no-room : (version : Version) (text table : List ℕ)
+      → (saysUnder version text table .refusal ≡ 2) ↔ ((length text ≤ mostTextBytes) × (length table < roomFor text))
   -- 3 to 17, where the sizes are right: exactly by the number, at the line and column, and with the length, of the one token at which a rule is first broken
-  pub token-exactly : (text table : List ℕ) (number line column size : ℕ) → length text ≤ mostTextBytes → roomFor text ≤ length table → 2 < number
-      → (compileSays text table ≡ record { refusal = number; line = line; column = column; length = size; policies = 0; bytes = 0 })
+  pub token-exactly : (version : Version) (text table : List ℕ) (number line column size : ℕ) → length text ≤ mostTextBytes → roomFor text ≤ length table
+      → 2 < number
+      → (saysUnder version text table ≡ record { refusal = number; line = line; column = column; length = size; policies = 0; bytes = 0 })
       ↔ RefusedThere text number (spot line column size)
   pub decide-exactly : (c : DecideCall) (number : ℕ) → (decisionFor c .refusal ≡ number) ↔ DecideRefused c number
   pub lookup-exactly : (bag : List ℕ) (root : ℕ) (path : List ℕ) → (lookupSays bag root path .refusal ≡ 24) ↔ NoBag bag
@@ -417,8 +457,8 @@ pub record Refusals : Type 0 where
   pub rows-exactly : (question : List ℕ) → (rowsSay question ≡ 0) ↔ NoQuestion question
   -- a table begins right exactly when the text belongs to the grammar and the table begins with its compiled bytes
   pub begins-exactly : (text table : List ℕ) → (beginsSays text table ≡ true) ↔ Begun text table
-  pub compile-zeros : (text table : List ℕ) → (compileSays text table .refusal ≡ 0 → ⊥)
-      → (compileSays text table .policies ≡ 0) × (compileSays text table .bytes ≡ 0)
+  pub compile-zeros : (number : ℕ) (text table : List ℕ) → (compileSays number text table .refusal ≡ 0 → ⊥)
+      → (compileSays number text table .policies ≡ 0) × (compileSays number text table .bytes ≡ 0)
   pub decide-zeros : (c : DecideCall) → (decisionFor c .refusal ≡ 0 → ⊥)
       → (decisionFor c .outcome ≡ 0) × (decisionFor c .policy ≡ 0) × (decisionFor c .mark ≡ 0)
   pub lookup-zeros : (bag : List ℕ) (root : ℕ) (path : List ℕ) → (lookupSays bag root path .refusal ≡ 0 → ⊥)
@@ -438,7 +478,8 @@ pub record TheLock (c : LockCall) (actions : List Word) (tests : List Test) : Ty
   pub long : lockFor c .length ≡ length (permitFor c actions tests)
   pub written : lockRoom c ≡ permitFor c actions tests ++ drop (length (permitFor c actions tests)) (c .room)
   -- it compiles, lent table enough
-  pub compiles : (table : List ℕ) → roomFor (permitFor c actions tests) ≤ length table → compileSays (permitFor c actions tests) table .refusal ≡ 0
+  pub compiles : (version : Version) (table : List ℕ) → roomFor (permitFor c actions tests) ≤ length table
+      → saysUnder version (permitFor c actions tests) table .refusal ≡ 0
   -- as one policy: a permit for any principal, with that action list, pinned to that resource
   pub policies : List Policy
   pub says : Says (permitFor c actions tests) policies
@@ -448,12 +489,15 @@ pub record TheLock (c : LockCall) (actions : List Word) (tests : List Test) : Ty
   pub any-principal : policy .principal ≡ any
   pub these-actions : policy .action ≡ oneOf (map text actions)
   pub pinned-there : policy .resource ≡ pinned (c .resource)
-  -- satisfied exactly when target and every test hold: whatever the attributes are, so over every bag and every row of a question
-  pub satisfied-exactly : (view : View) (q : Request) → (satisfied view q policy ≡ true) ↔ LockHolds view q actions (c .resource) tests
-  pub over-bag : (contents : Contents) (q : Request)
-      → (satisfied (look (asBag contents)) q policy ≡ true) ↔ LockHolds (look (asBag contents)) q actions (c .resource) tests
-  pub over-row : (base : Contents) (columns : List Column) (choices : List ℕ) (q : Request)
-      → (satisfied (attributes base columns choices) q policy ≡ true) ↔ LockHolds (attributes base columns choices) q actions (c .resource) tests
+  -- satisfied exactly when target and every test hold: under each version, whatever the attributes are, so over every bag and every row of a question
+  pub satisfied-exactly : (version : Version) (view : View) (q : Request)
+      → (satisfied (under version view) q policy ≡ true) ↔ LockHolds view q actions (c .resource) tests
+  pub over-bag : (version : Version) (contents : Contents) (q : Request)
+      → (satisfied (under version (look (asBag contents))) q policy ≡ true) ↔ LockHolds (look (asBag contents)) q actions (c .resource) tests
+  pub over-row : (version : Version) (base : Contents) (columns : List Column) (choices : List ℕ) (q : Request)
+      → (satisfied (termsOf version base columns choices) q policy ≡ true) ↔ LockHolds (attributes base columns choices) q actions (c .resource) tests
+  -- so both versions agree on it
+  pub agree : (view : View) (q : Request) → satisfied (under First view) q policy ≡ satisfied (under Second view) q policy
   -- and so the desk decides by it: a request of anybody but the system is allowed exactly when the lock holds
   pub decided : (table bag : List ℕ) (contents : Contents) (q : Request) → decideSays (permitFor c actions tests) table bag q .refusal ≡ 0
       → BagBytes bag contents → isSystem (q .subject) ≡ false
@@ -482,9 +526,9 @@ pub record LockAllows (vocabulary lock actions resource before after : List ℕ)
 -- ---- One result. What a call's contract allows, for each call; any two allowed results coincide, refusals included, and so do what they leave.
 
 -- what the contract of compiling allows: the answer, and the table afterwards
-pub record CompileAllows (text before after : List ℕ) (r : DeskCompiled) : Type 0 where
-  pub answered : r ≡ compileSays text before
-  pub table : after ≡ compileLeaves text before
+pub record CompileAllows (number : ℕ) (text before after : List ℕ) (r : DeskCompiled) : Type 0 where
+  pub answered : r ≡ compileSays number text before
+  pub table : after ≡ compileLeaves number text before
 
 -- what the contract of the sheet allows: the answer, and the sheet afterwards
 pub record SheetAllows (text table question : List ℕ) (q : Request) (start : ℕ) (before : List ℕ) (at : ℕ) (after : List ℕ) (r : DeskPage) : Type 0 where
@@ -506,8 +550,8 @@ CountsAllow c after r = TallyAllows (c .text) (c .table) (c .question) (c .many)
 
 -- two results that a contract allows are the same
 pub record OneResult : Type 0 where
-  pub of-compile : (text before after after′ : List ℕ) (r r′ : DeskCompiled) → CompileAllows text before after r → CompileAllows text before after′ r′
-      → (r ≡ r′) × (after ≡ after′)
+  pub of-compile : (number : ℕ) (text before after after′ : List ℕ) (r r′ : DeskCompiled) → CompileAllows number text before after r
+      → CompileAllows number text before after′ r′ → (r ≡ r′) × (after ≡ after′)
   pub of-begins : (text table : List ℕ) (r r′ : Bool) → r ≡ beginsSays text table → r′ ≡ beginsSays text table → r ≡ r′
   pub of-decide : (c : DecideCall) (r r′ : DeskDecision) → r ≡ decisionFor c → r′ ≡ decisionFor c → r ≡ r′
   pub of-lookup : (bag : List ℕ) (root : ℕ) (path : List ℕ) (r r′ : DeskValue) → r ≡ lookupSays bag root path → r′ ≡ lookupSays bag root path → r ≡ r′

@@ -55,12 +55,12 @@ pub struct DeskPage {
     pub next: usize,
 }
 
-// Compiles a text into the table. The bytes past those used stay, and a refusal changes nothing.
+// Compiles a text into the table, which records the version: 1 or 2. The bytes past those used stay, and a refusal changes nothing.
 #[no_mangle]
-pub extern "C" fn desk_compile(text: &[u8], table: &mut [u8]) -> DeskCompiled
-    ensures { λ r. ⌜ CompileAllows (now (text .entry)) (now (table .entry)) (now (table .exit)) r ⌝ }
+pub extern "C" fn desk_compile(text: &[u8], table: &mut [u8], version: u64) -> DeskCompiled
+    ensures { λ r. ⌜ CompileAllows version (now (text .entry)) (now (table .entry)) (now (table .exit)) r ⌝ }
 {
-    match compiling::compile(text, table) {
+    match compiling::compile(version, text, table) {
         Compiled::Policies(policies, bytes) => DeskCompiled {
             refusal: 0, // accepted
             line: 0,
@@ -271,7 +271,7 @@ pub extern "C" fn desk_lock(
     ensures { λ r. ⌜ LockAllows (now (vocabulary .entry)) (now (lock .entry)) (now (actions .entry)) (now (resource .entry))
         (now (room .entry)) (now (room .exit)) r ⌝ }
 {
-    match locks::lock(vocabulary, lock, actions, resource, room) {
+    match locking::lock(vocabulary, lock, actions, resource, room) {
         locks::Answer::Written(length) => DeskLock {
             refusal: 0,
             length: length,

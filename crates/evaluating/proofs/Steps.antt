@@ -1,12 +1,12 @@
 -- From a condition's last entry to the part that is met next, and what is kept on the way, for any meaning that joins the verdicts of parts. Assumes nothing.
 use mathlib.Core.Path.{_≡_, refl, sym, _∙_, ap, subst}
 use mathlib.Core.Logic.{_≢_}
-use mathlib.Core.Bool.{Bool, true, false, cond, not, _&&_, false≢true}
+use mathlib.Core.Bool.{Bool, true, false, cond}
 use mathlib.Core.List.{List}
 use Prim.Native.Nat.{ℕ, _+_, _*_, _-_, _≤_, _<_}
 use native.Mathlib.Omega.{arith}
-use lib.Dec.{eqb, leb, ltb}
-use borrow.Author.Tests.{eqb-true, eqb-false, ltb-true, ltb-false, leb-true, ne-eqb}
+use lib.Dec.{eqb, ltb}
+use borrow.Author.Tests.{eqb-true, eqb-false, ltb-true, ltb-false, ne-eqb}
 use Rattle.grammar.specs.Policies.{Tree}
 use Rattle.table.specs.declared.Entry.{Entry}
 use Rattle.table.specs.Layout.{entryAt}
@@ -14,12 +14,12 @@ use Rattle.stored.specs.ReadBack.{treeIn, treeBy, treeOf, treeAt}
 use Rattle.stored.specs.Ready.{NodeBy, Ready, ReadyPart, Node}
 use Rattle.stored.proofs.Nodes.{as-not, as-brackets, as-both, as-either, as-choice}
 use Rattle.stored.proofs.Evaluating.{node-of}
-use Rattle.meaning.specs.Conditions.{negated, bothOf, eitherOf, choiceOf}
+use Rattle.meaning.specs.Conditions.{settled, settledIf, choiceOf}
 use Rattle.meaning.specs.declared.Verdict.{Verdict}
 use Rattle.meaning.specs.declared.Verdict.the-variants.{Yes, No, Missing}
 use Rattle.evaluating.specs.declared.Way.{Way}
 use Rattle.evaluating.specs.Ways.{partMet, endedBy, goneOn, enteredAt, comeBack, afterYes, afterNo, afterMissing, afterPart, insidePart}
-use Rattle.evaluating.proofs.Verdicts.{unchanged, by-negation, by-both, by-either, by-none, Joining}
+use Rattle.evaluating.proofs.Verdicts.{unchanged, by-negation, by-both, by-either, by-none, Joining, counts-itself}
 
 -- ---- the way falls: there are fewer entries than 65536
 
@@ -84,7 +84,7 @@ met-by at x part h q = go (ltb (x .kind) 26) (eqb (x .kind) 28) refl refl q
 
 -- ---- what stands where
 
-module _ {text : List ℕ} {table : ℕ → Entry} {many : ℕ} {m : Tree → Verdict} (j : Joining m) {at : ℕ} {x : Entry} (n : NodeBy text table many at x) where
+module _ {text : List ℕ} {table : ℕ → Entry} {many : ℕ} {settles : Bool} {m : Tree → Verdict} (j : Joining settles m) {at : ℕ} {x : Entry} (n : NodeBy text table many at x) where
   -- the verdict of the condition that ends before number e
   abbrev ended : ℕ → Verdict
   ended e = m (treeBy table e)
@@ -122,7 +122,7 @@ pub set-out : {text table : List ℕ} {m : Tree → Verdict} {end : ℕ} → Rea
     → Going text table m end (record { at = end; yes = Yes; no = No; rest = 0; held = Yes; kept = Yes })
 set-out r = record { here = λ h. r; low = omega arith; is = the-whole refl (unchanged _) }
 
-module _ {text table : List ℕ} {m : Tree → Verdict} (j : Joining m) {end : ℕ} {w : Way} (g : Going text table m end w) (some : 0 < w .at) where
+module _ {text table : List ℕ} {settles : Bool} {m : Tree → Verdict} (j : Joining settles m) {end : ℕ} {w : Way} (g : Going text table m end w) (some : 0 < w .at) where
   -- the entry that is read there
   pub met : {x : Entry} → x ≡ entryAt table (w .at - 1) → Node text table (w .at) x
   met e = subst (Node text table (w .at)) (sym e) (node-of (g .here some))
@@ -170,27 +170,27 @@ module _ {text table : List ℕ} {m : Tree → Verdict} (j : Joining m) {end : �
     part-is : {part e : ℕ} {v : Verdict} → v ≡ m (treeAt table part) → part ≡ e → v ≡ m (treeAt table e)
     part-is r q = r ∙ ap (λ (e : ℕ). m (treeAt table e)) q
 
-    yes-turn : (s : Bool) {part : ℕ} → (s ≡ true → (e : ℕ) → m (treeAt table e) ≢ Missing) → Yes ≡ m (treeAt table part) → Met (w .at) x part → Turn text table m end w (afterYes s w x)
+    yes-turn : (s : Bool) {part : ℕ} → (s ≡ true → (c : Tree) → m c ≢ Missing) → Yes ≡ m (treeAt table part) → Met (w .at) x part → Turn text table m end w (afterYes s w x)
     unfolding afterYes choiceOf
     yes-turn s c r (whole l q) =
         rw (ne-eqb (x .kind) 26 (λ e. omega arith), ne-eqb (x .kind) 28 (λ e. omega arith), ne-eqb (x .kind) 27 (λ e. omega arith)) (go-end (w .yes) (all-becomes Yes r q))
     yes-turn s c r (by-and e q) = rw e (go-on (x .first) (w .yes) (w .no) (left-part (omega arith)) (both-becomes j n (w .yes) (w .no) Yes e (part-is r q)))
     yes-turn true c r (by-or e q) =
-        rw e (go-end (w .yes) (either-becomes j n (w .yes) (w .no) Yes e (part-is r q) ∙ by-none (m (treeAt table (x .first))) (w .yes) (c refl (x .first))))
+        rw e (go-end (w .yes) (either-becomes j n (w .yes) (w .no) Yes e (part-is r q) ∙ by-none (m (treeAt table (x .first))) (w .yes) (c refl (treeAt table (x .first)))))
     yes-turn false c r (by-or e q) = rw e (go-on (x .first) (w .yes) (w .yes) (left-part (omega arith)) (either-becomes j n (w .yes) (w .no) Yes e (part-is r q)))
     yes-turn s c r (by-if e q) = rw e (go-on (x .second) (w .yes) (w .no) (n .parts .middle e) (choice-becomes j n (w .yes) (w .no) Yes e (part-is r q)))
 
-    no-turn : (s : Bool) {part : ℕ} → (s ≡ true → (e : ℕ) → m (treeAt table e) ≢ Missing) → No ≡ m (treeAt table part) → Met (w .at) x part → Turn text table m end w (afterNo s w x)
+    no-turn : (s : Bool) {part : ℕ} → (s ≡ true → (c : Tree) → m c ≢ Missing) → No ≡ m (treeAt table part) → Met (w .at) x part → Turn text table m end w (afterNo s w x)
     unfolding afterNo choiceOf
     no-turn s c r (whole l q) =
         rw (ne-eqb (x .kind) 26 (λ e. omega arith), ne-eqb (x .kind) 28 (λ e. omega arith), ne-eqb (x .kind) 27 (λ e. omega arith)) (go-end (w .no) (all-becomes No r q))
     no-turn s c r (by-or e q) = rw e (go-on (x .first) (w .yes) (w .no) (left-part (omega arith)) (either-becomes j n (w .yes) (w .no) No e (part-is r q)))
     no-turn true c r (by-and e q) =
-        rw e (go-end (w .no) (both-becomes j n (w .yes) (w .no) No e (part-is r q) ∙ by-none (m (treeAt table (x .first))) (w .no) (c refl (x .first))))
+        rw e (go-end (w .no) (both-becomes j n (w .yes) (w .no) No e (part-is r q) ∙ by-none (m (treeAt table (x .first))) (w .no) (c refl (treeAt table (x .first)))))
     no-turn false c r (by-and e q) = rw e (go-on (x .first) (w .no) (w .no) (left-part (omega arith)) (both-becomes j n (w .yes) (w .no) No e (part-is r q)))
     no-turn s c r (by-if e q) = rw e (go-on (w .at - 1) (w .yes) (w .no) (last-part (omega arith)) (choice-becomes j n (w .yes) (w .no) No e (part-is r q)))
 
-    missing-turn : {part : ℕ} → Missing ≡ m (treeAt table part) → Met (w .at) x part → Turn text table m end w (afterMissing w x)
+    missing-turn : {part : ℕ} → Missing ≡ m (treeAt table part) → Met (w .at) x part → Turn text table m end w (afterMissing false w x)
     unfolding afterMissing choiceOf
     missing-turn r (whole l q) =
         rw (ne-eqb (x .kind) 26 (λ e. omega arith), ne-eqb (x .kind) 27 (λ e. omega arith)) (go-end Missing (all-becomes Missing r q))
@@ -210,14 +210,22 @@ module _ {text table : List ℕ} {m : Tree → Verdict} (j : Joining m) {end : �
       how : Met (w .at) x part
       how = met-by (w .at) x part (n .high) q
 
-      -- after the verdict of the part that is met first
-      pub after-turn : {s : Bool} {v : Verdict} {u : Way} → (s ≡ true → (e : ℕ) → m (treeAt table e) ≢ Missing) → v ≡ m (treeAt table part) → u ≡ afterPart s w x v → Turn text table m end w u
-      after-turn {s} {v} c r d = subst (Turn text table m end w) (sym d) (go v r)
+      -- after what was found of the part that is met first: where `settles`, a Missing counts as a No
+      pub after-turn : (v : Verdict) {u : Way} → settledIf settles v ≡ m (treeAt table part) → u ≡ afterPart settles w x v → Turn text table m end w u
+      unfolding settledIf settled afterMissing
+      after-turn v r d = subst (Turn text table m end w) (sym d) (go settles v (j .clear) r)
         where
-          go : (v : Verdict) → v ≡ m (treeAt table part) → Turn text table m end w (afterPart s w x v)
-          go Yes r = yes-turn s c r how
-          go No r = no-turn s c r how
-          go Missing r = missing-turn r how
+          go : (s : Bool) (v : Verdict) → (s ≡ true → (c : Tree) → m c ≢ Missing) → settledIf s v ≡ m (treeAt table part) → Turn text table m end w (afterPart s w x v)
+          go true Yes c r = yes-turn true c r how
+          go true No c r = no-turn true c r how
+          go true Missing c r = no-turn true c r how
+          go false Yes c r = yes-turn false c r how
+          go false No c r = no-turn false c r how
+          go false Missing c r = missing-turn r how
+
+      -- after its verdict
+      pub verdict-turn : {v : Verdict} {u : Way} → v ≡ m (treeAt table part) → u ≡ afterPart settles w x v → Turn text table m end w u
+      verdict-turn {v} r d = after-turn v (counts-itself settles v (λ e z. j .clear e (treeAt table part) (sym r ∙ z)) ∙ r) d
 
       pub part-ready : Ready text table part
       part-ready = go how
@@ -301,7 +309,7 @@ turn-less {w = w} {u = u} t = subst (λ (r : ℕ). lengthOf r (u .at) < lengthOf
 
 -- ---- nothing is left
 
-module _ {text table : List ℕ} {m : Tree → Verdict} (j : Joining m) {end : ℕ} {w : Way} (g : Going text table m end w) (none : w .at < 1) where
+module _ {text table : List ℕ} {settles : Bool} {m : Tree → Verdict} (j : Joining settles m) {end : ℕ} {w : Way} (g : Going text table m end w) (none : w .at < 1) where
   became : choiceOf (m (treeAt table (w .at))) (w .yes) (w .no) ≡ w .no
   unfolding treeIn choiceOf
   became =
@@ -355,10 +363,10 @@ module _ {text table : List ℕ} {m : Tree → Verdict} (j : Joining m) {end : �
       rw (a, same) (less-back (w .rest) (t .at) f)
 
   -- and it goes on after that
-  pub back-turn : {u t : Way} {x : Entry} {s : Bool} → (s ≡ true → (e : ℕ) → m (treeAt table e) ≢ Missing) → 1 ≤ w .rest → x ≡ entryAt table (w .rest - 1)
-      → u ≡ comeBack w → t ≡ afterPart s u x (w .no) → Turn text table m end u t
-  back-turn {u} {t} {x} c z i d a =
+  pub back-turn : {u t : Way} {x : Entry} → 1 ≤ w .rest → x ≡ entryAt table (w .rest - 1) → u ≡ comeBack w → t ≡ afterPart settles u x (w .no)
+      → Turn text table m end u t
+  back-turn {u} {t} {x} z i d a =
       let h = back z d in
       let some : 0 < u .at = subst (λ (e : ℕ). 0 < e) (sym (back-at d)) (omega arith) in
       let k : x ≡ entryAt table (u .at - 1) = i ∙ ap (λ (e : ℕ). entryAt table (e - 1)) (sym (back-at d)) in
-      after-turn j h some (met j h some k) refl c (found z d i) a
+      verdict-turn j h some (met j h some k) refl (found z d i) a

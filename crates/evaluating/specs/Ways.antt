@@ -1,23 +1,12 @@
 -- How a condition is met from its last entry on: what is left, and what its verdict becomes. Definitions only.
-use mathlib.Core.Path.{_≡_}
-use mathlib.Core.Logic.{_≢_}
-use mathlib.Core.Bool.{Bool, true, cond, not, _&&_}
-use mathlib.Core.List.{List}
+use mathlib.Core.Bool.{Bool, cond, not, _&&_}
 use Prim.Native.Nat.{ℕ, _-_}
 use lib.Dec.{eqb, ltb}
 use Rattle.table.specs.declared.Entry.{Entry}
 use Rattle.table.specs.Kinds.{notKind, andKind, orKind, ifKind}
-use Rattle.views.specs.Meaning.{View}
-use Rattle.stored.specs.ReadBack.{treeAt}
-use Rattle.placing.specs.Said.{treeWords}
-use Rattle.meaning.specs.Conditions.{verdict}
 use Rattle.meaning.specs.declared.Verdict.{Verdict}
 use Rattle.meaning.specs.declared.Verdict.the-variants.{Yes, No, Missing}
 use Rattle.evaluating.specs.declared.Way.{Way}
-
--- where `settles`, no part's verdict is Missing
-pub record Settling (settles : Bool) (text table : List ℕ) (view : View) : Type 0 where
-  pub clear : settles ≡ true → (m : ℕ) → verdict view (treeWords text (treeAt table m)) ≢ Missing
 
 -- where the part ends that is met first: what `if` asks, and the right part of `&&` and `||`
 abbrev pub firstMet : ℕ → Entry → ℕ
@@ -59,18 +48,19 @@ afterNo settles w x =
     (cond (eqb (x .kind) andKind && not settles) (goneOn w (x .first) (w .no) (w .no))
     (endedBy w (w .no))))
 
--- after a Missing
-unfoldable pub afterMissing : Way → Entry → Way
-afterMissing w x =
-    cond (eqb (x .kind) orKind) (goneOn w (x .first) (w .yes) Missing)
+-- after a Missing, which counts as a No where `settles`
+unfoldable pub afterMissing : Bool → Way → Entry → Way
+afterMissing settles w x =
+    cond settles (afterNo settles w x)
+    (cond (eqb (x .kind) orKind) (goneOn w (x .first) (w .yes) Missing)
     (cond (eqb (x .kind) andKind) (goneOn w (x .first) Missing (w .no))
-    (endedBy w Missing))
+    (endedBy w Missing)))
 
 -- after the part that is met first, by its verdict
 abbrev pub afterPart : Bool → Way → Entry → Verdict → Way
 afterPart settles w x Yes = afterYes settles w x
 afterPart settles w x No = afterNo settles w x
-afterPart settles w x Missing = afterMissing w x
+afterPart settles w x Missing = afterMissing settles w x
 
 -- inside `!` or brackets
 unfoldable pub insidePart : Way → Entry → Way

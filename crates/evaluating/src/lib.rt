@@ -5,15 +5,19 @@ ghost use Prim.Native.Nat.{_<_};
 ghost use Rattle.views.specs.Rows.{RowStands};
 ghost use Rattle.stored.specs.ReadBack.{treeAt};
 ghost use Rattle.stored.specs.Ready.{Ready};
-ghost use Rattle.operators.specs.Operands.{seen, verdictSeen};
-ghost use Rattle.evaluating.specs.Ways.{Settling, firstMet, partMet, endedBy, goneOn, enteredAt, comeBack, afterYes, afterNo, afterMissing, afterPart, insidePart};
+ghost use Rattle.table.specs.Recorded.{recorded as recordedVersion};
+ghost use Rattle.meaning.specs.Conditions.{settles as settlesUnder};
+ghost use Rattle.operators.specs.Operands.{verdictSeen};
+ghost use Rattle.evaluating.specs.Ways.{firstMet, partMet, endedBy, goneOn, enteredAt, comeBack, afterYes, afterNo, afterMissing, afterPart, insidePart};
 use bags::sections::Sections;
+use grammar::Version;
 use meaning::Verdict;
 use operators::flat;
 use questions::sizes::MOST_COLUMNS;
 use table::Entry;
 use table::entries;
 use table::entry_in;
+use table::recorded;
 
 // What is left to be met. It ends before entry number `at`; its Yes becomes `yes`, its No becomes `no`, and its Missing stays Missing. Where `at` is
 // 0 nothing is left, and it became `no`. Where `rest` is not 0, that is the verdict of the part that is met first of what ends before `rest`, whose
@@ -152,10 +156,14 @@ fn after_no(settles: bool, w: Way, x: Entry) -> Way
     ended_by(w, no)
 }
 
-// The same after a Missing.
-fn after_missing(w: Way, x: Entry) -> Way
-    ensures { λ r. ⌜ r ≡ afterMissing w x ⌝ }
+// The same after a Missing, which counts as a No where `settles`.
+fn after_missing(settles: bool, w: Way, x: Entry) -> Way
+    requires { ⌜ 0 < w .at ⌝ }
+    ensures { λ r. ⌜ r ≡ afterMissing settles w x ⌝ }
 {
+    if settles {
+        return after_no(settles, w, x);
+    }
     let yes = w.yes;
     let no = w.no;
     if x.kind == entries::OR {
@@ -167,15 +175,15 @@ fn after_missing(w: Way, x: Entry) -> Way
     ended_by(w, Verdict::Missing)
 }
 
-// The same after the verdict v.
+// The same after the verdict v. No stands first: a decision takes a hundredth fewer instructions so.
 fn after_part(settles: bool, w: Way, x: Entry, v: Verdict) -> Way
     requires { ⌜ 0 < w .at ⌝ }
     ensures { λ r. ⌜ r ≡ afterPart settles w x v ⌝ }
 {
     match v {
-        Verdict::Yes => after_yes(settles, w, x),
         Verdict::No => after_no(settles, w, x),
-        Verdict::Missing => after_missing(w, x),
+        Verdict::Yes => after_yes(settles, w, x),
+        Verdict::Missing => after_missing(settles, w, x),
     }
 }
 
@@ -194,7 +202,7 @@ fn inside_part(w: Way, x: Entry) -> Way
 
 // The verdict of the condition whose entries end before number `end`. A chain is met from its right end: evaluating has no effects, and what its
 // parts become says which of them counts. A part without parts is found out here, without a call; one with parts too, unless it is met inside such a
-// one. Where `settles`, a No stops `&&` and a Yes stops `||`.
+// one. Where `settles`, what an operator finds Missing counts as a No, and so a No stops `&&` and a Yes stops `||`.
 fn evaluate_by<'a>(
     settles: bool,
     text: &'a [u8],
@@ -209,8 +217,7 @@ fn evaluate_by<'a>(
 ) -> Verdict
     requires { ⌜ Ready (now text) (now table) end ⌝ }
     requires { ⌜ RowStands (now s) p n (now heads) (now values) ⌝ }
-    requires { ⌜ Settling settles (now text) (now table) (seen (now s) p n (now heads) (now values) (now action)) ⌝ }
-    ensures { λ r. ⌜ r ≡ verdictSeen (now (text .entry)) (now (s .entry)) p n (now (heads .entry)) (now (values .entry)) (now (action .entry))
+    ensures { λ r. ⌜ r ≡ verdictSeen settles (now (text .entry)) (now (s .entry)) p n (now (heads .entry)) (now (values .entry)) (now (action .entry))
         (treeAt (now (table .entry)) end) ⌝ }
 {
     let mut w = Way {
@@ -254,7 +261,17 @@ fn evaluate_by<'a>(
     }
 }
 
-// The same. Today every operator settles what it met, so no verdict is Missing.
+// Whether an absent attribute makes an operator false under a version.
+fn settles(version: Version) -> bool
+    ensures { λ r. ⌜ r ≡ settlesUnder version ⌝ }
+{
+    match version {
+        Version::First => true,
+        Version::Second => false,
+    }
+}
+
+// The verdict of the condition whose entries end before number `end`, under the version that the table records.
 pub fn evaluate<'a>(
     text: &'a [u8],
     table: &[u8],
@@ -268,8 +285,9 @@ pub fn evaluate<'a>(
 ) -> Verdict
     requires { ⌜ Ready (now text) (now table) end ⌝ }
     requires { ⌜ RowStands (now s) p n (now heads) (now values) ⌝ }
-    ensures { λ r. ⌜ r ≡ verdictSeen (now (text .entry)) (now (s .entry)) p n (now (heads .entry)) (now (values .entry)) (now (action .entry))
-        (treeAt (now (table .entry)) end) ⌝ }
+    ensures { λ r. ⌜ r ≡ verdictSeen (settlesUnder (recordedVersion (now (table .entry)))) (now (text .entry)) (now (s .entry)) p n (now (heads .entry))
+        (now (values .entry)) (now (action .entry)) (treeAt (now (table .entry)) end) ⌝ }
 {
-    evaluate_by(true, text, table, end, s, p, n, heads, values, action)
+    let settled = settles(recorded(table));
+    evaluate_by(settled, text, table, end, s, p, n, heads, values, action)
 }

@@ -1,4 +1,2 @@
 pub mod PutLaws
 pub mod DecimalLaws
-pub mod CaseLaws
-pub mod TallyLaws

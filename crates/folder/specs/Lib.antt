@@ -1,4 +1,2 @@
 pub mod Added
-pub mod Cases
 pub mod Decimals
-pub mod Tallied

@@ -1,6 +1,4 @@
 // What the programs share that are run in a folder: the bytes of its files, and the lines that they print, put into a lent buffer byte for byte.
-pub mod cases;
-pub mod counts;
 pub mod lines;
 
 ghost use Rattle.io.specs.Counts.{Counts};

@@ -7,8 +7,9 @@ use Prim.Native.String.{String}
 use lib.ListN.{length}
 use Rattle.slices.specs.Ascii.{bytes}
 use Rattle.tokens.specs.Kinds as kinds
-use Rattle.tokens.specs.Places.{place, placeOf}
-use Rattle.tokens.specs.declared.places.Place.{Place}
+use Rattle.places.specs.Places.{place, placeOf}
+use Rattle.places.proofs.Opened.{places-opened}
+use Rattle.places.specs.declared.Place.{Place}
 use Rattle.reading.specs.Lexemes.{Lexeme, tokensOf}
 use Rattle.reading.specs.Reader.{Answer, took, refuse}
 use Rattle.grammar.proofs.Begun.{made}
@@ -154,7 +155,7 @@ pub record Computed : Type 0 where
       (seen [] (read-text (times 64 plainest)) ≡ policies 64) × (read-text (times 65 plainest) ≡ refuse 15 plainest)
 
 pub computed : Computed
-unfolding grammar-opened
+unfolding grammar-opened places-opened
 computed = record {
   cases = (refl, refl, refl, refl, refl, refl);
   case-h = refl;

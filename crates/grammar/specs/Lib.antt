@@ -1,3 +1,4 @@
+pub mod Versions
 pub mod Policies
 pub mod Moves
 pub mod Rules

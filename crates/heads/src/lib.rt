@@ -2,14 +2,16 @@
 ghost use mathlib.Core.Path.{_≡_};
 ghost use mathlib.Core.List.{[], _∷_};
 ghost use mathlib.Core.Bool.{cond};
-ghost use Prim.Native.Nat.{_+_, _-_};
+ghost use Prim.Native.Nat.{_+_, _-_, _≤_};
 ghost use Rattle.slices.specs.Same.{same};
 ghost use Rattle.reading.specs.Lexemes.{stream};
 ghost use Rattle.grammar.specs.Rules.{typeAmong, principalTypes, resourceTypes};
 ghost use Rattle.grammar.specs.Parser.{read-type, read-principal, read-action, read-resource};
-ghost use Rattle.table.specs.Entries.{partEntry, actionEntries};
+ghost use Rattle.table.specs.Kinds.{secondStep};
+ghost use Rattle.table.specs.Entries.{partEntry, raised, principalEntry, actionEntries};
 ghost use Rattle.parts.specs.Answers.{ReadyToRead, Done};
 ghost use Rattle.parts.specs.Names.{typesOf};
+use grammar::Version;
 use parts::answers::Answer;
 use parts::answers::counted;
 use parts::answers::turned_away;
@@ -20,9 +22,10 @@ use slices::same as equal;
 use table::Entry;
 use table::append;
 use table::entries;
+use table::step_of;
+use token_reader::next_token;
 use tokens::kinds;
 use tokens::reader::Token;
-use tokens::reader::next_token;
 
 // The number if the name is this type's, else the other number.
 fn number_if(name: &[u8], sort: &[u8], number: usize, other: usize) -> usize
@@ -60,7 +63,7 @@ pub fn type_number(resource: bool, name: &[u8]) -> usize
     }
 }
 
-// After `is`.
+// After `is`. The kind of its entry is higher by `step`.
 fn read_type(
     classes: &[u8; 256],
     text: &[u8],
@@ -70,10 +73,11 @@ fn read_type(
     t: Token,
     number: usize,
     same: bool,
+    step: u8,
 ) -> Answer
-    requires { ⌜ ReadyToRead (now classes) (now text) number t ⌝ }
-    ensures { λ r. ⌜ Done (λ e p. partEntry p ∷ []) (now (text .entry)) (now (seen .entry)) (t .start) number same (now (table .entry)) (now (table .exit))
-        (read-type (typesOf resource) (stream (now (text .entry)) t)) r ⌝ }
+    requires { ⌜ ReadyToRead (now classes) (now text) number t × (step ≤ secondStep) ⌝ }
+    ensures { λ r. ⌜ Done (λ e p. raised step (partEntry p) ∷ []) (now (text .entry)) (now (seen .entry)) (t .start) number same (now (table .entry))
+        (now (table .exit)) (read-type (typesOf resource) (stream (now (text .entry)) t)) r ⌝ }
 {
     if t.kind != kinds::NAME {
         return Answer::Refused(turned_away(text, t, refusals::NOT_ADMITTED));
@@ -91,7 +95,7 @@ fn read_type(
         number,
         same,
         Entry {
-            kind: entries::TYPED_PART,
+            kind: entries::TYPED_PART + step,
             first: sort,
             second: 0,
         },
@@ -99,7 +103,7 @@ fn read_type(
     Answer::Read(next, number + 1, ok)
 }
 
-// After principal.
+// After principal. The part records the version.
 pub fn read_principal(
     classes: &[u8; 256],
     text: &[u8],
@@ -108,14 +112,16 @@ pub fn read_principal(
     t: Token,
     number: usize,
     same: bool,
+    version: Version,
 ) -> Answer
     requires { ⌜ ReadyToRead (now classes) (now text) (number + 1) t ⌝ }
-    ensures { λ r. ⌜ Done (λ e p. partEntry p ∷ []) (now (text .entry)) (now (seen .entry)) (t .start - 1) number same (now (table .entry)) (now (table .exit))
-        (read-principal (stream (now (text .entry)) t)) r ⌝ }
+    ensures { λ r. ⌜ Done (λ e p. principalEntry version p ∷ []) (now (text .entry)) (now (seen .entry)) (t .start - 1) number same (now (table .entry))
+        (now (table .exit)) (read-principal (stream (now (text .entry)) t)) r ⌝ }
 {
+    let step = step_of(version);
     if t.kind == kinds::IS {
         let next = next_token(classes, text, t.end);
-        return read_type(classes, text, table, seen, false, next, number, same);
+        return read_type(classes, text, table, seen, false, next, number, same, step);
     }
     let ok = append(
         table,
@@ -123,7 +129,7 @@ pub fn read_principal(
         number,
         same,
         Entry {
-            kind: entries::BARE_PART,
+            kind: entries::BARE_PART + step,
             first: 0,
             second: 0,
         },
@@ -184,7 +190,7 @@ pub fn read_resource(
 {
     if t.kind == kinds::IS {
         let next = next_token(classes, text, t.end);
-        return read_type(classes, text, table, seen, true, next, number, same);
+        return read_type(classes, text, table, seen, true, next, number, same, 0);
     }
     if t.kind == kinds::EQUAL {
         let s = next_token(classes, text, t.end);

@@ -111,7 +111,7 @@ condition-stands : {at : ℕ → Entry} {end : ℕ} (p : Policy) → StoredPolic
 unfolding policyEntries
 condition-stands {at} {end} p h =
     let first = h .first in let s = h .stands in
-    let target = targetEntries p in
+    let target = targetEntries (h .version) p in
     let m = first + length target in
     let x = entry (effectKind (p .permits)) first m in
     let inner = stands-before (target ++ conditionEntries m (p .condition)) x s in
@@ -120,8 +120,14 @@ condition-stands {at} {end} p h =
 
 stored-last : {at : ℕ → Entry} {end : ℕ} (ps : List Policy) (p : Policy) → StoredPolicies at end (ps ++ p ∷ []) → StoredPolicy at end p
 stored-last {at} {end} ps p h =
-    let f = 0 + length (policiesEntries 0 ps) in
-    record { first = f; stands = stands-right (policiesEntries 0 ps) (policyEntries f p) (subst (EntriesStand at 0 end) (policies-append 0 ps p) (h .stands)) }
+    let version = h .version in
+    let f = 0 + length (policiesEntries version 0 ps) in
+    record {
+      version = version;
+      first = f;
+      stands =
+          stands-right (policiesEntries version 0 ps) (policyEntries version f p) (subst (EntriesStand at 0 end) (policies-append version 0 ps p) (h .stands));
+    }
 
 -- ---- the last policy is steady
 
@@ -146,8 +152,8 @@ last-steady {t} {table} {end = end} {x} r is last s n heads but =
     let stored = stored-last (policiesBy table (x .first)) (policyBy table end x) (subst (StoredPolicies table end) (last .is) (r .stored)) in
     let stands : EntriesStand table (x .second) (end - 1) (conditionEntries (x .second) (policyBy table end x .condition)) = rw is (rw is at (condition-stands (policyBy table end x) stored)) in
     record {
-      same = λ p q u v a own.
-          policy-agrees t (rowView s p n heads u) (rowView s p n heads v) q (policyBy table end x) (last .placed) (x .second)
+      same = λ version p q u v a own.
+          policy-agrees version t (rowView s p n heads u) (rowView s p n heads v) q (policyBy table end x) (last .placed) (x .second)
           (each-stands (x .second) (end - 1) _ stands
           (λ i l h. entry-shows t s n heads but _ (table i) (depth-covers t table s n heads but (end - 1 - x .second) (x .second) 0 i l (omega arith)) p u v a own));
     }

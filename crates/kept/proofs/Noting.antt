@@ -9,6 +9,7 @@ use lib.Dec.{eqb, leb, ltb}
 use lib.ListN.{length, getD, set, replicate, length-set, length-replicate, getD-replicate, List·getD-eq-default}
 use lib.Seq.{getD-set-same, getD-set-other}
 use Rattle.grammar.specs.Policies.{Policy}
+use Rattle.grammar.specs.declared.Version.{Version}
 use Rattle.bags.specs.declared.sections.Sections.{Sections}
 use Rattle.questions.specs.Questions.{cell}
 use Rattle.questions.proofs.PlaceLaws.{set-cases}
@@ -16,7 +17,7 @@ use Rattle.views.specs.Rows.{rowView}
 use Rattle.placing.specs.Said.{policyWords}
 use Rattle.meaning.specs.Targets.{Request}
 use Rattle.meaning.specs.Values.{withAction}
-use Rattle.meaning.specs.Decisions.{targetMatches, conditionHolds, satisfied, Numbered}
+use Rattle.meaning.specs.Decisions.{under, targetMatches, conditionHolds, satisfied, Numbered}
 use Rattle.kept.specs.Notes.{Alike, Steady, ownOf, otherOf, aimOf, Depths, NoteSays, RowSays, satBy, Noted, Carried, ChosenThere, Met}
 use Rattle.meaning.proofs.Deciding.{numbered-some, numbered-few}
 use Rattle.meaning.proofs.Marking.{numbered-one}
@@ -205,19 +206,19 @@ set-own [] i v e = refl
 set-own (x ∷ l) zero v e = rw e
 set-own (x ∷ l) (suc i) v e = rw (set-own l i v e)
 
-module _ (t s : List ℕ) (p : Sections) (n : ℕ) (heads : List ℕ) (q : Request) where
+module _ (version : Version) (t s : List ℕ) (p : Sections) (n : ℕ) (heads : List ℕ) (q : Request) where
   -- in the row's own choice
   pub sat-here : (choices values : List ℕ) (column : ℕ) (policy : Policy) → column < 6 → ChosenThere s p n choices values
-      → satBy t s p n heads q values column policy (getD choices column 0) ≡ satisfied (rowView s p n heads values) q (policyWords t policy)
+      → satBy version t s p n heads q values column policy (getD choices column 0) ≡ satisfied (under version (rowView s p n heads values)) q (policyWords t policy)
   unfolding satBy
   sat-here choices values column policy h c = rw (set-own values column _ (sym (c .picked column h)))
 
   -- in two rows that choose alike
   sat-alike : (before values : List ℕ) (column low from : ℕ) (policy : Policy) → length before ≡ 6 → length values ≡ 6 → column < 6 → Steady t s n heads policy column low → low ≤ from
-      → Alike from before values → (c : ℕ) → satBy t s p n heads q before column policy c ≡ satBy t s p n heads q values column policy c
+      → Alike from before values → (c : ℕ) → satBy version t s p n heads q before column policy c ≡ satBy version t s p n heads q values column policy c
   unfolding satBy
   sat-alike before values column low from policy six six′ small st h a c =
-      st .same p q (set before column v) (set values column v)
+      st .same version p q (set before column v) (set values column v)
       (record { alike = λ j l. go j l (eqb j column) refl })
       (getD-set-same before column v 0 (omega arith) ∙ sym (getD-set-same values column v 0 (omega arith)))
     where
@@ -231,20 +232,20 @@ module _ (t s : List ℕ) (p : Sections) (n : ℕ) (heads : List ℕ) (q : Reque
 
   -- a policy is satisfied where its target matches and its condition, if any, is true
   pub sat-where : (values action : List ℕ) (policy : Policy) {aimed : Bool} → q .action ≡ action → aimed ≡ targetMatches q (policyWords t policy)
-      → satisfied (rowView s p n heads values) q (policyWords t policy)
-      ≡ aimed && conditionHolds (withAction action (rowView s p n heads values)) (policyWords t policy .condition)
+      → satisfied (under version (rowView s p n heads values)) q (policyWords t policy)
+      ≡ aimed && conditionHolds (under version (withAction action (rowView s p n heads values))) (policyWords t policy .condition)
   unfolding satisfied
   sat-where values action policy {aimed} e a =
-      ap (λ (b : Bool). b && conditionHolds (withAction (q .action) (rowView s p n heads values)) (policyWords t policy .condition)) (sym a)
-      ∙ ap (λ (l : List ℕ). aimed && conditionHolds (withAction l (rowView s p n heads values)) (policyWords t policy .condition)) e
+      ap (λ (b : Bool). b && conditionHolds (under version (withAction (q .action) (rowView s p n heads values))) (policyWords t policy .condition)) (sym a)
+      ∙ ap (λ (l : List ℕ). aimed && conditionHolds (under version (withAction l (rowView s p n heads values))) (policyWords t policy .condition)) e
 
   module _ (ps : List Policy) (looks values : List ℕ) (from number : ℕ) (policy : Policy) (some : 1 ≤ number) (here : Numbered number policy ps) where
     abbrev own : ℕ
     own = ownOf looks number
 
     -- a note that is not stale holds for the row
-    pub note-holds : (notes : List ℕ) → length values ≡ 6 → own < 6 → Depths t s n heads ps looks → Carried t s p n heads q ps looks values from number notes
-        → ltb from (otherOf looks number) ≡ false → RowSays notes (number - 1) (satBy t s p n heads q values own policy)
+    pub note-holds : (notes : List ℕ) → length values ≡ 6 → own < 6 → Depths t s n heads ps looks → Carried version t s p n heads q ps looks values from number notes
+        → ltb from (otherOf looks number) ≡ false → RowSays notes (number - 1) (satBy version t s p n heads q values own policy)
     note-holds notes six small d k fresh =
         let r = k .noted .right number policy here (omega arith) (omega arith) in
         record {
@@ -253,12 +254,12 @@ module _ (t s : List ℕ) (p : Sections) (n : ℕ) (heads : List ℕ) (q : Reque
               (sat-alike (k .before) values own (otherOf looks number) from policy (k .six) six small (d .steady number policy here) (ltb-false from (otherOf looks number) fresh) (k .alike) c) (r .says c h);
         }
 
-    module _ {choice : ℕ} {notes after : List ℕ} {r : Bool} (met : Met (satBy t s p n heads q values own policy) (number - 1) choice notes r after) where
+    module _ {choice : ℕ} {notes after : List ℕ} {r : Bool} (met : Met (satBy version t s p n heads q values own policy) (number - 1) choice notes r after) where
       kept : (m : ℕ) → 0 < m → (m ≡ number → ⊥) → (sat : ℕ → Bool) → RowSays notes (m - 1) sat → RowSays after (m - 1) sat
       kept m l d sat old = rows-kept (λ c h. met .others (m - 1) c (λ e. d (omega arith)) h) old
 
       -- the notes of the policies left, and of those met
-      pub left-carried : Carried t s p n heads q ps looks values from number notes → Carried t s p n heads q ps looks values from (number - 1) after
+      pub left-carried : Carried version t s p n heads q ps looks values from number notes → Carried version t s p n heads q ps looks values from (number - 1) after
       left-carried k = record {
         before = k .before;
         six = k .six;
@@ -267,11 +268,11 @@ module _ (t s : List ℕ) (p : Sections) (n : ℕ) (heads : List ℕ) (q : Reque
         long = met .long;
       }
 
-      pub met-right : (high : ℕ) → Noted t s p n heads q ps looks values number high notes → Noted t s p n heads q ps looks values (number - 1) high after
+      pub met-right : (high : ℕ) → Noted version t s p n heads q ps looks values number high notes → Noted version t s p n heads q ps looks values (number - 1) high after
       met-right high k = record { right = λ m policy′ h l u. go m policy′ h l u (eqb m number) refl }
         where
           go : (m : ℕ) (policy′ : Policy) → Numbered m policy′ ps → number - 1 < m → m ≤ high → (b : Bool) → eqb m number ≡ b
-              → RowSays after (m - 1) (satBy t s p n heads q values (ownOf looks m) policy′)
+              → RowSays after (m - 1) (satBy version t s p n heads q values (ownOf looks m) policy′)
           go m policy′ h l u true e =
               let is : m ≡ number = eqb-true m number e in
               let same : policy ≡ policy′ = numbered-one here (subst (λ (k : ℕ). Numbered k policy′ ps) is h) in

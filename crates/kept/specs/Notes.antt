@@ -7,13 +7,14 @@ use lib.Dec.{eqb}
 use lib.ListN.{length, getD, set}
 use Rattle.tokens.specs.Sizes.{mostPolicies}
 use Rattle.grammar.specs.Policies.{Policy}
+use Rattle.grammar.specs.declared.Version.{Version}
 use Rattle.bags.specs.declared.sections.Sections.{Sections}
 use Rattle.questions.specs.Questions.{cell}
 use Rattle.questions.specs.Sizes.{mostColumns, mostCandidates}
 use Rattle.views.specs.Rows.{rowView}
 use Rattle.placing.specs.Said.{policyWords, wordsOf}
 use Rattle.meaning.specs.Targets.{Request}
-use Rattle.meaning.specs.Decisions.{targetMatches, satisfied, Numbered, policiesMarked}
+use Rattle.meaning.specs.Decisions.{under, targetMatches, satisfied, Numbered, policiesMarked}
 use Rattle.meaning.specs.declared.Marked.{Marked}
 use Rattle.kept.specs.declared.Walk.{Walk}
 
@@ -25,8 +26,8 @@ pub record Alike (low : ℕ) (u v : List ℕ) : Type 0 where
 
 -- only the columns before number `low`, and this column, matter to the policy
 pub record Steady (t s : List ℕ) (n : ℕ) (heads : List ℕ) (policy : Policy) (column low : ℕ) : Type 0 where
-  pub same : (p : Sections) (q : Request) (u v : List ℕ) → Alike low u v → getD u column 0 ≡ getD v column 0
-      → satisfied (rowView s p n heads u) q (policyWords t policy) ≡ satisfied (rowView s p n heads v) q (policyWords t policy)
+  pub same : (version : Version) (p : Sections) (q : Request) (u v : List ℕ) → Alike low u v → getD u column 0 ≡ getD v column 0
+      → satisfied (under version (rowView s p n heads u)) q (policyWords t policy) ≡ satisfied (under version (rowView s p n heads v)) q (policyWords t policy)
 
 -- What is found of each policy, in three parts of 64 numbers: its own column, from 0 on; a number such that beside it only the columns before that number
 -- can matter; and 1 where its target matches.
@@ -62,23 +63,24 @@ pub record NoteSays (note : ℕ) (b : Bool) : Type 0 where
 pub record RowSays (notes : List ℕ) (i : ℕ) (sat : ℕ → Bool) : Type 0 where
   pub says : (c : ℕ) → c < mostCandidates → NoteSays (getD notes (mostCandidates * i + c) 0) (sat c)
 
--- whether a policy is satisfied in the row with these values, but with choice c in its own column
-unfoldable pub satBy : List ℕ → List ℕ → Sections → ℕ → List ℕ → Request → List ℕ → ℕ → Policy → ℕ → Bool
-satBy t s p n heads q values column policy c = satisfied (rowView s p n heads (set values column (cell s (p .end + 1) n column c))) q (policyWords t policy)
+-- whether a policy is satisfied under a version in the row with these values, but with choice c in its own column
+unfoldable pub satBy : Version → List ℕ → List ℕ → Sections → ℕ → List ℕ → Request → List ℕ → ℕ → Policy → ℕ → Bool
+satBy version t s p n heads q values column policy c =
+    satisfied (under version (rowView s p n heads (set values column (cell s (p .end + 1) n column c)))) q (policyWords t policy)
 
 -- the notes of the policies above number `low` and up to number `high` are right for these values
-pub record Noted (t s : List ℕ) (p : Sections) (n : ℕ) (heads : List ℕ) (q : Request) (ps : List Policy) (looks values : List ℕ)
+pub record Noted (version : Version) (t s : List ℕ) (p : Sections) (n : ℕ) (heads : List ℕ) (q : Request) (ps : List Policy) (looks values : List ℕ)
     (low high : ℕ) (notes : List ℕ) : Type 0 where
   pub right : (number : ℕ) (policy : Policy) → Numbered number policy ps → low < number → number ≤ high
-      → RowSays notes (number - 1) (satBy t s p n heads q values (ownOf looks number) policy)
+      → RowSays notes (number - 1) (satBy version t s p n heads q values (ownOf looks number) policy)
 
 -- the notes of the policies up to number `high` are right for some row that chooses alike in the columns before number `from`
-pub record Carried (t s : List ℕ) (p : Sections) (n : ℕ) (heads : List ℕ) (q : Request) (ps : List Policy) (looks values : List ℕ)
+pub record Carried (version : Version) (t s : List ℕ) (p : Sections) (n : ℕ) (heads : List ℕ) (q : Request) (ps : List Policy) (looks values : List ℕ)
     (from high : ℕ) (notes : List ℕ) : Type 0 where
   pub before : List ℕ
   pub six : length before ≡ mostColumns
   pub alike : Alike from before values
-  pub noted : Noted t s p n heads q ps looks before 0 high notes
+  pub noted : Noted version t s p n heads q ps looks before 0 high notes
   pub long : length notes ≡ notesSize
 
 -- the row's choices are among eight, and its values stand at their places in the question's columns, which begin behind the sections
@@ -89,9 +91,10 @@ pub record ChosenThere (s : List ℕ) (p : Sections) (n : ℕ) (choices values :
 
 -- What is kept from row to row of a walk, for a request: which targets match, and notes that are right for a row that chooses alike in the columns before
 -- number `from`.
-pub record Kept (t s : List ℕ) (w : Walk) (heads : List ℕ) (q : Request) (ps : List Policy) (looks values : List ℕ) (from : ℕ) (notes : List ℕ) : Type 0 where
+pub record Kept (version : Version) (t s : List ℕ) (w : Walk) (heads : List ℕ) (q : Request) (ps : List Policy) (looks values : List ℕ) (from : ℕ)
+    (notes : List ℕ) : Type 0 where
   pub aims : Aims t q ps looks
-  pub carried : Carried t s (w .p) (w .n) heads q ps looks values from (w .policies) notes
+  pub carried : Carried version t s (w .p) (w .n) heads q ps looks values from (w .policies) notes
 
 -- ---- what the calls do
 
@@ -103,8 +106,8 @@ pub record Met (sat : ℕ → Bool) (i choice : ℕ) (before : List ℕ) (r : Bo
   pub long : length after ≡ notesSize
 
 -- what the policies decide in the row, with their mark, and all notes right for it
-pub record DecidedFrom (t s : List ℕ) (p : Sections) (n : ℕ) (heads : List ℕ) (q : Request) (ps : List Policy) (looks values : List ℕ)
+pub record DecidedFrom (version : Version) (t s : List ℕ) (p : Sections) (n : ℕ) (heads : List ℕ) (q : Request) (ps : List Policy) (looks values : List ℕ)
     (r : Marked) (notes : List ℕ) : Type 0 where
-  pub is : r ≡ policiesMarked (rowView s p n heads values) q (wordsOf t ps)
-  pub noted : Noted t s p n heads q ps looks values 0 (length ps) notes
+  pub is : r ≡ policiesMarked (under version (rowView s p n heads values)) q (wordsOf t ps)
+  pub noted : Noted version t s p n heads q ps looks values 0 (length ps) notes
   pub long : length notes ≡ notesSize

@@ -7,6 +7,7 @@ ghost use Prim.Native.Nat.{ℕ, _+_, _-_, _≤_, _<_};
 ghost use lib.Dec.{leb, ltb};
 ghost use lib.ListN.{length, getD};
 ghost use Rattle.tokens.specs.Sizes.{mostPolicies};
+ghost use Rattle.table.specs.Recorded.{recorded};
 ghost use Rattle.stored.specs.ReadBack.{policyAt, policiesAt};
 ghost use Rattle.stored.specs.Ready.{ReadyPolicies, Last};
 ghost use Rattle.questions.specs.Sizes.{mostCandidates};
@@ -14,7 +15,7 @@ ghost use Rattle.views.specs.Rows.{rowView, RowStands};
 ghost use Rattle.placing.specs.Said.{policyWords};
 ghost use Rattle.meaning.specs.Values.{withAction};
 ghost use Rattle.meaning.specs.Targets.{Request};
-ghost use Rattle.meaning.specs.Decisions.{conditionHolds};
+ghost use Rattle.meaning.specs.Decisions.{under, conditionHolds};
 ghost use Rattle.kept.specs.Notes.{Depths, RowSays, ChosenThere, Met, Kept, DecidedFrom, notesSize};
 use crate::depths::AIMS;
 use bags::sections::Sections;
@@ -99,7 +100,8 @@ fn satisfied_where<'a>(
 ) -> bool
     requires { ⌜ Last (now text) (now table) end x ⌝ }
     requires { ⌜ RowStands (now s) p n (now heads) (now values) ⌝ }
-    ensures { λ r. ⌜ r ≡ aimed && conditionHolds (withAction (now (action .entry)) (rowView (now (s .entry)) p n (now (heads .entry)) (now (values .entry))))
+    ensures { λ r. ⌜ r ≡ aimed && conditionHolds
+        (under (recorded (now (table .entry))) (withAction (now (action .entry)) (rowView (now (s .entry)) p n (now (heads .entry)) (now (values .entry)))))
         (policyWords (now (text .entry)) (policyAt (now (table .entry)) end x) .condition) ⌝ }
 {
     if !aimed {
@@ -127,8 +129,8 @@ fn met<'a>(
     requires { ⌜ (note .i < mostPolicies) × (note .choice < mostCandidates) × (length (now notes) ≡ notesSize) ⌝ }
     requires { ⌜ Last (now text) (now table) end x ⌝ }
     requires { ⌜ RowStands (now s) p n (now heads) (now values) ⌝ }
-    ensures { λ r. ⌜ ((sat : ℕ → Bool) → sat (note .choice) ≡ note .aimed
-        && conditionHolds (withAction (now (action .entry)) (rowView (now (s .entry)) p n (now (heads .entry)) (now (values .entry))))
+    ensures { λ r. ⌜ ((sat : ℕ → Bool) → sat (note .choice) ≡ note .aimed && conditionHolds
+        (under (recorded (now (table .entry))) (withAction (now (action .entry)) (rowView (now (s .entry)) p n (now (heads .entry)) (now (values .entry)))))
         (policyWords (now (text .entry)) (policyAt (now (table .entry)) end x) .condition)
         → (note .stale ≡ false → RowSays (now (notes .entry)) (note .i) sat) → Met sat (note .i) (note .choice) (now (notes .entry)) r (now (notes .exit))) ⌝ }
     ensures { λ _. ⌜ length (now (notes .exit)) ≡ notesSize ⌝ }
@@ -179,10 +181,10 @@ pub fn decision_from<'a>(
     requires { ⌜ Depths (now text) (now s) (walk .n) (now heads) (policiesAt (now table) (walk .entries)) (now looks) ⌝ }
     requires { ⌜ length (now notes) ≡ notesSize ⌝ }
     ensures { λ r. ⌜ ((q : Request) → q .action ≡ now (action .entry)
-        → Kept (now (text .entry)) (now (s .entry)) walk (now (heads .entry)) q (policiesAt (now (table .entry)) (walk .entries)) (now (looks .entry))
-        (now (values .entry)) (walk .from) (now (notes .entry))
-        → DecidedFrom (now (text .entry)) (now (s .entry)) (walk .p) (walk .n) (now (heads .entry)) q (policiesAt (now (table .entry)) (walk .entries))
-        (now (looks .entry)) (now (values .entry)) r (now (notes .exit))) ⌝ }
+        → Kept (recorded (now (table .entry))) (now (text .entry)) (now (s .entry)) walk (now (heads .entry)) q
+        (policiesAt (now (table .entry)) (walk .entries)) (now (looks .entry)) (now (values .entry)) (walk .from) (now (notes .entry))
+        → DecidedFrom (recorded (now (table .entry))) (now (text .entry)) (now (s .entry)) (walk .p) (walk .n) (now (heads .entry)) q
+        (policiesAt (now (table .entry)) (walk .entries)) (now (looks .entry)) (now (values .entry)) r (now (notes .exit))) ⌝ }
 {
     let p = walk.p;
     let n = walk.n;

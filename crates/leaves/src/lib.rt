@@ -35,9 +35,9 @@ use parts::refusals;
 use table::Entry;
 use table::append;
 use table::entries;
+use token_reader::next_token;
 use tokens::kinds;
 use tokens::reader::Token;
-use tokens::reader::next_token;
 
 // The kind of the entry of a comparator, 0 for any other token.
 fn comparator_kind(kind: u8) -> u8

@@ -1,5 +1,6 @@
 // Writes the permits of test locks, and writes a line for each: the permit's length, or `R` and the refusal's number; a sum of the whole room, which is lent with a pattern
-// in it; and what the permit, compiled, decides of a request over a bag: the outcome and the policy's number, or `R` and the refusal's number.
+// in it; and what the permit decides of a request over a bag, compiled under version 1 and then under version 2: the outcome and the policy's number, or `R` and the
+// refusal's number.
 ghost use Prim.Native.Nat.{_<_, _≤_};
 ghost use lib.ListN.{length};
 use desk::DeskDecision;
@@ -18,19 +19,19 @@ fn report_lock(answer: DeskLock, room: &[u8]) {
     vectors::print_number(vectors::sum_of(room), b' ');
 }
 
-// Writes what is decided.
-fn report_decision(answer: DeskDecision) {
+// Writes what is decided, and a byte behind it.
+fn report_decision(answer: DeskDecision, end: u8) {
     if 0 < answer.refusal {
         io::write_all(STDOUT_FILENO, b"R ");
-        vectors::print_number(answer.refusal as u64, b'\n');
+        vectors::print_number(answer.refusal as u64, end);
         return;
     }
     vectors::print_number(answer.outcome as u64, b' ');
-    vectors::print_number(answer.policy as u64, b'\n');
+    vectors::print_number(answer.policy as u64, end);
 }
 
-// The permit, compiled, decides; the bag and the request's subject, action and resource lie in the memory from a place on.
-fn decide<'a>(permit: &'a [u8], memory: &'a [u8], at: usize)
+// The permit, compiled under a version, decides; the bag and the request's subject, action and resource lie in the memory from a place on.
+fn decide<'a>(permit: &'a [u8], version: u64, memory: &'a [u8], at: usize, end: u8)
     requires { ⌜ at ≤ length (now memory) ⌝ }
 {
     let bag = packed::part_start(memory, at);
@@ -42,15 +43,16 @@ fn decide<'a>(permit: &'a [u8], memory: &'a [u8], at: usize)
     let resource = packed::part_start(memory, action_end);
     let resource_end = packed::part_end(memory, resource);
     let mut table = [0u8; 65536];
-    desk::desk_compile(permit, &mut table);
-    report_decision(desk::desk_decide(
+    desk::desk_compile(permit, &mut table, version);
+    let answer = desk::desk_decide(
         permit,
         &table,
         &memory[bag..bag_end],
         &memory[subject..subject_end],
         &memory[action..action_end],
         &memory[resource..resource_end],
-    ));
+    );
+    report_decision(answer, end);
 }
 
 // Writes a permit into the room that is lent, and has it decide.
@@ -74,7 +76,8 @@ fn run(
         return;
     }
     if length <= room.len() {
-        decide(&room[..length], memory, at);
+        decide(&room[..length], 1, memory, at, b' ');
+        decide(&room[..length], 2, memory, at, b'\n');
     }
 }
 

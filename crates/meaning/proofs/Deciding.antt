@@ -9,9 +9,8 @@ use lib.ListN.{length}
 use borrow.Author.Tests.{not-true}
 use Rattle.grammar.specs.Policies.{PolicyOf}
 use Rattle.placing.specs.Said.{Word}
-use Rattle.views.specs.Meaning.{View}
 use Rattle.meaning.specs.Targets.{Request, isSystem}
-use Rattle.meaning.specs.Decisions.{satisfied, firstOf, byNumbers, forbids, permits, policiesDecide, decisionOf, policyOf, isAllowed, Numbered, first, later, SatisfiedAs, SomeSatisfied, LowestSatisfied, YesExactly, NamesPolicy, the-system, a-forbid, a-permit, none-named, NamedRightly, OneName}
+use Rattle.meaning.specs.Decisions.{Terms, satisfied, firstOf, byNumbers, forbids, permits, policiesDecide, decisionOf, policyOf, isAllowed, Numbered, first, later, SatisfiedAs, SomeSatisfied, LowestSatisfied, YesExactly, NamesPolicy, the-system, a-forbid, a-permit, none-named, NamedRightly, OneName}
 use Rattle.meaning.specs.declared.Decision.{Decision}
 use Rattle.meaning.specs.declared.Decision.the-variants.{Allowed, Forbidden, Nothing, System}
 
@@ -63,33 +62,33 @@ module _ {A : Type 0} (test : A → Bool) where
 
 -- ---- satisfied forbids and permits
 
-module _ (view : View) (q : Request) (ps : List (PolicyOf Word)) where
+module _ (terms : Terms) (q : Request) (ps : List (PolicyOf Word)) where
   -- a test that says: a policy of this effect, and satisfied
   record Tells (permits : Bool) (test : PolicyOf Word → Bool) : Type 0 where
-    tells : (p : PolicyOf Word) → test p ≡ true → (p .permits ≡ permits) × (satisfied view q p ≡ true)
-    sees : (p : PolicyOf Word) → p .permits ≡ permits → satisfied view q p ≡ true → test p ≡ true
+    tells : (p : PolicyOf Word) → test p ≡ true → (p .permits ≡ permits) × (satisfied terms q p ≡ true)
+    sees : (p : PolicyOf Word) → p .permits ≡ permits → satisfied terms q p ≡ true → test p ≡ true
 
-  forbids-tell : Tells false (forbids view q)
+  forbids-tell : Tells false (forbids terms q)
   forbids-tell = record {
-    tells = λ p e. let w = and-eq-true-iff (not (p .permits)) (satisfied view q p) .0 e in (not-true (p .permits) (w .0), w .1);
-    sees = λ p e f. and-eq-true-iff (not (p .permits)) (satisfied view q p) .1 (ap not e, f);
+    tells = λ p e. let w = and-eq-true-iff (not (p .permits)) (satisfied terms q p) .0 e in (not-true (p .permits) (w .0), w .1);
+    sees = λ p e f. and-eq-true-iff (not (p .permits)) (satisfied terms q p) .1 (ap not e, f);
   }
 
-  permits-tell : Tells true (permits view q)
+  permits-tell : Tells true (permits terms q)
   permits-tell = record {
-    tells = λ p e. and-eq-true-iff (p .permits) (satisfied view q p) .0 e;
-    sees = λ p e f. and-eq-true-iff (p .permits) (satisfied view q p) .1 (e, f);
+    tells = λ p e. and-eq-true-iff (p .permits) (satisfied terms q p) .0 e;
+    sees = λ p e f. and-eq-true-iff (p .permits) (satisfied terms q p) .1 (e, f);
   }
 
   module _ {effect : Bool} {test : PolicyOf Word → Bool} (w : Tells effect test) where
-    satisfied-as : {m : ℕ} {p : PolicyOf Word} → Numbered m p ps → test p ≡ true → SatisfiedAs view q ps effect m
+    satisfied-as : {m : ℕ} {p : PolicyOf Word} → Numbered m p ps → test p ≡ true → SatisfiedAs terms q ps effect m
     satisfied-as {p = p} h e = record { policy = p; numbered = h; effect = w .tells p e .0; satisfied-there = w .tells p e .1 }
 
     -- no policy of the effect is satisfied, or there is a lowest number of one
-    none-bites : ((m : ℕ) (p : PolicyOf Word) → Numbered m p ps → test p ≡ true → ⊥) → SomeSatisfied view q ps effect → ⊥
+    none-bites : ((m : ℕ) (p : PolicyOf Word) → Numbered m p ps → test p ≡ true → ⊥) → SomeSatisfied terms q ps effect → ⊥
     none-bites f s = let b = s .satisfied-as in f (s .number) (b .policy) (b .numbered) (w .sees (b .policy) (b .effect) (b .satisfied-there))
 
-    lowest-bites : {m : ℕ} {p : PolicyOf Word} → Numbered m p ps → test p ≡ true → ((l : ℕ) (r : PolicyOf Word) → Numbered l r ps → test r ≡ true → m ≤ l) → LowestSatisfied view q ps effect m
+    lowest-bites : {m : ℕ} {p : PolicyOf Word} → Numbered m p ps → test p ≡ true → ((l : ℕ) (r : PolicyOf Word) → Numbered l r ps → test r ≡ true → m ≤ l) → LowestSatisfied terms q ps effect m
     lowest-bites h e low =
         record { satisfied-as = satisfied-as h e; lowest = λ l b. low l (b .policy) (b .numbered) (w .sees (b .policy) (b .effect) (b .satisfied-there)) }
 
@@ -113,45 +112,45 @@ by-forbid zero g h = absurd (omega arith)
 by-forbid (suc f) g h = refl
 
 -- what is decided, and why
-data Decided (view : View) (q : Request) (ps : List (PolicyOf Word)) (d : Decision) : Type 0 where
-  by-system : isSystem (q .subject) ≡ true → d ≡ System → Decided view q ps d
-  by-a-forbid : (n : ℕ) → isSystem (q .subject) ≡ false → LowestSatisfied view q ps false n → d ≡ Forbidden n → Decided view q ps d
-  by-a-permit : (n : ℕ) → isSystem (q .subject) ≡ false → (SomeSatisfied view q ps false → ⊥) → LowestSatisfied view q ps true n → d ≡ Allowed n → Decided view q ps d
-  by-nobody : isSystem (q .subject) ≡ false → (SomeSatisfied view q ps false → ⊥) → (SomeSatisfied view q ps true → ⊥) → d ≡ Nothing → Decided view q ps d
+data Decided (terms : Terms) (q : Request) (ps : List (PolicyOf Word)) (d : Decision) : Type 0 where
+  by-system : isSystem (q .subject) ≡ true → d ≡ System → Decided terms q ps d
+  by-a-forbid : (n : ℕ) → isSystem (q .subject) ≡ false → LowestSatisfied terms q ps false n → d ≡ Forbidden n → Decided terms q ps d
+  by-a-permit : (n : ℕ) → isSystem (q .subject) ≡ false → (SomeSatisfied terms q ps false → ⊥) → LowestSatisfied terms q ps true n → d ≡ Allowed n → Decided terms q ps d
+  by-nobody : isSystem (q .subject) ≡ false → (SomeSatisfied terms q ps false → ⊥) → (SomeSatisfied terms q ps true → ⊥) → d ≡ Nothing → Decided terms q ps d
 
-module _ (view : View) (q : Request) (ps : List (PolicyOf Word)) where
-  others : (f g : ℕ) → isSystem (q .subject) ≡ false → First (forbids view q) 0 ps f → First (permits view q) 0 ps g → Decided view q ps (byNumbers f g)
-  others f g s (somebody m p k h e low) r = by-a-forbid m s (lowest-bites view q ps (forbids-tell view q ps) h e low)
+module _ (terms : Terms) (q : Request) (ps : List (PolicyOf Word)) where
+  others : (f g : ℕ) → isSystem (q .subject) ≡ false → First (forbids terms q) 0 ps f → First (permits terms q) 0 ps g → Decided terms q ps (byNumbers f g)
+  others f g s (somebody m p k h e low) r = by-a-forbid m s (lowest-bites terms q ps (forbids-tell terms q ps) h e low)
       (let z = numbered-some h in let l : f ≡ m = omega arith in by-forbid f g (omega arith) ∙ ap Forbidden l)
   others f g s (nobody z n) (somebody m p k h e low) =
-      by-a-permit m s (none-bites view q ps (forbids-tell view q ps) n) (lowest-bites view q ps (permits-tell view q ps) h e low)
+      by-a-permit m s (none-bites terms q ps (forbids-tell terms q ps) n) (lowest-bites terms q ps (permits-tell terms q ps) h e low)
       (let y = numbered-some h in let l : g ≡ m = omega arith in by-permit f g z (omega arith) ∙ ap Allowed l)
   others f g s (nobody z n) (nobody y o) =
-      by-nobody s (none-bites view q ps (forbids-tell view q ps) n) (none-bites view q ps (permits-tell view q ps) o) (by-none f g z y)
+      by-nobody s (none-bites terms q ps (forbids-tell terms q ps) n) (none-bites terms q ps (permits-tell terms q ps) o) (by-none f g z y)
 
-  decided : Decided view q ps (decisionOf view q ps)
+  decided : Decided terms q ps (decisionOf terms q ps)
   unfolding decisionOf policiesDecide
   decided = go (isSystem (q .subject)) refl
     where
       go : (b : Bool) → isSystem (q .subject) ≡ b
-          → Decided view q ps (cond b System (byNumbers (firstOf (forbids view q) 1 ps) (firstOf (permits view q) 1 ps)))
+          → Decided terms q ps (cond b System (byNumbers (firstOf (forbids terms q) 1 ps) (firstOf (permits terms q) 1 ps)))
       go true e = by-system e refl
-      go false e = others _ _ e (first-of (forbids view q) 0 ps) (first-of (permits view q) 0 ps)
+      go false e = others _ _ e (first-of (forbids terms q) 0 ps) (first-of (permits terms q) 0 ps)
 
 -- ---- demand 2
 
 -- the lowest number is one
-same-lowest : {view : View} {q : Request} {ps : List (PolicyOf Word)} {effect : Bool} {m n : ℕ} → LowestSatisfied view q ps effect m → LowestSatisfied view q ps effect n → m ≡ n
+same-lowest : {terms : Terms} {q : Request} {ps : List (PolicyOf Word)} {effect : Bool} {m n : ℕ} → LowestSatisfied terms q ps effect m → LowestSatisfied terms q ps effect n → m ≡ n
 same-lowest {m = m} {n = n} a b = let x : m ≤ n = a .lowest n (b .satisfied-as) in let y : n ≤ m = b .lowest m (a .satisfied-as) in omega arith
 
-some-of : {view : View} {q : Request} {ps : List (PolicyOf Word)} {effect : Bool} {n : ℕ} → LowestSatisfied view q ps effect n → SomeSatisfied view q ps effect
+some-of : {terms : Terms} {q : Request} {ps : List (PolicyOf Word)} {effect : Bool} {n : ℕ} → LowestSatisfied terms q ps effect n → SomeSatisfied terms q ps effect
 some-of {n = n} l = record { number = n; satisfied-as = l .satisfied-as }
 
 pub yes-exactly : YesExactly
 unfolding YesExactly isAllowed
-yes-exactly view q ps = go (decisionOf view q ps) (decided view q ps)
+yes-exactly terms q ps = go (decisionOf terms q ps) (decided terms q ps)
   where
-    go : (d : Decision) → Decided view q ps d → (isAllowed d ≡ true) ↔ ((isSystem (q .subject) ≡ true) ⊎ (SomeSatisfied view q ps true × (SomeSatisfied view q ps false → ⊥)))
+    go : (d : Decision) → Decided terms q ps d → (isAllowed d ≡ true) ↔ ((isSystem (q .subject) ≡ true) ⊎ (SomeSatisfied terms q ps true × (SomeSatisfied terms q ps false → ⊥)))
     go d (by-system s e) = rw e ((λ _. inl s), (λ _. refl))
     go d (by-a-forbid n s l e) = rw e ((λ z. absurd (never refl z)), (λ w. ⊎-elim (λ z. absurd (never s z)) (λ z. absurd (z .1 (some-of l))) w))
     go d (by-a-permit n s f l e) = rw e ((λ _. inr (some-of l, f)), (λ _. refl))
@@ -159,9 +158,9 @@ yes-exactly view q ps = go (decisionOf view q ps) (decided view q ps)
 
 pub named-rightly : NamedRightly
 unfolding NamedRightly policyOf
-named-rightly view q ps = go (decisionOf view q ps) (decided view q ps)
+named-rightly terms q ps = go (decisionOf terms q ps) (decided terms q ps)
   where
-    go : (d : Decision) → Decided view q ps d → NamesPolicy view q ps (policyOf d)
+    go : (d : Decision) → Decided terms q ps d → NamesPolicy terms q ps (policyOf d)
     go d (by-system s e) = rw e (the-system s)
     go d (by-a-forbid n s l e) = rw e (a-forbid s l)
     go d (by-a-permit n s f l e) = rw e (a-permit s f l)
@@ -169,19 +168,19 @@ named-rightly view q ps = go (decisionOf view q ps) (decided view q ps)
 
 pub one-name : OneName
 unfolding OneName
-one-name view q ps m n (the-system s) (the-system z) = refl
-one-name view q ps m n (the-system s) (a-forbid z l) = absurd (never z s)
-one-name view q ps m n (the-system s) (a-permit z f l) = absurd (never z s)
-one-name view q ps m n (the-system s) (none-named z f g) = refl
-one-name view q ps m n (a-forbid s k) (the-system z) = absurd (never s z)
-one-name view q ps m n (a-forbid s k) (a-forbid z l) = same-lowest k l
-one-name view q ps m n (a-forbid s k) (a-permit z f l) = absurd (f (some-of k))
-one-name view q ps m n (a-forbid s k) (none-named z f g) = absurd (f (some-of k))
-one-name view q ps m n (a-permit s e k) (the-system z) = absurd (never s z)
-one-name view q ps m n (a-permit s e k) (a-forbid z l) = absurd (e (some-of l))
-one-name view q ps m n (a-permit s e k) (a-permit z f l) = same-lowest k l
-one-name view q ps m n (a-permit s e k) (none-named z f g) = absurd (g (some-of k))
-one-name view q ps m n (none-named s d e) (the-system z) = refl
-one-name view q ps m n (none-named s d e) (a-forbid z l) = absurd (d (some-of l))
-one-name view q ps m n (none-named s d e) (a-permit z f l) = absurd (e (some-of l))
-one-name view q ps m n (none-named s d e) (none-named z f g) = refl
+one-name terms q ps m n (the-system s) (the-system z) = refl
+one-name terms q ps m n (the-system s) (a-forbid z l) = absurd (never z s)
+one-name terms q ps m n (the-system s) (a-permit z f l) = absurd (never z s)
+one-name terms q ps m n (the-system s) (none-named z f g) = refl
+one-name terms q ps m n (a-forbid s k) (the-system z) = absurd (never s z)
+one-name terms q ps m n (a-forbid s k) (a-forbid z l) = same-lowest k l
+one-name terms q ps m n (a-forbid s k) (a-permit z f l) = absurd (f (some-of k))
+one-name terms q ps m n (a-forbid s k) (none-named z f g) = absurd (f (some-of k))
+one-name terms q ps m n (a-permit s e k) (the-system z) = absurd (never s z)
+one-name terms q ps m n (a-permit s e k) (a-forbid z l) = absurd (e (some-of l))
+one-name terms q ps m n (a-permit s e k) (a-permit z f l) = same-lowest k l
+one-name terms q ps m n (a-permit s e k) (none-named z f g) = absurd (g (some-of k))
+one-name terms q ps m n (none-named s d e) (the-system z) = refl
+one-name terms q ps m n (none-named s d e) (a-forbid z l) = absurd (d (some-of l))
+one-name terms q ps m n (none-named s d e) (a-permit z f l) = absurd (e (some-of l))
+one-name terms q ps m n (none-named s d e) (none-named z f g) = refl

@@ -1,5 +1,6 @@
 pub mod Deciding
 pub mod Marking
+pub mod Versions
 pub mod Paths
 pub mod WordLaws
 pub mod Opened

@@ -11,9 +11,8 @@ use lib.Dec.{eqb}
 use lib.ListN.{length}
 use Rattle.grammar.specs.Policies.{PolicyOf}
 use Rattle.placing.specs.Said.{Word}
-use Rattle.views.specs.Meaning.{View}
 use Rattle.meaning.specs.Targets.{Request, isSystem}
-use Rattle.meaning.specs.Decisions.{satisfied, firstOf, policiesDecide, decisionOf, Numbered, first, later, markBy, markOf, decidedMark, effectsOf, firstMarked, decidedBy, BitSet, SatisfiedAt, MarksExactly, for-the-system, for-another, MarkedRightly, OneMark, MarkDecides}
+use Rattle.meaning.specs.Decisions.{Terms, satisfied, firstOf, policiesDecide, decisionOf, Numbered, first, later, markBy, markOf, decidedMark, effectsOf, firstMarked, decidedBy, BitSet, SatisfiedAt, MarksExactly, for-the-system, for-another, MarkedRightly, OneMark, MarkDecides}
 use Rattle.meaning.proofs.Deciding.{never, numbered-some}
 
 -- ---- numbers of a list
@@ -131,37 +130,37 @@ module _ {A : Type 0} (test : A → Bool) where
 
 -- ---- a decision's mark
 
-module _ (view : View) (q : Request) (ps : List (PolicyOf Word)) where
-  exactly : (n : ℕ) → BitSet (markOf view q ps) n ↔ SatisfiedAt view q ps n
+module _ (terms : Terms) (q : Request) (ps : List (PolicyOf Word)) where
+  exactly : (n : ℕ) → BitSet (markOf terms q ps) n ↔ SatisfiedAt terms q ps n
   exactly n = (to n, from n)
     where
-      to : (n : ℕ) → BitSet (markOf view q ps) n → SatisfiedAt view q ps n
+      to : (n : ℕ) → BitSet (markOf terms q ps) n → SatisfiedAt terms q ps n
       to zero b = absurd (let h = b .some in omega arith)
       to (suc k) b =
           let here : suc k - 1 ≡ k = omega arith in
-          let r = set-then (satisfied view q) ps k (rw here at (b .set)) in
+          let r = set-then (satisfied terms q) ps k (rw here at (b .set)) in
           record { policy = r .0; numbered = r .1; satisfied-there = r .2 }
 
-      from : (n : ℕ) → SatisfiedAt view q ps n → BitSet (markOf view q ps) n
+      from : (n : ℕ) → SatisfiedAt terms q ps n → BitSet (markOf terms q ps) n
       from zero s = absurd (let h = numbered-some (s .numbered) in omega arith)
       from (suc k) s =
           let here : suc k - 1 ≡ k = omega arith in
-          record { some = omega arith; set = rw here (then-set (satisfied view q) ps k (s .policy) (s .numbered) (s .satisfied-there)) }
+          record { some = omega arith; set = rw here (then-set (satisfied terms q) ps k (s .policy) (s .numbered) (s .satisfied-there)) }
 
 pub marked-rightly : MarkedRightly
 unfolding MarkedRightly decidedMark
-marked-rightly view q ps = go (isSystem (q .subject)) refl
+marked-rightly terms q ps = go (isSystem (q .subject)) refl
   where
-    go : (b : Bool) → isSystem (q .subject) ≡ b → MarksExactly view q ps (cond b 0 (markOf view q ps))
+    go : (b : Bool) → isSystem (q .subject) ≡ b → MarksExactly terms q ps (cond b 0 (markOf terms q ps))
     go true e = for-the-system e
-    go false e = for-another e (exactly view q ps)
+    go false e = for-another e (exactly terms q ps)
 
 -- the bits of two such numbers are the same
-alike : {view : View} {q : Request} {ps : List (PolicyOf Word)} (m n : ℕ) → ((k : ℕ) → BitSet m k ↔ SatisfiedAt view q ps k) → ((k : ℕ) → BitSet n k ↔ SatisfiedAt view q ps k)
+alike : {terms : Terms} {q : Request} {ps : List (PolicyOf Word)} (m n : ℕ) → ((k : ℕ) → BitSet m k ↔ SatisfiedAt terms q ps k) → ((k : ℕ) → BitSet n k ↔ SatisfiedAt terms q ps k)
     → m ≡ n
 alike m n f g = same-bits (m + n) m n (omega arith) (omega arith) (λ k. both-set (m / 2 ^ k % 2) (n / 2 ^ k % 2) (mod-lt _ (omega arith)) (mod-lt _ (omega arith)) (there m n f g k) (there n m g f k))
   where
-    there : {view : View} {q : Request} {ps : List (PolicyOf Word)} (m n : ℕ) → ((k : ℕ) → BitSet m k ↔ SatisfiedAt view q ps k) → ((k : ℕ) → BitSet n k ↔ SatisfiedAt view q ps k)
+    there : {terms : Terms} {q : Request} {ps : List (PolicyOf Word)} (m n : ℕ) → ((k : ℕ) → BitSet m k ↔ SatisfiedAt terms q ps k) → ((k : ℕ) → BitSet n k ↔ SatisfiedAt terms q ps k)
         → (k : ℕ) → m / 2 ^ k % 2 ≡ 1 → n / 2 ^ k % 2 ≡ 1
     there m n f g k e =
         let here : suc k - 1 ≡ k = omega arith in
@@ -169,10 +168,10 @@ alike m n f g = same-bits (m + n) m n (omega arith) (omega arith) (λ k. both-se
 
 pub one-mark : OneMark
 unfolding OneMark
-one-mark view q ps m n (for-the-system s) (for-the-system z) = refl
-one-mark view q ps m n (for-the-system s) (for-another z g) = absurd (never z s)
-one-mark view q ps m n (for-another s f) (for-the-system z) = absurd (never s z)
-one-mark view q ps m n (for-another s f) (for-another z g) = alike m n f g
+one-mark terms q ps m n (for-the-system s) (for-the-system z) = refl
+one-mark terms q ps m n (for-the-system s) (for-another z g) = absurd (never z s)
+one-mark terms q ps m n (for-another s f) (for-the-system z) = absurd (never s z)
+one-mark terms q ps m n (for-another s f) (for-another z g) = alike m n f g
 
 -- ---- outcome and policy follow
 
@@ -180,21 +179,21 @@ the-bit : (b : Bool) → eqb (cond b 1 0) 1 ≡ b
 the-bit true = refl
 the-bit false = refl
 
-module _ (view : View) (q : Request) where
+module _ (terms : Terms) (q : Request) where
   first-marked : (effect : Bool → Bool) (n : ℕ) (ps : List (PolicyOf Word))
-      → firstOf (λ p. effect (p .permits) && satisfied view q p) n ps ≡ firstMarked effect n (effectsOf ps) (markOf view q ps)
+      → firstOf (λ p. effect (p .permits) && satisfied terms q p) n ps ≡ firstMarked effect n (effectsOf ps) (markOf terms q ps)
   unfolding firstOf firstMarked markBy
   first-marked effect n [] = refl
   first-marked effect n (p ∷ ps) =
-      rw (low-bit (satisfied view q p) (markOf view q ps), others (satisfied view q p) (markOf view q ps), the-bit (satisfied view q p), first-marked effect (suc n) ps)
+      rw (low-bit (satisfied terms q p) (markOf terms q ps), others (satisfied terms q p) (markOf terms q ps), the-bit (satisfied terms q p), first-marked effect (suc n) ps)
 
-  by-the-mark : (ps : List (PolicyOf Word)) → policiesDecide view q ps ≡ decidedBy (effectsOf ps) (markOf view q ps)
+  by-the-mark : (ps : List (PolicyOf Word)) → policiesDecide terms q ps ≡ decidedBy (effectsOf ps) (markOf terms q ps)
   unfolding policiesDecide decidedBy
   by-the-mark ps = rw (first-marked not 1 ps, first-marked (λ b. b) 1 ps)
 
 pub mark-decides : MarkDecides
 unfolding MarkDecides MarkedRightly OneMark decidedMark decisionOf
-mark-decides view q ps mark s m = go (one-mark view q ps _ _ m (marked-rightly view q ps))
+mark-decides terms q ps mark s m = go (one-mark terms q ps _ _ m (marked-rightly terms q ps))
   where
-    go : mark ≡ decidedMark view q ps → decisionOf view q ps ≡ decidedBy (effectsOf ps) mark
-    go e = let k : mark ≡ markOf view q ps = e ∙ rw s in rw (s, k) (by-the-mark view q ps)
+    go : mark ≡ decidedMark terms q ps → decisionOf terms q ps ≡ decidedBy (effectsOf ps) mark
+    go e = let k : mark ≡ markOf terms q ps = e ∙ rw s in rw (s, k) (by-the-mark terms q ps)

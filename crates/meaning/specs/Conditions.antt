@@ -1,10 +1,12 @@
--- When a condition is true (document 01, 'Deciding'), rule by rule. Definitions only.
+-- When a condition is true (document 01, 'Deciding'; document 02, request 7), rule by rule. Definitions only.
 use mathlib.Core.Bool.{Bool, true, false, cond, _&&_, _||_}
 use mathlib.Core.List.{List, [], _∷_}
 use Prim.Native.Nat.{ℕ}
 use Rattle.slices.specs.Same.{same}
 use Rattle.patterns.specs.Likes.{likesText}
 use Rattle.grammar.specs.Policies.{Comparator, Comparator.Equal, LiteralOf, Which, Which.All, Which.Any, TreeOf, constant, compare, like, among, within, contains, has, not, brackets, both, either, choice}
+use Rattle.grammar.specs.declared.Version.{Version}
+use Rattle.grammar.specs.declared.Version.the-variants.{First, Second}
 use Rattle.placing.specs.Said.{Word}
 use Rattle.views.specs.Meaning.{Datum, text, number, flag, texts, absent, present, View}
 use Rattle.meaning.specs.Values.{literalValue, attributeValue, operandValue, ifText, ifTexts, compares}
@@ -35,6 +37,16 @@ unfoldable pub settled : Verdict → Verdict
 settled Yes = Yes
 settled No = No
 settled Missing = No
+
+-- so it is under version 1; under version 2 it makes the policy unsatisfied
+unfoldable pub settles : Version → Bool
+settles First = true
+settles Second = false
+
+-- what an operator's verdict counts as: false for missing where that settles it, else missing it stays
+unfoldable pub settledIf : Bool → Verdict → Verdict
+settledIf true v = settled v
+settledIf false v = v
 
 -- `!`
 unfoldable pub negated : Verdict → Verdict
@@ -85,23 +97,23 @@ amongStrings l x = some (same x) l
 
 -- two operands with a comparator
 abbrev pub compared : Comparator → Datum → Datum → Verdict
-compared c d e = settled (givenBoth d e (compares c d e))
+compared c d e = givenBoth d e (compares c d e)
 
 -- `like` matches the whole string, character by character; a string that is no UTF-8 matches no pattern
 abbrev pub likened : Datum → List ℕ → Verdict
-likened d pattern = settled (given d (ifText d (likesText pattern)))
+likened d pattern = given d (ifText d (likesText pattern))
 
 -- `in` a list: equal to some literal of the same kind
 abbrev pub inList : Datum → List (LiteralOf Word) → Verdict
-inList d ls = settled (given d (some (λ l. compares Equal d (literalValue l)) ls))
+inList d ls = given d (some (λ l. compares Equal d (literalValue l)) ls)
 
 -- `in` an attribute: a string among a list of strings
 abbrev pub inAttribute : Datum → Datum → Verdict
-inAttribute d e = settled (givenBoth d e (ifText d λ x. ifTexts e λ l. amongStrings l x))
+inAttribute d e = givenBoth d e (ifText d λ x. ifTexts e λ l. amongStrings l x)
 
 -- containsAll: each literal is a string of the list; containsAny: one is
 abbrev pub contained : Which → Datum → List (LiteralOf Word) → Verdict
-contained w d ls = settled (given d (ifTexts d λ l. asked w (λ x. ifText (literalValue x) (amongStrings l)) ls))
+contained w d ls = given d (ifTexts d λ l. asked w (λ x. ifText (literalValue x) (amongStrings l)) ls)
 
 -- `has`: there is such an entry
 abbrev pub had : Datum → Verdict
@@ -109,20 +121,20 @@ had d = told (present d)
 
 -- ---- conditions
 
--- what a condition is found to be, where the attributes are those of the view
-unfoldable pub verdict : View → TreeOf Word → Verdict
-verdict view (constant b) = told b
-verdict view (compare c a b) = compared c (operandValue view a) (operandValue view b)
-verdict view (like a s) = likened (operandValue view a) s
-verdict view (among a ls) = inList (operandValue view a) ls
-verdict view (within a root s) = inAttribute (operandValue view a) (attributeValue view root s)
-verdict view (contains w root s ls) = contained w (attributeValue view root s) ls
-verdict view (has root s) = had (attributeValue view root s)
-verdict view (not a) = negated (verdict view a)
-verdict view (brackets a) = verdict view a
-verdict view (both a b) = bothOf (verdict view a) (verdict view b)
-verdict view (either a b) = eitherOf (verdict view a) (verdict view b)
-verdict view (choice c a b) = choiceOf (verdict view c) (verdict view a) (verdict view b)
+-- what a condition is found to be, where the attributes are those of the view; `settles` says whether an absent attribute makes an operator false
+unfoldable pub verdict : Bool → View → TreeOf Word → Verdict
+verdict settles view (constant b) = told b
+verdict settles view (compare c a b) = settledIf settles (compared c (operandValue view a) (operandValue view b))
+verdict settles view (like a s) = settledIf settles (likened (operandValue view a) s)
+verdict settles view (among a ls) = settledIf settles (inList (operandValue view a) ls)
+verdict settles view (within a root s) = settledIf settles (inAttribute (operandValue view a) (attributeValue view root s))
+verdict settles view (contains w root s ls) = settledIf settles (contained w (attributeValue view root s) ls)
+verdict settles view (has root s) = had (attributeValue view root s)
+verdict settles view (not a) = negated (verdict settles view a)
+verdict settles view (brackets a) = verdict settles view a
+verdict settles view (both a b) = bothOf (verdict settles view a) (verdict settles view b)
+verdict settles view (either a b) = eitherOf (verdict settles view a) (verdict settles view b)
+verdict settles view (choice c a b) = choiceOf (verdict settles view c) (verdict settles view a) (verdict settles view b)
 
 -- the condition is true
 abbrev pub isYes : Verdict → Bool

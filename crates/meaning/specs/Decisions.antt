@@ -1,4 +1,4 @@
--- When a policy is satisfied, what is decided, and the mark (document 01, 'Deciding'; demand 2; document 02, request 6). Definitions only.
+-- When a policy is satisfied, what is decided, and the mark (document 01, 'Deciding'; demand 2; document 02, requests 6 and 7). Definitions only.
 use mathlib.Core.Path.{_≡_}
 use mathlib.Core.Logic.{_⊎_, _↔_}
 use mathlib.Core.Bool.{Bool, true, false, cond, not, _&&_}
@@ -8,10 +8,11 @@ use Prim.Native.Nat.{ℕ, zero, suc, _+_, _-_, _*_, _/_, _%_, _^_, _≤_, _<_}
 use lib.Dec.{eqb}
 use Rattle.grammar.specs.Policies.{TreeOf, PolicyOf}
 use Rattle.grammar.specs.Rules.{principalTypes, resourceTypes}
+use Rattle.grammar.specs.declared.Version.{Version}
 use Rattle.placing.specs.Said.{Word}
 use Rattle.views.specs.Meaning.{View}
 use Rattle.meaning.specs.Values.{withAction}
-use Rattle.meaning.specs.Conditions.{verdict, isYes}
+use Rattle.meaning.specs.Conditions.{settles, verdict, isYes}
 use Rattle.meaning.specs.Targets.{Request, isSystem, partMatches, actionMatches}
 use Rattle.meaning.specs.declared.Decision.{Decision}
 use Rattle.meaning.specs.declared.Decision.the-variants.{Allowed, Forbidden, Nothing, System}
@@ -19,19 +20,28 @@ use Rattle.meaning.specs.declared.Marked.{Marked}
 
 -- ---- satisfied policies
 
+-- the terms on which policies are met: the version of the rules, and what the attributes are
+pub record Terms : Type 0 where
+  pub version : Version
+  pub view : View
+
+-- these attributes, under a version
+abbrev pub under : Version → View → Terms
+under version view = record { version = version; view = view }
+
 -- the three parts of a policy's target match the request
 unfoldable pub targetMatches : Request → PolicyOf Word → Bool
 targetMatches q p =
     partMatches principalTypes (q .subject) (p .principal) && actionMatches (q .action) (p .action) && partMatches resourceTypes (q .resource) (p .resource)
 
 -- its condition, if any, is true
-unfoldable pub conditionHolds : View → Option (TreeOf Word) → Bool
-conditionHolds view none = true
-conditionHolds view (some c) = isYes (verdict view c)
+unfoldable pub conditionHolds : Terms → Option (TreeOf Word) → Bool
+conditionHolds terms none = true
+conditionHolds terms (some c) = isYes (verdict (settles (terms .version)) (terms .view) c)
 
 -- a policy is satisfied if its target parts match and its condition, if any, is true
-unfoldable pub satisfied : View → Request → PolicyOf Word → Bool
-satisfied view q p = targetMatches q p && conditionHolds (withAction (q .action) view) (p .condition)
+unfoldable pub satisfied : Terms → Request → PolicyOf Word → Bool
+satisfied terms q p = targetMatches q p && conditionHolds (under (terms .version) (withAction (q .action) (terms .view))) (p .condition)
 
 -- ---- the decision
 
@@ -47,19 +57,19 @@ byNumbers zero (suc permit) = Allowed (suc permit)
 byNumbers (suc forbid) permit = Forbidden (suc forbid)
 
 -- a satisfied forbid, and a satisfied permit
-abbrev pub forbids : View → Request → PolicyOf Word → Bool
-forbids view q p = not (p .permits) && satisfied view q p
+abbrev pub forbids : Terms → Request → PolicyOf Word → Bool
+forbids terms q p = not (p .permits) && satisfied terms q p
 
-abbrev pub permits : View → Request → PolicyOf Word → Bool
-permits view q p = p .permits && satisfied view q p
+abbrev pub permits : Terms → Request → PolicyOf Word → Bool
+permits terms q p = p .permits && satisfied terms q p
 
 -- what the policies decide
-unfoldable pub policiesDecide : View → Request → List (PolicyOf Word) → Decision
-policiesDecide view q ps = byNumbers (firstOf (forbids view q) 1 ps) (firstOf (permits view q) 1 ps)
+unfoldable pub policiesDecide : Terms → Request → List (PolicyOf Word) → Decision
+policiesDecide terms q ps = byNumbers (firstOf (forbids terms q) 1 ps) (firstOf (permits terms q) 1 ps)
 
 -- the system may do all
-unfoldable pub decisionOf : View → Request → List (PolicyOf Word) → Decision
-decisionOf view q ps = cond (isSystem (q .subject)) System (policiesDecide view q ps)
+unfoldable pub decisionOf : Terms → Request → List (PolicyOf Word) → Decision
+decisionOf terms q ps = cond (isSystem (q .subject)) System (policiesDecide terms q ps)
 
 -- document 01's number of each outcome
 unfoldable pub outcomeOf : Decision → ℕ
@@ -90,20 +100,20 @@ markBy test [] = 0
 markBy test (p ∷ ps) = cond (test p) 1 0 + 2 * markBy test ps
 
 -- that of the satisfied policies
-abbrev pub markOf : View → Request → List (PolicyOf Word) → ℕ
-markOf view q ps = markBy (satisfied view q) ps
+abbrev pub markOf : Terms → Request → List (PolicyOf Word) → ℕ
+markOf terms q ps = markBy (satisfied terms q) ps
 
 -- a decision's mark: none for the system
-unfoldable pub decidedMark : View → Request → List (PolicyOf Word) → ℕ
-decidedMark view q ps = cond (isSystem (q .subject)) 0 (markOf view q ps)
+unfoldable pub decidedMark : Terms → Request → List (PolicyOf Word) → ℕ
+decidedMark terms q ps = cond (isSystem (q .subject)) 0 (markOf terms q ps)
 
 -- what the policies decide, with their mark
-abbrev pub policiesMarked : View → Request → List (PolicyOf Word) → Marked
-policiesMarked view q ps = record { d = policiesDecide view q ps; mark = markOf view q ps }
+abbrev pub policiesMarked : Terms → Request → List (PolicyOf Word) → Marked
+policiesMarked terms q ps = record { d = policiesDecide terms q ps; mark = markOf terms q ps }
 
 -- the same, the system first
-abbrev pub markedOf : View → Request → List (PolicyOf Word) → Marked
-markedOf view q ps = record { d = decisionOf view q ps; mark = decidedMark view q ps }
+abbrev pub markedOf : Terms → Request → List (PolicyOf Word) → Marked
+markedOf terms q ps = record { d = decisionOf terms q ps; mark = decidedMark terms q ps }
 
 -- the system's
 abbrev pub systemMarked : Marked
@@ -130,41 +140,45 @@ pub data Numbered {A : Type 0} : ℕ → A → List A → Type 0 where
   later : {n : ℕ} {p q : A} {ps : List A} → Numbered n p ps → Numbered (suc n) p (q ∷ ps)
 
 -- policy number n has this effect and is satisfied
-pub record SatisfiedAs (view : View) (q : Request) (ps : List (PolicyOf Word)) (permits : Bool) (n : ℕ) : Type 0 where
+pub record SatisfiedAs (terms : Terms) (q : Request) (ps : List (PolicyOf Word)) (permits : Bool) (n : ℕ) : Type 0 where
   pub policy : PolicyOf Word
   pub numbered : Numbered n policy ps
   pub effect : policy .permits ≡ permits
-  pub satisfied-there : satisfied view q policy ≡ true
+  pub satisfied-there : satisfied terms q policy ≡ true
 
 -- some policy of this effect is satisfied
-pub record SomeSatisfied (view : View) (q : Request) (ps : List (PolicyOf Word)) (permits : Bool) : Type 0 where
+pub record SomeSatisfied (terms : Terms) (q : Request) (ps : List (PolicyOf Word)) (permits : Bool) : Type 0 where
   pub number : ℕ
-  pub satisfied-as : SatisfiedAs view q ps permits number
+  pub satisfied-as : SatisfiedAs terms q ps permits number
 
 -- n is the lowest number of a satisfied policy of this effect
-pub record LowestSatisfied (view : View) (q : Request) (ps : List (PolicyOf Word)) (permits : Bool) (n : ℕ) : Type 0 where
-  pub satisfied-as : SatisfiedAs view q ps permits n
-  pub lowest : (m : ℕ) → SatisfiedAs view q ps permits m → n ≤ m
+pub record LowestSatisfied (terms : Terms) (q : Request) (ps : List (PolicyOf Word)) (permits : Bool) (n : ℕ) : Type 0 where
+  pub satisfied-as : SatisfiedAs terms q ps permits n
+  pub lowest : (m : ℕ) → SatisfiedAs terms q ps permits m → n ≤ m
 
 -- A request gets yes exactly if the subject is the system, or some permit is satisfied and no forbid is.
 unfoldable pub YesExactly : Type 0
-YesExactly = (view : View) (q : Request) (ps : List (PolicyOf Word))
-    → (isAllowed (decisionOf view q ps) ≡ true) ↔ ((isSystem (q .subject) ≡ true) ⊎ (SomeSatisfied view q ps true × (SomeSatisfied view q ps false → ⊥)))
+YesExactly = (terms : Terms) (q : Request) (ps : List (PolicyOf Word))
+    → (isAllowed (decisionOf terms q ps) ≡ true)
+    ↔ ((isSystem (q .subject) ≡ true) ⊎ (SomeSatisfied terms q ps true × (SomeSatisfied terms q ps false → ⊥)))
 
--- For any subject but the system the answer names the lowest-numbered satisfied forbid, else the lowest-numbered satisfied permit, else none; for the system it names none.
-pub data NamesPolicy (view : View) (q : Request) (ps : List (PolicyOf Word)) : ℕ → Type 0 where
-  the-system : isSystem (q .subject) ≡ true → NamesPolicy view q ps 0
-  a-forbid : {n : ℕ} → isSystem (q .subject) ≡ false → LowestSatisfied view q ps false n → NamesPolicy view q ps n
-  a-permit : {n : ℕ} → isSystem (q .subject) ≡ false → (SomeSatisfied view q ps false → ⊥) → LowestSatisfied view q ps true n → NamesPolicy view q ps n
-  none-named : isSystem (q .subject) ≡ false → (SomeSatisfied view q ps false → ⊥) → (SomeSatisfied view q ps true → ⊥) → NamesPolicy view q ps 0
+-- For any subject but the system the answer names the lowest-numbered satisfied forbid, else the lowest-numbered satisfied permit, else none; for the system it
+-- names none.
+pub data NamesPolicy (terms : Terms) (q : Request) (ps : List (PolicyOf Word)) : ℕ → Type 0 where
+  the-system : isSystem (q .subject) ≡ true → NamesPolicy terms q ps 0
+  a-forbid : {n : ℕ} → isSystem (q .subject) ≡ false → LowestSatisfied terms q ps false n → NamesPolicy terms q ps n
+  a-permit : {n : ℕ} → isSystem (q .subject) ≡ false → (SomeSatisfied terms q ps false → ⊥) → LowestSatisfied terms q ps true n
+      → NamesPolicy terms q ps n
+  none-named : isSystem (q .subject) ≡ false → (SomeSatisfied terms q ps false → ⊥) → (SomeSatisfied terms q ps true → ⊥)
+      → NamesPolicy terms q ps 0
 
 -- What is decided names so.
 unfoldable pub NamedRightly : Type 0
-NamedRightly = (view : View) (q : Request) (ps : List (PolicyOf Word)) → NamesPolicy view q ps (policyOf (decisionOf view q ps))
+NamedRightly = (terms : Terms) (q : Request) (ps : List (PolicyOf Word)) → NamesPolicy terms q ps (policyOf (decisionOf terms q ps))
 
 -- And there is one such number.
 unfoldable pub OneName : Type 0
-OneName = (view : View) (q : Request) (ps : List (PolicyOf Word)) (m n : ℕ) → NamesPolicy view q ps m → NamesPolicy view q ps n → m ≡ n
+OneName = (terms : Terms) (q : Request) (ps : List (PolicyOf Word)) (m n : ℕ) → NamesPolicy terms q ps m → NamesPolicy terms q ps n → m ≡ n
 
 -- ---- the mark, without computing
 
@@ -174,25 +188,25 @@ pub record BitSet (mark n : ℕ) : Type 0 where
   pub set : mark / 2 ^ (n - 1) % 2 ≡ 1
 
 -- policy number n is satisfied
-pub record SatisfiedAt (view : View) (q : Request) (ps : List (PolicyOf Word)) (n : ℕ) : Type 0 where
+pub record SatisfiedAt (terms : Terms) (q : Request) (ps : List (PolicyOf Word)) (n : ℕ) : Type 0 where
   pub policy : PolicyOf Word
   pub numbered : Numbered n policy ps
-  pub satisfied-there : satisfied view q policy ≡ true
+  pub satisfied-there : satisfied terms q policy ≡ true
 
 -- A mark for any subject but the system: bit n - 1 is set exactly when policy n is satisfied, for every n. For the system no bit is.
-pub data MarksExactly (view : View) (q : Request) (ps : List (PolicyOf Word)) : ℕ → Type 0 where
-  for-the-system : isSystem (q .subject) ≡ true → MarksExactly view q ps 0
-  for-another : {mark : ℕ} → isSystem (q .subject) ≡ false → ((n : ℕ) → BitSet mark n ↔ SatisfiedAt view q ps n) → MarksExactly view q ps mark
+pub data MarksExactly (terms : Terms) (q : Request) (ps : List (PolicyOf Word)) : ℕ → Type 0 where
+  for-the-system : isSystem (q .subject) ≡ true → MarksExactly terms q ps 0
+  for-another : {mark : ℕ} → isSystem (q .subject) ≡ false → ((n : ℕ) → BitSet mark n ↔ SatisfiedAt terms q ps n) → MarksExactly terms q ps mark
 
 -- A decision's mark marks so.
 unfoldable pub MarkedRightly : Type 0
-MarkedRightly = (view : View) (q : Request) (ps : List (PolicyOf Word)) → MarksExactly view q ps (decidedMark view q ps)
+MarkedRightly = (terms : Terms) (q : Request) (ps : List (PolicyOf Word)) → MarksExactly terms q ps (decidedMark terms q ps)
 
 -- And there is one such number.
 unfoldable pub OneMark : Type 0
-OneMark = (view : View) (q : Request) (ps : List (PolicyOf Word)) (m n : ℕ) → MarksExactly view q ps m → MarksExactly view q ps n → m ≡ n
+OneMark = (terms : Terms) (q : Request) (ps : List (PolicyOf Word)) (m n : ℕ) → MarksExactly terms q ps m → MarksExactly terms q ps n → m ≡ n
 
 -- Outcome and policy follow from mark and effects.
 unfoldable pub MarkDecides : Type 0
-MarkDecides = (view : View) (q : Request) (ps : List (PolicyOf Word)) (mark : ℕ) → isSystem (q .subject) ≡ false → MarksExactly view q ps mark
-    → decisionOf view q ps ≡ decidedBy (effectsOf ps) mark
+MarkDecides = (terms : Terms) (q : Request) (ps : List (PolicyOf Word)) (mark : ℕ) → isSystem (q .subject) ≡ false → MarksExactly terms q ps mark
+    → decisionOf terms q ps ≡ decidedBy (effectsOf ps) mark

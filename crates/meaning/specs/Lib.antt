@@ -3,3 +3,4 @@ pub mod Conditions
 pub mod Targets
 pub mod Decisions
 pub mod Paths
+pub mod Versions

@@ -10,9 +10,9 @@ use numbers::bits::number_at;
 use numbers::comparing::Comparator;
 use numbers::comparing::compares;
 use numbers::literals::number;
+use token_reader::next_token;
 use tokens::classes::class_table;
 use tokens::kinds;
-use tokens::reader::next_token;
 
 fn yes_or_no(yes: bool) -> u8 {
     if yes { b'1' } else { b'0' }

@@ -1,4 +1,4 @@
--- A condition without parts, by the kind of its last entry: where its operands lie, and what its verdict is. Assumes nothing.
+-- A condition without parts, by the kind of its last entry: where its operands lie, what its verdict is, and what that counts as. Assumes nothing.
 use Prim.Native.Nat.{ℕ, _+_, _-_, _≤_, _<_}
 use mathlib.Core.List.{List}
 use mathlib.Core.Bool.{Bool, true, false, cond}
@@ -6,20 +6,20 @@ use mathlib.Core.Path.{_≡_, refl, sym, _∙_, ap, subst}
 use borrow.Author.Tests.{eqb-true, eqb-false, ne-eqb, le-leb, lt-leb, leb-true, leb-false}
 use native.Mathlib.Omega.{arith}
 use lib.Dec.{eqb, leb}
-use Rattle.patterns.specs.Likes.{likesText}
-use Rattle.views.specs.Meaning.{View, present}
-use Rattle.grammar.specs.Policies.{Span, Root, Comparator, Comparator.Equal, Literal, Operand, Which, Tree, constant, compare, like, among, within, contains, has}
+use Rattle.views.specs.Meaning.{View}
+use Rattle.grammar.specs.Policies.{Span, Root, Comparator, Literal, Operand, Which, Tree, constant, compare, like, among, within, contains, has}
 use Rattle.placing.specs.Placed.{quotedAt, StringPlaced, PathPlaced, Each, LiteralPlaced, OperandPlaced, TreePlaced, a-comparison, a-likeness, in-list, in-attribute, a-call, a-presence, unblankedAt}
-use Rattle.placing.specs.Said.{literalWords, operandWords, treeWords}
+use Rattle.placing.specs.Said.{operandWords, treeWords}
 use Rattle.table.specs.declared.Entry.{Entry}
 use Rattle.stored.specs.ReadBack.{spanOfEntry, rootOfKind, comparatorOfKind, operandOfEntry, literalsBy, listBy, ownerBy, treeFrom, treeBy}
 use Rattle.stored.specs.Ready.{Room, NodeBy}
 use Rattle.stored.proofs.Nodes.{as-has, as-compare, as-like, as-among, as-within, as-contains-all, as-contains-any}
-use Rattle.meaning.specs.Values.{literalValue, attributeValue, operandValue, ifText, ifTexts, compares}
-use Rattle.meaning.specs.Conditions.{told, some, asked, amongStrings, verdict}
+use Rattle.meaning.specs.Values.{attributeValue, operandValue}
+use Rattle.meaning.specs.Conditions.{told, settledIf, compared, likened, inAttribute, had, verdict}
 use Rattle.meaning.specs.declared.Verdict.{Verdict}
-use Rattle.operators.specs.Operands.{leftAt, whichBy}
-use Rattle.operators.proofs.VerdictLaws.{constant-told, compare-told, like-told, among-told, within-told, contains-told, has-told}
+use Rattle.operators.specs.Operands.{whichBy, givenAmong, givenListed, leftAt}
+use Rattle.operators.proofs.VerdictLaws.{constant-says, compare-says, like-says, among-says, within-says, contains-says, has-says}
+use Rattle.operators.proofs.VerdictLaws.{constant-counts, compare-counts, like-counts, among-counts, within-counts, contains-counts, has-counts}
 
 -- ---- which condition it is
 
@@ -71,11 +71,11 @@ module _ (end : ℕ) (x : Entry) where
 -- ---- where it lies
 
 module _ {t : List ℕ} where
-  compared : {c : Comparator} {a b : Operand} → TreePlaced t (compare c a b) → OperandPlaced t a × OperandPlaced t b
-  compared (a-comparison p q) = (p, q)
+  both-operands : {c : Comparator} {a b : Operand} → TreePlaced t (compare c a b) → OperandPlaced t a × OperandPlaced t b
+  both-operands (a-comparison p q) = (p, q)
 
-  likened : {a : Operand} {s : Span} → TreePlaced t (like a s) → OperandPlaced t a × StringPlaced t s
-  likened (a-likeness p q r) = (p, q)
+  with-pattern : {a : Operand} {s : Span} → TreePlaced t (like a s) → OperandPlaced t a × StringPlaced t s
+  with-pattern (a-likeness p q r) = (p, q)
 
   sought : {a : Operand} {ls : List Literal} → TreePlaced t (among a ls) → OperandPlaced t a × Each (LiteralPlaced t) ls
   sought (in-list p q) = (p, q .each)
@@ -95,10 +95,10 @@ module _ {t : List ℕ} {at : ℕ → Entry} {many end : ℕ} {x : Entry} (node 
 
   pub compare-placed : (a b : Entry) → 12 < x .kind → x .kind ≤ 18 → a ≡ at (end - 3) → b ≡ at (end - 2)
       → OperandPlaced t (operandOfEntry a) × OperandPlaced t (operandOfEntry b)
-  compare-placed a b l h p q = rw (p, q) (compared (subst (TreePlaced t) (as-compare (treeBy at) at end x (omega arith) h) (node .placed)))
+  compare-placed a b l h p q = rw (p, q) (both-operands (subst (TreePlaced t) (as-compare (treeBy at) at end x (omega arith) h) (node .placed)))
 
   pub like-placed : (a : Entry) → x .kind ≡ 19 → a ≡ at (end - 2) → OperandPlaced t (operandOfEntry a) × StringPlaced t (spanOfEntry x)
-  like-placed a k p = rw p (likened (subst (TreePlaced t) (as-like (treeBy at) at end x k) (node .placed)))
+  like-placed a k p = rw p (with-pattern (subst (TreePlaced t) (as-like (treeBy at) at end x k) (node .placed)))
 
   pub among-placed : (a : Entry) → x .kind ≡ 20 → a ≡ ownerBy at end x
       → OperandPlaced t (operandOfEntry a) × Each (LiteralPlaced t) (literalsBy (x .first) at (end - x .first - 1))
@@ -126,43 +126,68 @@ module _ {t : List ℕ} {at : ℕ → Entry} {many end : ℕ} {x : Entry} (node 
 
 -- ---- its verdict
 
-module _ (t : List ℕ) (view : View) (r : Verdict) (h : Bool) (e : r ≡ told h) where
-  verdict-is : (tree c : Tree) (b : Bool) → tree ≡ c → verdict view (treeWords t c) ≡ told b → h ≡ b → r ≡ verdict view (treeWords t tree)
-  verdict-is tree c b is v q = e ∙ ap told q ∙ sym v ∙ ap (λ (c : Tree). verdict view (treeWords t c)) (sym is)
+module _ (t : List ℕ) (view : View) (r : Verdict) where
+  verdict-is : (tree c : Tree) → tree ≡ c → r ≡ verdict false view (treeWords t c) → r ≡ verdict false view (treeWords t tree)
+  verdict-is tree c is q = q ∙ ap (λ (c : Tree). verdict false view (treeWords t c)) (sym is)
 
   module _ (at : ℕ → Entry) (end : ℕ) (x : Entry) where
-    pub flat-has : x .kind ≤ 8 → h ≡ present (attributeValue view (rootOfKind (x .kind - 4)) (unblankedAt t (spanOfEntry x))) → r ≡ verdict view (treeWords t (treeFrom (treeBy at) at end x))
-    flat-has k q = verdict-is _ _ _ (as-has (treeBy at) at end x k) (has-told t view _ _) q
+    pub flat-has : x .kind ≤ 8 → r ≡ had (attributeValue view (rootOfKind (x .kind - 4)) (unblankedAt t (spanOfEntry x)))
+        → r ≡ verdict false view (treeWords t (treeFrom (treeBy at) at end x))
+    flat-has k q = verdict-is _ _ (as-has (treeBy at) at end x k) (q ∙ sym (has-says t view _ _))
 
-    pub flat-constant : 8 < x .kind → x .kind ≤ 12 → h ≡ eqb (x .kind) 11 → r ≡ verdict view (treeWords t (treeFrom (treeBy at) at end x))
-    flat-constant l k q = verdict-is _ _ _ (as-constant at end x l k) (constant-told t view _) q
+    pub flat-constant : 8 < x .kind → x .kind ≤ 12 → r ≡ told (eqb (x .kind) 11) → r ≡ verdict false view (treeWords t (treeFrom (treeBy at) at end x))
+    flat-constant l k q = verdict-is _ _ (as-constant at end x l k) (q ∙ sym (constant-says t view _))
 
     pub flat-compare : (a b : Entry) → 12 < x .kind → x .kind ≤ 18 → a ≡ at (end - 3) → b ≡ at (end - 2)
-        → h ≡ compares (comparatorOfKind (x .kind)) (operandValue view (operandWords t (operandOfEntry a))) (operandValue view (operandWords t (operandOfEntry b)))
-        → r ≡ verdict view (treeWords t (treeFrom (treeBy at) at end x))
+        → r ≡ compared (comparatorOfKind (x .kind)) (operandValue view (operandWords t (operandOfEntry a))) (operandValue view (operandWords t (operandOfEntry b)))
+        → r ≡ verdict false view (treeWords t (treeFrom (treeBy at) at end x))
     flat-compare a b l k i j q =
-        verdict-is _ _ _ (as-compare (treeBy at) at end x (omega arith) k) (compare-told t view (comparatorOfKind (x .kind)) (operandOfEntry (at (end - 3))) (operandOfEntry (at (end - 2))))
-        (q ∙ rw (i, j))
+        verdict-is _ _ (as-compare (treeBy at) at end x (omega arith) k)
+        (q ∙ (rw (i, j)) ∙ sym (compare-says t view (comparatorOfKind (x .kind)) (operandOfEntry (at (end - 3))) (operandOfEntry (at (end - 2)))))
 
-    pub flat-like : (a : Entry) → x .kind ≡ 19 → a ≡ at (end - 2) → h ≡ ifText (operandValue view (operandWords t (operandOfEntry a))) (likesText (quotedAt t (spanOfEntry x)))
-        → r ≡ verdict view (treeWords t (treeFrom (treeBy at) at end x))
-    flat-like a k i q = verdict-is _ _ _ (as-like (treeBy at) at end x k) (like-told t view (operandOfEntry (at (end - 2))) (spanOfEntry x)) (q ∙ rw i)
+    pub flat-like : (a : Entry) → x .kind ≡ 19 → a ≡ at (end - 2) → r ≡ likened (operandValue view (operandWords t (operandOfEntry a))) (quotedAt t (spanOfEntry x))
+        → r ≡ verdict false view (treeWords t (treeFrom (treeBy at) at end x))
+    flat-like a k i q = verdict-is _ _ (as-like (treeBy at) at end x k) (q ∙ (rw i) ∙ sym (like-says t view (operandOfEntry (at (end - 2))) (spanOfEntry x)))
 
     pub flat-among : (a : Entry) → x .kind ≡ 20 → a ≡ ownerBy at end x
-        → h ≡ some (λ l. compares Equal (operandValue view (operandWords t (operandOfEntry a))) (literalValue (literalWords t l))) (literalsBy (x .first) at (end - x .first - 1))
-        → r ≡ verdict view (treeWords t (treeFrom (treeBy at) at end x))
-    flat-among a k i q = verdict-is _ _ _ (as-among (treeBy at) at end x k) (among-told t view (operandOfEntry (ownerBy at end x)) (listBy at end x)) (q ∙ rw i)
+        → r ≡ givenAmong t (operandValue view (operandWords t (operandOfEntry a))) (literalsBy (x .first) at (end - x .first - 1))
+        → r ≡ verdict false view (treeWords t (treeFrom (treeBy at) at end x))
+    flat-among a k i q = verdict-is _ _ (as-among (treeBy at) at end x k) (q ∙ (rw i) ∙ sym (among-says t view (operandOfEntry (ownerBy at end x)) (listBy at end x)))
 
     pub flat-within : (a b : Entry) → x .kind ≡ 21 → a ≡ at (end - 3) → b ≡ at (end - 2)
-        → h ≡ ifText (operandValue view (operandWords t (operandOfEntry a))) (λ x. ifTexts (attributeValue view (rootOfKind (b .kind)) (unblankedAt t (spanOfEntry b))) (λ l. amongStrings l x))
-        → r ≡ verdict view (treeWords t (treeFrom (treeBy at) at end x))
+        → r ≡ inAttribute (operandValue view (operandWords t (operandOfEntry a))) (attributeValue view (rootOfKind (b .kind)) (unblankedAt t (spanOfEntry b)))
+        → r ≡ verdict false view (treeWords t (treeFrom (treeBy at) at end x))
     flat-within a b k i j q =
-        verdict-is _ _ _ (as-within (treeBy at) at end x k)
-        (within-told t view (operandOfEntry (at (end - 3))) (rootOfKind (at (end - 2) .kind)) (spanOfEntry (at (end - 2)))) (q ∙ rw (i, j))
+        verdict-is _ _ (as-within (treeBy at) at end x k)
+        (q ∙ (rw (i, j)) ∙ sym (within-says t view (operandOfEntry (at (end - 3))) (rootOfKind (at (end - 2) .kind)) (spanOfEntry (at (end - 2)))))
 
     pub flat-contains : (b : Entry) → 22 ≤ x .kind → x .kind ≤ 23 → b ≡ ownerBy at end x
-        → h ≡ ifTexts (attributeValue view (rootOfKind (b .kind)) (unblankedAt t (spanOfEntry b))) (λ l. asked (whichBy (eqb (x .kind) 23)) (λ o. ifText (literalValue (literalWords t o)) (amongStrings l)) (literalsBy (x .first) at (end - x .first - 1)))
-        → r ≡ verdict view (treeWords t (treeFrom (treeBy at) at end x))
+        → r ≡ givenListed t (eqb (x .kind) 23) (attributeValue view (rootOfKind (b .kind)) (unblankedAt t (spanOfEntry b))) (literalsBy (x .first) at (end - x .first - 1))
+        → r ≡ verdict false view (treeWords t (treeFrom (treeBy at) at end x))
     flat-contains b l k i q =
-        verdict-is _ _ _ (as-contains at end x l k)
-        (contains-told t view (whichBy (eqb (x .kind) 23)) (rootOfKind (ownerBy at end x .kind)) (spanOfEntry (ownerBy at end x)) (listBy at end x)) (q ∙ rw i)
+        verdict-is _ _ (as-contains at end x l k)
+        (q ∙ (rw i) ∙ sym (contains-says t view (whichBy (eqb (x .kind) 23)) (rootOfKind (ownerBy at end x .kind)) (spanOfEntry (ownerBy at end x)) (listBy at end x)))
+
+-- ---- what it counts as: it is settled once
+
+module _ (settles : Bool) (t : List ℕ) (view : View) (at : ℕ → Entry) (end : ℕ) (x : Entry) where
+  counts-as : (tree c : Tree) → tree ≡ c → verdict settles view (treeWords t c) ≡ settledIf settles (verdict false view (treeWords t c))
+      → verdict settles view (treeWords t tree) ≡ settledIf settles (verdict false view (treeWords t tree))
+  counts-as tree c is = subst (λ (c : Tree). verdict settles view (treeWords t c) ≡ settledIf settles (verdict false view (treeWords t c))) (sym is)
+
+  pub flat-counts : x .kind ≤ 23
+      → verdict settles view (treeWords t (treeFrom (treeBy at) at end x)) ≡ settledIf settles (verdict false view (treeWords t (treeFrom (treeBy at) at end x)))
+  flat-counts h = go (leb (x .kind) 8) (leb (x .kind) 12) (leb (x .kind) 18) (eqb (x .kind) 19) (eqb (x .kind) 20) (eqb (x .kind) 21) refl refl refl refl refl refl
+    where
+      go : (a b c d e f : Bool) → leb (x .kind) 8 ≡ a → leb (x .kind) 12 ≡ b → leb (x .kind) 18 ≡ c → eqb (x .kind) 19 ≡ d → eqb (x .kind) 20 ≡ e → eqb (x .kind) 21 ≡ f
+          → verdict settles view (treeWords t (treeFrom (treeBy at) at end x)) ≡ settledIf settles (verdict false view (treeWords t (treeFrom (treeBy at) at end x)))
+      go true b c d e f i j k l m n = counts-as _ _ (as-has (treeBy at) at end x (leb-true (x .kind) 8 i)) (has-counts settles t view _ _)
+      go false true c d e f i j k l m n = counts-as _ _ (as-constant at end x (leb-false (x .kind) 8 i) (leb-true (x .kind) 12 j)) (constant-counts settles t view _)
+      go false false true d e f i j k l m n =
+          counts-as _ _ (as-compare (treeBy at) at end x (leb-false (x .kind) 12 j) (leb-true (x .kind) 18 k)) (compare-counts settles t view _ _ _)
+      go false false false true e f i j k l m n = counts-as _ _ (as-like (treeBy at) at end x (eqb-true (x .kind) 19 l)) (like-counts settles t view _ _)
+      go false false false false true f i j k l m n = counts-as _ _ (as-among (treeBy at) at end x (eqb-true (x .kind) 20 m)) (among-counts settles t view _ _)
+      go false false false false false true i j k l m n = counts-as _ _ (as-within (treeBy at) at end x (eqb-true (x .kind) 21 n)) (within-counts settles t view _ _ _)
+      go false false false false false false i j k l m n =
+          let o = leb-false (x .kind) 18 k in let p = eqb-false (x .kind) 19 l in let q = eqb-false (x .kind) 20 m in let r = eqb-false (x .kind) 21 n in
+          counts-as _ _ (as-contains at end x (omega arith) h) (contains-counts settles t view _ _ _ _)

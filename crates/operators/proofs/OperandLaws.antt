@@ -153,22 +153,23 @@ string-cut s p = part-to s (p + 1) (byte s p)
 pub string-inside : (s : List ℕ) (v : Value) → ValueWhole s v → v .kind ≡ 1 → v .place + 1 + byte s (v .place) ≤ length s
 string-inside s v w k = let e = w (λ z. omega arith) in as-string (v .kind) s (v .place) (e .0) (e .1) k .fits
 
--- its kind, and its entry's, as a test tells them
-pub string-kinds : (v : Value) (o : Entry) → (eqb (v .kind) 1 && ofBag (o .kind)) ≡ true → (v .kind ≡ 1) × (ofBag (o .kind) ≡ true)
-string-kinds v o b = let w = and-eq-true-iff (eqb (v .kind) 1) (ofBag (o .kind)) .0 b in (eqb-true (v .kind) 1 (w .0), w .1)
-
 module _ (t s action : List ℕ) (o : Entry) (v : Value) where
-  pub string-of-bag : (eqb (v .kind) 1 && ofBag (o .kind)) ≡ true → stringAt s (v .place) ≡ stringOf t s action o v
+  pub no-string : (v .kind ≡ 1 → ⊥) → action ≡ stringOf t s action o v
   unfolding stringOf
-  string-of-bag b = simp b
+  no-string k = simp (ne-eqb _ _ k)
 
-  pub string-quoted : (eqb (v .kind) 1 && ofBag (o .kind)) ≡ false → o .kind ≡ 9 → quotedAt t (spanOfEntry o) ≡ stringOf t s action o v
-  unfolding stringOf
-  string-quoted b k = simp (b, eq-eqb _ _ k)
+  module _ (k : v .kind ≡ 1) where
+    pub string-of-bag : ofBag (o .kind) ≡ true → stringAt s (v .place) ≡ stringOf t s action o v
+    unfolding stringOf
+    string-of-bag b = simp (eq-eqb _ _ k, b)
 
-  pub string-action : (eqb (v .kind) 1 && ofBag (o .kind)) ≡ false → (o .kind ≡ 9 → ⊥) → action ≡ stringOf t s action o v
-  unfolding stringOf
-  string-action b k = simp (b, ne-eqb _ _ k)
+    pub string-quoted : ofBag (o .kind) ≡ false → o .kind ≡ 9 → quotedAt t (spanOfEntry o) ≡ stringOf t s action o v
+    unfolding stringOf
+    string-quoted b q = simp (eq-eqb _ _ k, b, eq-eqb _ _ q)
+
+    pub string-action : ofBag (o .kind) ≡ false → (o .kind ≡ 9 → ⊥) → action ≡ stringOf t s action o v
+    unfolding stringOf
+    string-action b n = simp (eq-eqb _ _ k, b, ne-eqb _ _ n)
 
 -- ---- roots
 
@@ -308,15 +309,18 @@ literal-meant t view o h = rw (as-literal o h)
 -- no attribute's string has quotes, and no literal's lies in the bag
 unquoted : (t s action : List ℕ) (o : Entry) (v : Value) → (o .kind ≡ 9 → ⊥) → stringOf t s action o v ≡ stringUnder s action o v
 unfolding stringOf
-unquoted t s action o v n = simp (ne-eqb _ _ n)
-
-outside : (o : Entry) (v : Value) → 4 < o .kind → (eqb (v .kind) 1 && ofBag (o .kind)) ≡ false
-outside o v h = let l : 3 < o .kind = omega arith in rw (lt-leb (o .kind) 3 l) (go (eqb (v .kind) 1) (leb 1 (o .kind)))
+unquoted t s action o v n = simp (ne-eqb _ _ n) (go (eqb (v .kind) 1) (ofBag (o .kind)))
   where
-    go : (a b : Bool) → a && (b && false) ≡ false
-    go true true = refl
-    go true false = refl
+    go : (a b : Bool) → cond a (cond b (stringAt s (v .place)) action) action ≡ cond (a && b) (stringAt s (v .place)) action
+    go true b = refl
     go false b = refl
+
+outside : (o : Entry) → 4 < o .kind → ofBag (o .kind) ≡ false
+outside o h = let l : 3 < o .kind = omega arith in rw (lt-leb (o .kind) 3 l) (go (leb 1 (o .kind)))
+  where
+    go : (b : Bool) → (b && false) ≡ false
+    go true = refl
+    go false = refl
 
 module _ (t s : List ℕ) (p : Sections) (n : ℕ) (heads values : List ℕ) (stands : RowStands s p n heads values) where
   pub operand-is : (action : List ℕ) (o : Entry) (v : Value) (x : List ℕ) → OperandPlaced t (operandOfEntry o) → v ≡ operandRead t s p n heads values o → x ≡ stringOf t s action o v
@@ -332,5 +336,7 @@ module _ (t s : List ℕ) (p : Sections) (n : ℕ) (heads values : List ℕ) (st
           ∙ sym (attribute-meant t (withAction action (rowView s p n heads values)) o h)
       go false b =
           let h : 4 < o .kind = leb-false (o .kind) 4 b in
-          literal-is t o v x (listAt s (v .place)) (e ∙ sym (read-literal t s p n heads values o h)) (λ k. string ∙ sym (string-quoted t s action o v (outside o v h) k))
+          let is = e ∙ sym (read-literal t s p n heads values o h) in
+          literal-is t o v x (listAt s (v .place)) is
+          (λ k. string ∙ sym (string-quoted t s action o v (ap (λ (v : Value). v .kind) (is ∙ sym (read-string t o k))) (outside o h) k))
           ∙ sym (literal-meant t (withAction action (rowView s p n heads values)) o h)

@@ -1,14 +1,14 @@
 -- What each operator says of the values that were read is what it says of the values that are meant. Assumes nothing.
 use Prim.Native.Nat.{ℕ, _<_}
 use mathlib.Core.List.{List}
-use mathlib.Core.Bool.{Bool, false}
+use mathlib.Core.Bool.{Bool, true, false}
 use mathlib.Core.Path.{_≡_, refl, sym, _∙_, ap}
 use Rattle.bags.specs.declared.sections.Sections.{Sections}
 use Rattle.lookups.specs.declared.values.Value.{Value}
 use Rattle.views.specs.Meaning.{Datum, present}
 use Rattle.views.specs.Values.{listAt, datumOf}
 use Rattle.views.specs.Rows.{rowView, RowStands}
-use Rattle.grammar.specs.Policies.{Comparator.Equal, Literal}
+use Rattle.grammar.specs.Policies.{Comparator.Equal, Literal, text as textLiteral, number as numberLiteral, truth}
 use Rattle.placing.specs.Placed.{quotedAt, PathPlaced, OperandPlaced, unblankedAt}
 use Rattle.placing.specs.Said.{literalWords}
 use Rattle.table.specs.declared.Entry.{Entry}
@@ -28,6 +28,12 @@ literal-compares t k o v w x y r e q f l = f l l ∙ rw (literal-is t o w y l e 
 -- 13 is the kind of `==`
 pub same-by-13 : {r : Bool} (d e : Datum) → r ≡ compares (comparatorOfKind 13) d e → r ≡ compares Equal d e
 same-by-13 d e h = h ∙ rw (← equal-13 13 refl)
+
+literal-there : (t : List ℕ) (l : Literal) → present (literalValue (literalWords t l)) ≡ true
+unfolding literalValue literalWords
+literal-there t (textLiteral x) = refl
+literal-there t (numberLiteral x) = refl
+literal-there t (truth b) = refl
 
 module _ (t s : List ℕ) (p : Sections) (n : ℕ) (heads values : List ℕ) (stands : RowStands s p n heads values) (action : List ℕ) where
   pub compare-is : (k : ℕ) (a b : Entry) (v w : Value) (x y : List ℕ) (r : Bool) → OperandPlaced t (operandOfEntry a) → OperandPlaced t (operandOfEntry b)
@@ -49,7 +55,17 @@ module _ (t s : List ℕ) (p : Sections) (n : ℕ) (heads values : List ℕ) (st
       ∙ ap (λ (d : Datum). compares (comparatorOfKind k) d (literalValue (literalWords t (literalOfEntry b)))) (operand-is t s p n heads values stands action a v x i e g)
       ∙ ap (compares (comparatorOfKind k) (meant t s p n heads values action a)) (sym (literal-meant t (withAction action (rowView s p n heads values)) b h))
 
+  -- it is present
+  pub literal-met : (b : Entry) → 4 < b .kind → present (meant t s p n heads values action b) ≡ true
+  literal-met b h = ap present (literal-meant t (withAction action (rowView s p n heads values)) b h) ∙ literal-there t (literalOfEntry b)
+
   module _ (a : Entry) (v : Value) (placed : OperandPlaced t (operandOfEntry a)) (e : v ≡ operandRead t s p n heads values a) where
+    -- whether it is present
+    pub operand-met : (r : Bool) → ((x : List ℕ) (l : List (List ℕ)) → r ≡ present (datumOf v x l)) → r ≡ present (meant t s p n heads values action a)
+    operand-met r held =
+        held (stringOf t s action a v) (listAt s (v .place))
+        ∙ ap present (operand-is t s p n heads values stands action a v (stringOf t s action a v) placed e refl)
+
     pub among-is : (x : List ℕ) (ls : List Literal) (r : Bool) → x ≡ stringOf t s action a v
         → ((l : List (List ℕ)) → r ≡ some (λ o. compares Equal (datumOf v x l) (literalValue (literalWords t o))) ls)
         → r ≡ some (λ o. compares Equal (meant t s p n heads values action a) (literalValue (literalWords t o))) ls

@@ -17,8 +17,8 @@ use Rattle.placing.specs.Said.{literalWords, operandWords, treeWords}
 use Rattle.table.specs.declared.Entry.{Entry}
 use Rattle.table.specs.Kinds.{actionKind, stringKind, numberKind, trueKind, likeKind, inListKind}
 use Rattle.stored.specs.ReadBack.{spanOfEntry, rootOfKind, operandOfEntry}
-use Rattle.meaning.specs.Values.{withAction, literalValue, attributeValue, operandValue, ifText, compares}
-use Rattle.meaning.specs.Conditions.{some, asked, amongStrings, verdict}
+use Rattle.meaning.specs.Values.{withAction, literalValue, attributeValue, operandValue, ifText, ifTexts, compares}
+use Rattle.meaning.specs.Conditions.{given, some, asked, amongStrings, verdict}
 use Rattle.meaning.specs.declared.Verdict.{Verdict}
 
 -- ---- values
@@ -51,8 +51,9 @@ operandRead t s p n heads values o = cond (leb (o .kind) actionKind) (attributeR
 -- those of the bag or question, those between a literal's quotes, else the action; nothing asks for them where the value is no string
 unfoldable pub stringOf : List ℕ → List ℕ → List ℕ → Entry → Value → List ℕ
 stringOf t s action o v =
-    cond (eqb (v .kind) 1 && ofBag (o .kind)) (stringAt s (v .place))
-    (cond (eqb (o .kind) stringKind) (quotedAt t (spanOfEntry o)) action)
+    cond (eqb (v .kind) 1)
+    (cond (ofBag (o .kind)) (stringAt s (v .place)) (cond (eqb (o .kind) stringKind) (quotedAt t (spanOfEntry o)) action))
+    action
 
 -- ---- what is meant
 
@@ -72,9 +73,9 @@ meant t s p n heads values action o = operandValue (seen s p n heads values acti
 abbrev pub meantPath : List ℕ → List ℕ → Sections → ℕ → List ℕ → List ℕ → List ℕ → Entry → Datum
 meantPath t s p n heads values action o = attributeValue (seen s p n heads values action) (rootOfKind (o .kind)) (unblankedAt t (spanOfEntry o))
 
--- a condition's verdict there
-abbrev pub verdictSeen : List ℕ → List ℕ → Sections → ℕ → List ℕ → List ℕ → List ℕ → Tree → Verdict
-verdictSeen t s p n heads values action c = verdict (seen s p n heads values action) (treeWords t c)
+-- a condition's verdict there, where `settles` says whether an absent attribute makes an operator false
+abbrev pub verdictSeen : Bool → List ℕ → List ℕ → Sections → ℕ → List ℕ → List ℕ → List ℕ → Tree → Verdict
+verdictSeen settles t s p n heads values action c = verdict settles (seen s p n heads values action) (treeWords t c)
 
 -- whether a value is the same as one of these literals
 abbrev pub amongLiterals : List ℕ → Datum → List Literal → Bool
@@ -83,6 +84,13 @@ amongLiterals t d ls = some (λ l. compares Equal d (literalValue (literalWords 
 -- whether any, or all, of these literals are among the strings of a list
 abbrev pub literalsListed : List ℕ → Bool → List (List ℕ) → List Literal → Bool
 literalsListed t any l ls = asked (whichBy any) (λ o. ifText (literalValue (literalWords t o)) (amongStrings l)) ls
+
+-- what `in` a list of literals says, and contains, by the value that it met
+abbrev pub givenAmong : List ℕ → Datum → List Literal → Verdict
+givenAmong t d ls = given d (amongLiterals t d ls)
+
+abbrev pub givenListed : List ℕ → Bool → Datum → List Literal → Verdict
+givenListed t any d ls = given d (ifTexts d (λ l. literalsListed t any l ls))
 
 -- where the left operand stands of the condition whose last entry is x, number end - 1: before x (`like`), before a list, or before another operand
 abbrev pub leftAt : ℕ → Entry → ℕ

@@ -1,18 +1,19 @@
-// Conditions without parts, found true or false entry by entry, over a row's view of attributes. An absent attribute makes such a condition false.
+// Conditions without parts, found out entry by entry, over a row's view of attributes: yes or no, or missing where an operator other than `has` met an absent
+// one. What missing counts as goes by the version of the rules, and is not asked here.
 ghost use mathlib.Core.Path.{_≡_};
+ghost use mathlib.Core.Bool.{false, cond};
 ghost use mathlib.Core.List.{List};
 ghost use Prim.Native.Nat.{ℕ, _+_, _<_, _≤_};
 ghost use Rattle.views.specs.Meaning.{present};
 ghost use Rattle.views.specs.Rows.{RowStands};
-ghost use Rattle.patterns.specs.Likes.{likesText};
 ghost use Rattle.placing.specs.Placed.{quotedAt, Each, StringPlaced, PathPlaced, LiteralPlaced, OperandPlaced};
 ghost use Rattle.table.specs.Kinds.{falseKind, inAttributeKind, containsAnyKind};
 ghost use Rattle.table.specs.Layout.{entriesIn, entryAt};
 ghost use Rattle.stored.specs.ReadBack.{spanOfEntry, rootOfKind, comparatorOfKind, operandOfEntry, literalsAt, treeOf};
 ghost use Rattle.stored.specs.Ready.{Room, Node};
-ghost use Rattle.meaning.specs.Values.{ifText, ifTexts, compares};
-ghost use Rattle.meaning.specs.Conditions.{told, amongStrings};
-ghost use Rattle.operators.specs.Operands.{operandRead, meant, meantPath, verdictSeen, amongLiterals, literalsListed, leftAt};
+ghost use Rattle.meaning.specs.Conditions.{told, compared, likened, inAttribute};
+ghost use Rattle.meaning.specs.declared.Verdict.the-variants.{Missing};
+ghost use Rattle.operators.specs.Operands.{operandRead, meant, meantPath, verdictSeen, givenAmong, givenListed, leftAt};
 use crate::lists::among_literals;
 use crate::lists::in_list;
 use crate::lists::literal_holds;
@@ -47,6 +48,16 @@ fn told_of(b: bool) -> Verdict
     Verdict::No
 }
 
+// What an operator says by its test, where `met` tells whether all values that it met are present.
+fn given_of(met: bool, holds: bool) -> Verdict
+    ensures { λ r. ⌜ r ≡ cond met (told holds) Missing ⌝ }
+{
+    if met {
+        return told_of(holds);
+    }
+    Verdict::Missing
+}
+
 // Whether a root has the path of the entry o.
 fn has_attribute(
     text: &[u8],
@@ -79,23 +90,25 @@ fn compare_operands<'a>(
     values: &[usize; MOST_COLUMNS],
     v: Value,
     action: &'a [u8],
-) -> bool
+) -> Verdict
     requires { ⌜ OperandPlaced (now text) (operandOfEntry a) ⌝ }
     requires { ⌜ OperandPlaced (now text) (operandOfEntry b) ⌝ }
     requires { ⌜ RowStands (now s) p n (now heads) (now values) ⌝ }
     requires { ⌜ v ≡ operandRead (now text) (now s) p n (now heads) (now values) a ⌝ }
-    ensures { λ r. ⌜ r ≡ compares (comparatorOfKind kind)
+    ensures { λ r. ⌜ r ≡ compared (comparatorOfKind kind)
         (meant (now (text .entry)) (now (s .entry)) p n (now (heads .entry)) (now (values .entry)) (now (action .entry)) a)
         (meant (now (text .entry)) (now (s .entry)) p n (now (heads .entry)) (now (values .entry)) (now (action .entry)) b) ⌝ }
 {
+    let met = is_present(v);
     let x = operand_string(text, s, action, a, v);
     let sort = b.kind;
     if entries::ACTION < sort {
-        return literal_holds(text, kind, b, v, x);
+        return given_of(met, literal_holds(text, kind, b, v, x));
     }
     let w = attribute_value(text, s, p, n, heads, values, b);
+    let both = met & is_present(w);
     let y = operand_string(text, s, action, b, w);
-    values_hold(kind, v, x, w, y)
+    given_of(both, values_hold(kind, v, x, w, y))
 }
 
 // An operand, read as v, `like` the pattern of the entry o.
@@ -110,20 +123,21 @@ fn like_operand<'a>(
     values: &[usize; MOST_COLUMNS],
     v: Value,
     action: &'a [u8],
-) -> bool
+) -> Verdict
     requires { ⌜ OperandPlaced (now text) (operandOfEntry a) ⌝ }
     requires { ⌜ StringPlaced (now text) (spanOfEntry o) ⌝ }
     requires { ⌜ RowStands (now s) p n (now heads) (now values) ⌝ }
     requires { ⌜ v ≡ operandRead (now text) (now s) p n (now heads) (now values) a ⌝ }
-    ensures { λ r. ⌜ r ≡ ifText (meant (now (text .entry)) (now (s .entry)) p n (now (heads .entry)) (now (values .entry)) (now (action .entry)) a)
-        (likesText (quotedAt (now (text .entry)) (spanOfEntry o))) ⌝ }
+    ensures { λ r. ⌜ r ≡ likened (meant (now (text .entry)) (now (s .entry)) p n (now (heads .entry)) (now (values .entry)) (now (action .entry)) a)
+        (quotedAt (now (text .entry)) (spanOfEntry o)) ⌝ }
 {
+    let met = is_present(v);
     let kind = v.kind;
     if kind != bags::values::STRING {
-        return false;
+        return given_of(met, false);
     }
     let x = operand_string(text, s, action, a, v);
-    patterns::like(quoted(text, o), x)
+    given_of(met, patterns::like(quoted(text, o), x))
 }
 
 // An operand, read as v, `in` the list of the `count` literals from entry `at` on.
@@ -140,18 +154,19 @@ fn operand_in_list<'a>(
     values: &[usize; MOST_COLUMNS],
     v: Value,
     action: &'a [u8],
-) -> bool
+) -> Verdict
     requires { ⌜ OperandPlaced (now text) (operandOfEntry a) ⌝ }
     requires { ⌜ Each (LiteralPlaced (now text)) (literalsAt count (now table) at) ⌝ }
     requires { ⌜ at + count ≤ entriesIn (now table) ⌝ }
     requires { ⌜ RowStands (now s) p n (now heads) (now values) ⌝ }
     requires { ⌜ v ≡ operandRead (now text) (now s) p n (now heads) (now values) a ⌝ }
-    ensures { λ r. ⌜ r ≡ amongLiterals (now (text .entry))
+    ensures { λ r. ⌜ r ≡ givenAmong (now (text .entry))
         (meant (now (text .entry)) (now (s .entry)) p n (now (heads .entry)) (now (values .entry)) (now (action .entry)) a)
         (literalsAt count (now (table .entry)) at) ⌝ }
 {
+    let met = is_present(v);
     let x = operand_string(text, s, action, a, v);
-    among_literals(text, table, count, at, v, x)
+    given_of(met, among_literals(text, table, count, at, v, x))
 }
 
 // An operand, read as v, `in` the attribute of the entry b.
@@ -166,26 +181,26 @@ fn operand_in_attribute<'a>(
     values: &[usize; MOST_COLUMNS],
     v: Value,
     action: &'a [u8],
-) -> bool
+) -> Verdict
     requires { ⌜ OperandPlaced (now text) (operandOfEntry a) ⌝ }
     requires { ⌜ PathPlaced (now text) (rootOfKind (b .kind)) (spanOfEntry b) ⌝ }
     requires { ⌜ RowStands (now s) p n (now heads) (now values) ⌝ }
     requires { ⌜ v ≡ operandRead (now text) (now s) p n (now heads) (now values) a ⌝ }
-    ensures { λ r. ⌜ r ≡ ifText (meant (now (text .entry)) (now (s .entry)) p n (now (heads .entry)) (now (values .entry)) (now (action .entry)) a)
-        (λ x. ifTexts (meantPath (now (text .entry)) (now (s .entry)) p n (now (heads .entry)) (now (values .entry)) (now (action .entry)) b)
-        (λ l. amongStrings l x)) ⌝ }
+    ensures { λ r. ⌜ r ≡ inAttribute (meant (now (text .entry)) (now (s .entry)) p n (now (heads .entry)) (now (values .entry)) (now (action .entry)) a)
+        (meantPath (now (text .entry)) (now (s .entry)) p n (now (heads .entry)) (now (values .entry)) (now (action .entry)) b) ⌝ }
 {
+    let w = attribute_value(text, s, p, n, heads, values, b);
+    let both = is_present(v) & is_present(w);
     let kind = v.kind;
     if kind != bags::values::STRING {
-        return false;
+        return given_of(both, false);
     }
-    let w = attribute_value(text, s, p, n, heads, values, b);
     let list_kind = w.kind;
     if list_kind != bags::values::LIST {
-        return false;
+        return given_of(both, false);
     }
     let x = operand_string(text, s, action, a, v);
-    in_list(s, w.place, x)
+    given_of(both, in_list(s, w.place, x))
 }
 
 // The attribute of the entry b contains any, or all, of the `count` literals from entry `at` on.
@@ -201,20 +216,22 @@ fn contains_literals(
     n: usize,
     heads: &[usize; MOST_COLUMNS],
     values: &[usize; MOST_COLUMNS],
-) -> bool
+) -> Verdict
     requires { ⌜ PathPlaced (now text) (rootOfKind (b .kind)) (spanOfEntry b) ⌝ }
     requires { ⌜ Each (LiteralPlaced (now text)) (literalsAt count (now table) at) ⌝ }
     requires { ⌜ at + count ≤ entriesIn (now table) ⌝ }
     requires { ⌜ RowStands (now s) p n (now heads) (now values) ⌝ }
-    ensures { λ r. ⌜ ((action : List ℕ) → r ≡ ifTexts (meantPath (now (text .entry)) (now (s .entry)) p n (now (heads .entry)) (now (values .entry)) action b)
-        (λ l. literalsListed (now (text .entry)) any l (literalsAt count (now (table .entry)) at))) ⌝ }
+    ensures { λ r. ⌜ ((action : List ℕ) → r ≡ givenListed (now (text .entry)) any
+        (meantPath (now (text .entry)) (now (s .entry)) p n (now (heads .entry)) (now (values .entry)) action b) (literalsAt count (now (table .entry)) at)) ⌝ }
 {
     let w = attribute_value(text, s, p, n, heads, values, b);
+    let met = is_present(w);
     let kind = w.kind;
     if kind != bags::values::LIST {
-        return false;
+        return given_of(met, false);
     }
-    literals_listed(text, table, any, count, at, s, w.place)
+    let holds = literals_listed(text, table, any, count, at, s, w.place);
+    given_of(met, holds)
 }
 
 // Where the left operand stands of the condition whose last entry is x, number end - 1.
@@ -234,8 +251,8 @@ fn left_at(end: usize, x: Entry) -> usize
     end - 3
 }
 
-// Whether the condition holds whose last entry is x, number end - 1, and whose left operand, of the entry a, was read: v.
-fn left_holds<'a>(
+// The verdict of the condition whose last entry is x, number end - 1, and whose left operand, of the entry a, was read: v.
+fn left_verdict<'a>(
     text: &'a [u8],
     table: &[u8],
     end: usize,
@@ -248,13 +265,13 @@ fn left_holds<'a>(
     values: &[usize; MOST_COLUMNS],
     v: Value,
     action: &'a [u8],
-) -> bool
+) -> Verdict
     requires { ⌜ Node (now text) (now table) end x ⌝ }
     requires { ⌜ (falseKind < x .kind) × (x .kind ≤ inAttributeKind) ⌝ }
     requires { ⌜ a ≡ entryAt (now table) (leftAt end x) ⌝ }
     requires { ⌜ RowStands (now s) p n (now heads) (now values) ⌝ }
     requires { ⌜ v ≡ operandRead (now text) (now s) p n (now heads) (now values) a ⌝ }
-    ensures { λ r. ⌜ told r ≡ verdictSeen (now (text .entry)) (now (s .entry)) p n (now (heads .entry)) (now (values .entry)) (now (action .entry))
+    ensures { λ r. ⌜ r ≡ verdictSeen false (now (text .entry)) (now (s .entry)) p n (now (heads .entry)) (now (values .entry)) (now (action .entry))
         (treeOf (now (table .entry)) end x) ⌝ }
 {
     let kind = x.kind;
@@ -290,7 +307,7 @@ pub fn flat<'a>(
     requires { ⌜ Node (now text) (now table) end x ⌝ }
     requires { ⌜ x .kind ≤ containsAnyKind ⌝ }
     requires { ⌜ RowStands (now s) p n (now heads) (now values) ⌝ }
-    ensures { λ r. ⌜ r ≡ verdictSeen (now (text .entry)) (now (s .entry)) p n (now (heads .entry)) (now (values .entry)) (now (action .entry))
+    ensures { λ r. ⌜ r ≡ verdictSeen false (now (text .entry)) (now (s .entry)) p n (now (heads .entry)) (now (values .entry)) (now (action .entry))
         (treeOf (now (table .entry)) end x) ⌝ }
 {
     let kind = x.kind;
@@ -311,9 +328,9 @@ pub fn flat<'a>(
         let at = end - count - 1;
         let a = entry_in(table, end - count - 2);
         let any = kind == entries::CONTAINS_ANY;
-        return told_of(contains_literals(text, table, any, count, at, a, s, p, n, heads, values));
+        return contains_literals(text, table, any, count, at, a, s, p, n, heads, values);
     }
     let a = entry_in(table, left_at(end, x));
     let v = operand_value(text, s, p, n, heads, values, a);
-    told_of(left_holds(text, table, end, x, a, s, p, n, heads, values, v, action))
+    left_verdict(text, table, end, x, a, s, p, n, heads, values, v, action)
 }

@@ -123,8 +123,10 @@ pub fn operand_string<'a>(
 {
     let kind = v.kind;
     let root = o.kind;
-    let inside = (entries::PRINCIPAL <= root) & (root <= entries::ENV);
-    if (kind == bags::values::STRING) & inside {
+    if kind != bags::values::STRING {
+        return action;
+    }
+    if (entries::PRINCIPAL <= root) & (root <= entries::ENV) {
         let place = v.place;
         let start = place + 1;
         let end = start + s[place] as usize;

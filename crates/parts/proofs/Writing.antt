@@ -1,5 +1,5 @@
 -- What one entry after another leaves in the table and in the answer, for readers of any value. Assumes nothing.
-use mathlib.Core.Path.{_≡_, refl, _∙_, sym, subst}
+use mathlib.Core.Path.{_≡_, refl, _∙_, sym, subst, fun-ext}
 use mathlib.Core.List.{List, [], _∷_, _++_}
 use mathlib.Core.Bool.{Bool, true, false, _&&_}
 use Prim.Native.Nat.{ℕ, _+_, _≤_, _<_}
@@ -121,6 +121,12 @@ pub closed-next : {A : Type 0} {es : ℕ → A → List Entry} {text seen : List
 unfolding closedOf
 closed-next y (read k) e = rw e (lowered (omega arith) (k .lies))
 closed-next y (refused k) e = rw e tt
+
+-- the same promise of the same entries, said otherwise
+pub done-alike : {A : Type 0} {es fs : ℕ → A → List Entry} {text seen : List ℕ} {from first : ℕ} {same : Bool} {T T₁ : List ℕ} {p : reader.Answer A}
+    {r : Answer} → ((e : ℕ) (a : A) → es e a ≡ fs e a) → Done es text seen from first same T T₁ p r → Done fs text seen from first same T T₁ p r
+done-alike {A} {text = text} {seen} {from} {first} {same} {T} {T₁} {p} {r} h d =
+    subst (λ (es : ℕ → A → List Entry). Done es text seen from first same T T₁ p r) (fun-ext (λ e. fun-ext (h e))) d
 
 -- the same promise, where bytes count from an earlier place on
 pub weaker : {A : Type 0} {es : ℕ → A → List Entry} {text seen : List ℕ} {from′ from first : ℕ} {same : Bool} {T T₁ : List ℕ} {p : reader.Answer A} {r : Answer} → from′ ≤ from

@@ -8,9 +8,9 @@ ghost use Rattle.parts.specs.Answers.{turnedAway, Next, freeOf, Counts, 
 use crate::refusals;
 use table::Entry;
 use table::append;
+use token_reader::next_token;
 use tokens::kinds;
 use tokens::reader::Token;
-use tokens::reader::next_token;
 
 // A refusal's number, and the place and the size of the token that is refused.
 pub struct Refusal {

@@ -16,8 +16,8 @@ use crate::paths::read_placed;
 use crate::paths::root_kind;
 use crate::refusals;
 use table::append;
+use token_reader::next_token;
 use tokens::reader::Token;
-use tokens::reader::next_token;
 
 // What follows the root of an attribute that is no left operand: a dot and a path.
 pub fn read_attribute(

@@ -18,9 +18,9 @@ use slices::same;
 use table::Entry;
 use table::append;
 use table::entries;
+use token_reader::next_token;
 use tokens::kinds;
 use tokens::reader::Token;
-use tokens::reader::next_token;
 use tokens::sizes::MOST_PATH_BYTES;
 
 // Where a path starts and ends, the kind of the call that begins after it or 0, and the token after all that.

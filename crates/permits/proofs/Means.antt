@@ -1,4 +1,4 @@
--- A permit is satisfied exactly when its lock holds, for every view and every request. Assumes nothing.
+-- A permit is satisfied exactly when its lock holds, under every version, for every view and every request. Assumes nothing.
 use mathlib.Core.Path.{_≡_, refl, ap, _∙_, sym}
 use mathlib.Core.Bool.{Bool, true, false, _&&_, _||_}
 use mathlib.Core.List.{List, [], _∷_, map, List·Memᴰ, List·Memᴰ·head, List·Memᴰ·tail, List·Memᴰ·not-nil, List·Memᴰ·cases-cons}
@@ -14,7 +14,7 @@ use Rattle.grammar.specs.Policies as policies
 use Rattle.placing.specs.Said.{Word}
 use Rattle.views.specs.Meaning.{Datum, text, number, flag, texts, absent, View}
 use Rattle.meaning.specs.Values.{literalValue, attributeValue, operandValue, withAction, compares, ordered}
-use Rattle.meaning.specs.Conditions.{told, given, givenBoth, settled, bothOf, some, amongStrings, compared, inAttribute, verdict, isYes}
+use Rattle.meaning.specs.Conditions.{told, given, givenBoth, settled, settles, settledIf, bothOf, some, amongStrings, compared, inAttribute, verdict, isYes}
 use Rattle.meaning.specs.declared.Verdict.{Verdict}
 use Rattle.meaning.specs.declared.Verdict.the-variants.{Yes, No, Missing}
 use Rattle.meaning.specs.Targets.{partMatches, isString, actionMatches}
@@ -52,14 +52,22 @@ some-texts s (a ∷ l) = rw (some-texts s l)
 -- ---- a test
 
 -- yes is told where the test passed
-told-yes : (b : Bool) → isYes (settled (told b)) ≡ b
-unfolding settled told
+told-yes : (b : Bool) → isYes (told b) ≡ b
+unfolding told
 told-yes true = refl
 told-yes false = refl
 
+-- and no version makes a yes of what is none
+settled-yes : (s : Bool) (v : Verdict) → isYes (settledIf s v) ≡ isYes v
+unfolding settledIf settled
+settled-yes true Yes = refl
+settled-yes true No = refl
+settled-yes true Missing = refl
+settled-yes false v = refl
+
 module _ (value : Word) where
   equal-yes : (d : Datum) → isYes (compared Equal d (text value)) ≡ true → d ≡ text value
-  unfolding givenBoth given settled compares
+  unfolding givenBoth given compares
   equal-yes (text x) e = ap text (same-decides x value .sound (sym (told-yes (same x value)) ∙ e))
   equal-yes (number x) e = absurd (never (sym (told-yes false) ∙ e))
   equal-yes (flag x) e = absurd (never (sym (told-yes false) ∙ e))
@@ -77,7 +85,7 @@ module _ (value : Word) where
     has : List·Memᴰ value list
 
   member-yes : (d : Datum) → isYes (inAttribute (text value) d) ≡ true → Has d
-  unfolding givenBoth given settled
+  unfolding givenBoth given
   member-yes (text x) e = absurd (never (sym (told-yes false) ∙ e))
   member-yes (number x) e = absurd (never (sym (told-yes false) ∙ e))
   member-yes (flag x) e = absurd (never (sym (told-yes false) ∙ e))
@@ -96,7 +104,7 @@ module _ (c : Comparator) (y : Float) where
     so : ordered c value y ≡ true
 
   order-yes : (d : Datum) → isYes (compared c d (number y)) ≡ true → Is d
-  unfolding givenBoth given settled compares
+  unfolding givenBoth given compares
   order-yes (text x) e = absurd (never (sym (told-yes false) ∙ e))
   order-yes (number x) e = record { value = x; is = refl; so = sym (told-yes (ordered c x y)) ∙ e }
   order-yes (flag x) e = absurd (never (sym (told-yes false) ∙ e))
@@ -107,22 +115,22 @@ module _ (c : Comparator) (y : Float) where
   unfolding givenBoth given compares
   yes-order x e = told-yes (ordered c x y) ∙ e
 
-module _ (view : View) (action : Word) where
-  -- a condition is true
+module _ (s : Bool) (view : View) (action : Word) where
+  -- a condition is true, where `s` says whether an absent attribute settles an operator
   abbrev Holds : TreeOf Word → Type 0
-  Holds c = isYes (verdict (withAction action view) c) ≡ true
+  Holds c = isYes (verdict s (withAction action view) c) ≡ true
 
   test-holds : (t : Test) → Holds (testTree t) → TestHolds view t
   unfolding testTree verdict operandValue attributeValue literalValue withAction
-  test-holds (equal path value) e = is-that (equal-yes value (view 1 path) e)
-  test-holds (member path value) e = let h = member-yes value (view 1 path) e in has-that (h .is) (h .has)
-  test-holds (order path c n) e = let h = order-yes c (numberIn n) (view 1 path) e in compares-so (h .is) (h .so)
+  test-holds (equal path value) e = is-that (equal-yes value (view 1 path) (sym (settled-yes s _) ∙ e))
+  test-holds (member path value) e = let h = member-yes value (view 1 path) (sym (settled-yes s _) ∙ e) in has-that (h .is) (h .has)
+  test-holds (order path c n) e = let h = order-yes c (numberIn n) (view 1 path) (sym (settled-yes s _) ∙ e) in compares-so (h .is) (h .so)
 
   holds-test : {t : Test} → TestHolds view t → Holds (testTree t)
   unfolding testTree verdict operandValue attributeValue literalValue withAction
-  holds-test (is-that {value = value} e) = rw e (yes-equal value)
-  holds-test (has-that {value = value} {l = l} e m) = rw e (yes-member value l m)
-  holds-test (compares-so {n = n} {c = c} {x = x} e h) = rw e (yes-order c (numberIn n) x h)
+  holds-test (is-that {value = value} e) = rw e (settled-yes s _ ∙ yes-equal value)
+  holds-test (has-that {value = value} {l = l} e m) = rw e (settled-yes s _ ∙ yes-member value l m)
+  holds-test (compares-so {n = n} {c = c} {x = x} e h) = rw e (settled-yes s _ ∙ yes-order c (numberIn n) x h)
 
   -- ---- tests joined
 
@@ -143,7 +151,7 @@ module _ (view : View) (action : Word) where
   joined-hold c [] e = (e, λ t m. absurd (List·Memᴰ·not-nil m))
   joined-hold c (t ∷ ts) e =
       let r = joined-hold (both c (testTree t)) ts e in
-      let two = both-yes (verdict (withAction action view) c) (verdict (withAction action view) (testTree t)) (r .0) in
+      let two = both-yes (verdict s (withAction action view) c) (verdict s (withAction action view) (testTree t)) (r .0) in
       (two .0, λ u m. ⊎-elim (λ (q : u ≡ t). rw q (test-holds t (two .1))) (λ (n : List·Memᴰ u ts). r .1 u n) (List·Memᴰ·cases-cons m))
 
   hold-joined : (c : TreeOf Word) (ts : List Test) → Holds c → ((t : Test) → List·Memᴰ t ts → TestHolds view t) → Holds (joinedTo c ts)
@@ -151,14 +159,14 @@ module _ (view : View) (action : Word) where
   hold-joined c [] e f = e
   hold-joined c (t ∷ ts) e f =
       hold-joined (both c (testTree t)) ts
-      (yes-both (verdict (withAction action view) c) (verdict (withAction action view) (testTree t)) e (holds-test (f t (List·Memᴰ·head refl))))
+      (yes-both (verdict s (withAction action view) c) (verdict s (withAction action view) (testTree t)) e (holds-test (f t (List·Memᴰ·head refl))))
       (λ u m. f u (List·Memᴰ·tail m))
 
 -- ---- a permit
 
 pub permit-means : PermitMeans
 unfolding PermitMeans permitPolicy satisfied targetMatches partMatches actionMatches conditionHolds
-permit-means view q actions resource t ts = (then-holds, holds-then)
+permit-means version view q actions resource t ts = (then-holds, holds-then)
   where
     acts : Bool
     acts = some (isString (q .action)) (map policies.text actions)
@@ -167,17 +175,17 @@ permit-means view q actions resource t ts = (then-holds, holds-then)
     here = same (q .resource) resource
 
     true-there : Bool
-    true-there = isYes (verdict (withAction (q .action) view) (joinedTo (testTree t) ts))
+    true-there = isYes (verdict (settles version) (withAction (q .action) view) (joinedTo (testTree t) ts))
 
     then-holds : (acts && here && true-there) ≡ true → LockHolds view q actions resource (t ∷ ts)
     then-holds e =
         let target = and-left (acts && here) true-there e in
-        let tests = joined-hold view (q .action) (testTree t) ts (and-right (acts && here) true-there e) in
+        let tests = joined-hold (settles version) view (q .action) (testTree t) ts (and-right (acts && here) true-there e) in
         record {
           action-among = among-mem (q .action) actions (sym (some-texts (q .action) actions) ∙ and-left acts here target);
           resource-is = same-decides (q .resource) resource .sound (and-right acts here target);
           every-test = λ u m.
-              ⊎-elim (λ (e : u ≡ t). rw e (test-holds view (q .action) t (tests .0))) (λ (n : List·Memᴰ u ts). tests .1 u n) (List·Memᴰ·cases-cons m);
+              ⊎-elim (λ (e : u ≡ t). rw e (test-holds (settles version) view (q .action) t (tests .0))) (λ (n : List·Memᴰ u ts). tests .1 u n) (List·Memᴰ·cases-cons m);
         }
 
     holds-then : LockHolds view q actions resource (t ∷ ts) → (acts && here && true-there) ≡ true
@@ -185,6 +193,6 @@ permit-means view q actions resource t ts = (then-holds, holds-then)
         let first : acts ≡ true = some-texts (q .action) actions ∙ mem-among (q .action) actions (h .action-among) in
         let second : here ≡ true = same-decides (q .resource) resource .complete (h .resource-is) in
         let third : true-there ≡ true =
-        hold-joined view (q .action) (testTree t) ts (holds-test view (q .action) (h .every-test t (List·Memᴰ·head refl)))
+        hold-joined (settles version) view (q .action) (testTree t) ts (holds-test (settles version) view (q .action) (h .every-test t (List·Memᴰ·head refl)))
         (λ u m. h .every-test u (List·Memᴰ·tail m)) in
         rw (first, second, third)

@@ -7,10 +7,11 @@ use Prim.Native.Nat.{_≤_}
 use lib.ListN.{length}
 use Rattle.grammar.specs.Policies.{Policy}
 use Rattle.grammar.specs.Grammar.{SaysPolicies}
+use Rattle.grammar.specs.declared.Version.{Version}
 use Rattle.placing.specs.Said.{Word, wordsOf}
 use Rattle.views.specs.Meaning.{View}
 use Rattle.meaning.specs.Targets.{Request}
-use Rattle.meaning.specs.Decisions.{satisfied}
+use Rattle.meaning.specs.Decisions.{under, satisfied}
 use Rattle.permits.specs.Permits.{Test, permitText, permitPolicy}
 use Rattle.permits.specs.Meaning.{LockHolds, Fits, Made}
 
@@ -30,10 +31,11 @@ unfoldable pub PermitSays : Type 0
 PermitSays = (actions : List Word) (resource : Word) (t : Test) (ts : List Test) → Made actions resource (t ∷ ts) → AllFit (t ∷ ts)
     → SaysPermit actions resource t ts
 
--- The permit is satisfied exactly when the lock holds: the request is for one of the actions on that resource, and every test holds.
+-- The permit is satisfied exactly when the lock holds: the request is for one of the actions on that resource, and every test holds. So it is under every
+-- version: permits agree under both.
 unfoldable pub PermitMeans : Type 0
-PermitMeans = (view : View) (q : Request) (actions : List Word) (resource : Word) (t : Test) (ts : List Test)
-    → (satisfied view q (permitPolicy actions resource t ts) ≡ true) ↔ LockHolds view q actions resource (t ∷ ts)
+PermitMeans = (version : Version) (view : View) (q : Request) (actions : List Word) (resource : Word) (t : Test) (ts : List Test)
+    → (satisfied (under version view) q (permitPolicy actions resource t ts) ≡ true) ↔ LockHolds view q actions resource (t ∷ ts)
 
 -- Nothing but the size of a value or a number keeps it from being a rule text.
 unfoldable pub OnlySizes : Type 0

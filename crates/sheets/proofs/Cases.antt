@@ -24,6 +24,7 @@ use Rattle.deciding.specs.Answers.{wordsIn}
 use Rattle.deciding.proofs.HeldLaws.{held-says}
 use Rattle.pages.specs.Listing.{rowSize, PageWritten}
 use Rattle.pages.specs.declared.Page.{Page}
+use Rattle.table.specs.Recorded.{recorded}
 use Rattle.sheets.specs.Sheets.{rowsIn, rowsAsked, decisionBy, decisionAt, markThere, rowMark, dividedAs, sectionsIn, requestRefusal, refusalOf, unless, PartListed, sheetAnswer, sheetAfter, SheetListed}
 use Rattle.sheets.specs.declared.Answer.{Answer}
 use Rattle.sheets.specs.declared.Answer.the-variants.{Listed, Refused}
@@ -36,19 +37,19 @@ module _ (text table s : List ℕ) (p : Sections) (q : Request) (start : ℕ) (p
   refused-by n e = record { answered = rw e; bytes = rw e }
 
   -- the decisions and marks by any policies that decide and mark alike
-  listed-by : requestRefusal text table q ≡ 0 → (ps : List (PolicyOf Word)) → ((row : ℕ) → decisionAt s p q ps row ≡ decisionAt s p q (wordsIn text) row)
-      → ((row : ℕ) → rowMark s p q ps row ≡ rowMark s p q (wordsIn text) row)
+  listed-by : requestRefusal text table q ≡ 0 → (ps : List (PolicyOf Word)) → ((row : ℕ) → decisionAt (recorded table) s p q ps row ≡ decisionAt (recorded table) s p q (wordsIn text) row)
+      → ((row : ℕ) → rowMark (recorded table) s p q ps row ≡ rowMark (recorded table) s p q (wordsIn text) row)
       → {all : ℕ} → all ≡ rowsIn s p → {page : Page} {after : List ℕ} {answer : Answer} → answer ≡ Listed (page .written) (page .next)
-      → PageWritten (decisionAt s p q ps) (rowMark s p q ps) all start part page after → PartListed text table s p q start part answer after
+      → PageWritten (decisionAt (recorded table) s p q ps) (rowMark (recorded table) s p q ps) all start part page after → PartListed text table s p q start part answer after
   unfolding unless
   listed-by e ps same marks a {page} {after} {answer} l w =
-      let alike : _≡_ {A = ℕ → Decision} (decisionAt s p q ps) (decisionAt s p q (wordsIn text)) = λ i row. same row i in
-      let marked : _≡_ {A = ℕ → ℕ} (rowMark s p q ps) (rowMark s p q (wordsIn text)) = λ i row. marks row i in
-      let v : PageWritten (decisionAt s p q (wordsIn text)) (rowMark s p q (wordsIn text)) (rowsIn s p) start part page after = rw (alike, marked, a) at w in
+      let alike : _≡_ {A = ℕ → Decision} (decisionAt (recorded table) s p q ps) (decisionAt (recorded table) s p q (wordsIn text)) = λ i row. same row i in
+      let marked : _≡_ {A = ℕ → ℕ} (rowMark (recorded table) s p q ps) (rowMark (recorded table) s p q (wordsIn text)) = λ i row. marks row i in
+      let v : PageWritten (decisionAt (recorded table) s p q (wordsIn text)) (rowMark (recorded table) s p q (wordsIn text)) (rowsIn s p) start part page after = rw (alike, marked, a) at w in
       record { answered = rw e (l ∙ rw (v .written, v .next)); bytes = rw e (v .bytes) }
 
   pub system-listed : isSystem (q .subject) ≡ true → (ps : List (PolicyOf Word)) → {all : ℕ} → all ≡ rowsIn s p → {page : Page} {after : List ℕ} {answer : Answer}
-      → answer ≡ Listed (page .written) (page .next) → PageWritten (decisionAt s p q ps) (rowMark s p q ps) all start part page after
+      → answer ≡ Listed (page .written) (page .next) → PageWritten (decisionAt (recorded table) s p q ps) (rowMark (recorded table) s p q ps) all start part page after
       → PartListed text table s p q start part answer after
   unfolding requestRefusal decisionBy markThere decisionOf decidedMark
   system-listed e ps = listed-by (rw e) ps (λ row. rw e) (λ row. rw e)
@@ -75,7 +76,7 @@ module _ (text table s : List ℕ) (p : Sections) (q : Request) (start : ℕ) (p
 
           pub held-listed : {policies entries : ℕ} → heldOf text table ≡ Right policies entries → {all : ℕ} → all ≡ rowsIn s p
               → {page : Page} {after : List ℕ} {answer : Answer} → answer ≡ Listed (page .written) (page .next)
-              → PageWritten (decisionAt s p q (wordsOf text (policiesAt table entries))) (rowMark s p q (wordsOf text (policiesAt table entries))) all start part page after
+              → PageWritten (decisionAt (recorded table) s p q (wordsOf text (policiesAt table entries))) (rowMark (recorded table) s p q (wordsOf text (policiesAt table entries))) all start part page after
               → PartListed text table s p q start part answer after
           unfolding requestRefusal
           held-listed {policies} {entries} e =

@@ -10,6 +10,7 @@ use lib.ListN.{length, take, drop, length-drop, length-take}
 use lib.Seq.{take-at, drop-at, drop-drop, length-take-le}
 use Rattle.compiling.specs.Outcome.{beginsOf}
 use Rattle.grammar.specs.Policies.{PolicyOf}
+use Rattle.grammar.specs.declared.Version.{Version}
 use Rattle.bags.specs.Forms.{Contents}
 use Rattle.bags.specs.Sections.{sectionsOf}
 use Rattle.bags.specs.declared.sections.Divided.the-variants.{In}
@@ -20,7 +21,7 @@ use Rattle.views.specs.Meaning.{View, asBag, look, rowBag}
 use Rattle.views.specs.Rows.{pickedAll}
 use Rattle.placing.specs.Said.{Word}
 use Rattle.meaning.specs.Targets.{Request, isSystem, isSubject, isAction, isResource}
-use Rattle.meaning.specs.Decisions.{decisionOf, decidedMark}
+use Rattle.meaning.specs.Decisions.{under, decisionOf, decidedMark}
 use Rattle.meaning.specs.declared.Decision.{Decision}
 use Rattle.deciding.specs.Promise.{Wellformed, RequestRefused, bad-subject, bad-action, bad-resource}
 use Rattle.deciding.proofs.Promised.{begun, begins-then, not-begun, begins-not}
@@ -57,16 +58,16 @@ module _ {s : List ℕ} {base : Contents} {cs : List Column} (w : QuestionBytes 
   rows-asked = ap product counts-asked
 
   -- a combination is decided over the base with each column's attribute set to its choice, or removed
-  pub decision-asked : {choices : List ℕ} → Combination (counts cs) choices → (q : Request) (ps : List (PolicyOf Word))
-      → decisionBy s (sectionsIn s) q ps choices ≡ decisionOf (look (rowBag (asBag base) (pickedAll cs choices))) q ps
+  pub decision-asked : {choices : List ℕ} → Combination (counts cs) choices → (version : Version) (q : Request) (ps : List (PolicyOf Word))
+      → decisionBy version s (sectionsIn s) q ps choices ≡ decisionOf (under version (look (rowBag (asBag base) (pickedAll cs choices)))) q ps
   unfolding decisionBy
-  decision-asked ok q ps = rw sections-are (ap (λ (view : View). decisionOf view q ps) (combination-shows (question-stands w .places) divided w ok))
+  decision-asked ok version q ps = rw sections-are (ap (λ (view : View). decisionOf (under version view) q ps) (combination-shows (question-stands w .places) divided w ok))
 
   -- and marked
-  pub mark-asked : {choices : List ℕ} → Combination (counts cs) choices → (q : Request) (ps : List (PolicyOf Word))
-      → markThere s (sectionsIn s) q ps choices ≡ decidedMark (look (rowBag (asBag base) (pickedAll cs choices))) q ps
+  pub mark-asked : {choices : List ℕ} → Combination (counts cs) choices → (version : Version) (q : Request) (ps : List (PolicyOf Word))
+      → markThere version s (sectionsIn s) q ps choices ≡ decidedMark (under version (look (rowBag (asBag base) (pickedAll cs choices)))) q ps
   unfolding markThere
-  mark-asked ok q ps = rw sections-are (ap (λ (view : View). decidedMark view q ps) (combination-shows (question-stands w .places) divided w ok))
+  mark-asked ok version q ps = rw sections-are (ap (λ (view : View). decidedMark (under version view) q ps) (combination-shows (question-stands w .places) divided w ok))
 
 -- ---- a call that lists
 
@@ -83,10 +84,10 @@ tests-pass false b c n e = absurd (let z : _≡_ {A = ℕ} 25 0 = e in omega ari
 
 module _ (text table s : List ℕ) (q : Request) (start : ℕ) (sheet : List ℕ) (at : ℕ) (e : saidTo text table s q start sheet at .refusal ≡ 0) where
   abbrev d : ℕ → Decision
-  d = decisions text s q
+  d = decisions text table s q
 
   abbrev m : ℕ → ℕ
-  m = rowMarks text s q
+  m = rowMarks text table s q
 
   abbrev room : ℕ
   room = roomIn (drop at sheet)
@@ -123,7 +124,7 @@ module _ (text table s : List ℕ) (q : Request) (start : ℕ) (sheet : List ℕ
   part-is = rw after-is (drop-at (take at sheet) (writtenOver d m (rowsAsked s) start (drop at sheet)) at front)
 
   -- the page on the part
-  pub page-written : PageWritten (decisions text s q) (rowMarks text s q) (rowsAsked s) start (drop at sheet)
+  pub page-written : PageWritten (decisions text table s q) (rowMarks text table s q) (rowsAsked s) start (drop at sheet)
       (record { written = saidTo text table s q start sheet at .written; next = saidTo text table s q start sheet at .next }) (drop at (sheetAfter text table s q start sheet at))
   page-written = record { written = sym written-is; next = sym next-is; bytes = part-is }
 
@@ -247,5 +248,5 @@ sheet-refused-exactly c number =
 
 pub listed-alike : ListedAlike
 unfolding ListedAlike sheetAnswer sheetAfter refusalOf requestRefusal
-listed-alike text text' table table' s q start sheet at same b b' =
-    (rw (begins-then text table b, begins-then text' table' b', same), rw (begins-then text table b, begins-then text' table' b', same))
+listed-alike text text' table table' s q start sheet at same version b b' =
+    (rw (begins-then text table b, begins-then text' table' b', same, version), rw (begins-then text table b, begins-then text' table' b', same, version))

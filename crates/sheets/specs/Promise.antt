@@ -1,11 +1,12 @@
--- When a call for a page gets which refusal, and that the words of its text alone decide what it lists. Demand 3 itself stands on the desk's page, and over any
--- decisions in pages. Definitions only.
+-- When a call for a page gets which refusal, and that the words of its text and the recorded version alone decide what it lists. Demand 3 itself stands on
+-- the desk's page, and over any decisions in pages. Definitions only.
 use mathlib.Core.Path.{_≡_}
 use mathlib.Core.Logic.{_↔_}
 use mathlib.Core.Bool.{true}
 use mathlib.Core.List.{List}
 use Prim.Native.Nat.{ℕ, _+_, _≤_, _<_}
 use lib.ListN.{length}
+use Rattle.table.specs.Recorded.{recorded}
 use Rattle.compiling.specs.Promise.{Begun}
 use Rattle.bags.specs.Forms.{Contents}
 use Rattle.questions.specs.Questions.{product}
@@ -55,9 +56,9 @@ SheetRefusedExactly = (c : SheetCall) (number : ℕ)
 
 -- ---- what a text says
 
--- Two texts that say the same, each with its table, get the same pages, wherever they say it and whatever else stands in them.
+-- Two texts that say the same, each with its table of the same version, get the same pages, wherever they say it and whatever else stands in them.
 unfoldable pub ListedAlike : Type 0
 ListedAlike = (text text' table table' s : List ℕ) (q : Request) (start : ℕ) (sheet : List ℕ) (at : ℕ)
-    → wordsIn text ≡ wordsIn text' → Begun text table → Begun text' table'
+    → wordsIn text ≡ wordsIn text' → recorded table ≡ recorded table' → Begun text table → Begun text' table'
     → (sheetAnswer text table s q start sheet at ≡ sheetAnswer text' table' s q start sheet at)
     × (sheetAfter text table s q start sheet at ≡ sheetAfter text' table' s q start sheet at)

@@ -1,10 +1,12 @@
--- What the sheet's call answers and leaves in the sheet, as functions of all that it is given (document 01, 'The sheet', 'Refusal numbers'). Definitions only.
+-- What the sheet's call answers and leaves in the sheet, as functions of all that it is given (document 01, 'The sheet', 'Refusal numbers').
+-- The version is the one that the table records (document 02, request 7). Definitions only.
 use mathlib.Core.Path.{_≡_}
 use mathlib.Core.Bool.{cond}
 use mathlib.Core.List.{List, _++_}
 use Prim.Native.Nat.{ℕ, zero, suc, _+_}
 use lib.Dec.{leb}
 use lib.ListN.{length, take, drop}
+use Rattle.table.specs.Recorded.{recorded}
 use Rattle.compiling.specs.Outcome.{beginsOf}
 use Rattle.bags.specs.Sections.{sectionsOf}
 use Rattle.bags.specs.declared.sections.Sections.{Sections}
@@ -61,19 +63,19 @@ writtenOver d m rows start part = over (rowsBytes d m (pageRows d rows start (ro
 
 -- a page for a question whose sections are p
 pub record PartListed (text table s : List ℕ) (p : Sections) (q : Request) (start : ℕ) (before : List ℕ) (answer : Answer) (after : List ℕ) : Type 0 where
-  pub answered : answer ≡ unless (requestRefusal text table q) (listedOn (decisionAt s p q (wordsIn text)) (rowsIn s p) start before) Refused
+  pub answered : answer ≡ unless (requestRefusal text table q) (listedOn (decisionAt (recorded table) s p q (wordsIn text)) (rowsIn s p) start before) Refused
   pub bytes : after ≡ unless (requestRefusal text table q)
-      (writtenOver (decisionAt s p q (wordsIn text)) (rowMark s p q (wordsIn text)) (rowsIn s p) start before) (λ _. before)
+      (writtenOver (decisionAt (recorded table) s p q (wordsIn text)) (rowMark (recorded table) s p q (wordsIn text)) (rowsIn s p) start before) (λ _. before)
 
 -- ---- the call
 
 -- the decision of each row of the question
-abbrev pub decisions : List ℕ → List ℕ → Request → ℕ → Decision
-decisions text s q = decisionAt s (sectionsIn s) q (wordsIn text)
+abbrev pub decisions : List ℕ → List ℕ → List ℕ → Request → ℕ → Decision
+decisions text table s q = decisionAt (recorded table) s (sectionsIn s) q (wordsIn text)
 
 -- and its mark
-abbrev pub rowMarks : List ℕ → List ℕ → Request → ℕ → ℕ
-rowMarks text s q = rowMark s (sectionsIn s) q (wordsIn text)
+abbrev pub rowMarks : List ℕ → List ℕ → List ℕ → Request → ℕ → ℕ
+rowMarks text table s q = rowMark (recorded table) s (sectionsIn s) q (wordsIn text)
 
 -- how many rows the question has
 abbrev pub rowsAsked : List ℕ → ℕ
@@ -82,12 +84,13 @@ rowsAsked s = rowsIn s (sectionsIn s)
 -- what the call answers
 unfoldable pub sheetAnswer : List ℕ → List ℕ → List ℕ → Request → ℕ → List ℕ → ℕ → Answer
 sheetAnswer text table s q start sheet at =
-    unless (refusalOf text table s q start sheet at) (listedOn (decisions text s q) (rowsAsked s) start (drop at sheet)) Refused
+    unless (refusalOf text table s q start sheet at) (listedOn (decisions text table s q) (rowsAsked s) start (drop at sheet)) Refused
 
 -- the sheet afterwards: the page is written into the part from the named byte on; a refusal changes nothing
 unfoldable pub sheetAfter : List ℕ → List ℕ → List ℕ → Request → ℕ → List ℕ → ℕ → List ℕ
 sheetAfter text table s q start sheet at =
-    unless (refusalOf text table s q start sheet at) (take at sheet ++ writtenOver (decisions text s q) (rowMarks text s q) (rowsAsked s) start (drop at sheet))
+    unless (refusalOf text table s q start sheet at)
+    (take at sheet ++ writtenOver (decisions text table s q) (rowMarks text table s q) (rowsAsked s) start (drop at sheet))
     (λ _. sheet)
 
 -- what the call promises

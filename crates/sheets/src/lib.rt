@@ -19,7 +19,7 @@ use bags::sections::Sections;
 use compiling::Held;
 use compiling::held_policies;
 use pages::Page;
-use pages::listing::ROW_SIZE;
+use pages::ROW_SIZE;
 use questions::places::rows;
 use questions::question_sections;
 use targets::Types;

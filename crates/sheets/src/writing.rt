@@ -4,18 +4,19 @@ ghost use Rattle.targets.specs.Matching.{request};
 ghost use Rattle.pages.specs.Listing.{PageWritten};
 ghost use Rattle.placing.specs.Said.{wordsOf};
 ghost use Rattle.meaning.specs.Targets.{Request};
+ghost use Rattle.table.specs.Recorded.{recorded};
 ghost use Rattle.sheets.specs.Sheets.{decisionAt, rowMark};
 ghost use Rattle.sheets.specs.Asked.{Asked, RulesFor, RowsAsked, WalkFor, WalkForSome};
 use bags::sections::Sections;
+use choices::choices_of;
+use choices::lasts;
 use kept::NOTES;
 use kept::Walk;
 use kept::depths::looks;
+use listing::is_allowed;
+use listing::put_row;
 use pages::Page;
-use pages::listing::ROW_SIZE;
-use pages::listing::is_allowed;
-use pages::listing::put_row;
-use pages::rows::choices_of;
-use pages::rows::lasts;
+use pages::ROW_SIZE;
 use questions::places::heads;
 use questions::places::places;
 use questions::sizes::MOST_CANDIDATES;
@@ -50,8 +51,8 @@ fn write_rows<'a>(
     requires { ⌜ RowsAsked (now text) (now table) (now s) walk (now starts) grid (now ends) (now looks) all start ⌝ }
     requires { ⌜ WalkForSome (now text) (now table) walk (now looks) (now action) ⌝ }
     ensures { λ r. ⌜ ((q : Request) → WalkFor (now (text .entry)) (now (table .entry)) walk (now (looks .entry)) (now (action .entry)) q
-        → PageWritten (decisionAt (now (s .entry)) (walk .p) q (wordsOf (now (text .entry)) (policiesAt (now (table .entry)) (walk .entries))))
-        (rowMark (now (s .entry)) (walk .p) q (wordsOf (now (text .entry)) (policiesAt (now (table .entry)) (walk .entries)))) all start
+        → PageWritten (decisionAt (recorded (now (table .entry))) (now (s .entry)) (walk .p) q (wordsOf (now (text .entry)) (policiesAt (now (table .entry)) (walk .entries))))
+        (rowMark (recorded (now (table .entry))) (now (s .entry)) (walk .p) q (wordsOf (now (text .entry)) (policiesAt (now (table .entry)) (walk .entries)))) all start
         (now (part .entry)) r (now (part .exit))) ⌝ }
 {
     let p = walk.p;
@@ -125,9 +126,9 @@ pub fn write_page<'a>(
 ) -> Page
     requires { ⌜ Asked (now s) p all start ⌝ }
     requires { ⌜ RulesFor rules (now text) (now table) (now subject) (now resource) types ⌝ }
-    ensures { λ r. ⌜ PageWritten (decisionAt (now (s .entry)) p (request (now (subject .entry)) (now (action .entry)) (now (resource .entry)))
+    ensures { λ r. ⌜ PageWritten (decisionAt (recorded (now (table .entry))) (now (s .entry)) p (request (now (subject .entry)) (now (action .entry)) (now (resource .entry)))
         (wordsOf (now (text .entry)) (policiesAt (now (table .entry)) (rules .entries))))
-        (rowMark (now (s .entry)) p (request (now (subject .entry)) (now (action .entry)) (now (resource .entry)))
+        (rowMark (recorded (now (table .entry))) (now (s .entry)) p (request (now (subject .entry)) (now (action .entry)) (now (resource .entry)))
         (wordsOf (now (text .entry)) (policiesAt (now (table .entry)) (rules .entries)))) all start (now (part .entry)) r (now (part .exit)) ⌝ }
 {
     let at = p.end;

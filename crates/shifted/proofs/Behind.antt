@@ -6,16 +6,15 @@ use Rattle.grammar.specs.Policies.{PolicyOf}
 use Rattle.placing.specs.Said.{Word, wordsOf}
 use Rattle.placing.specs.Moved.{WordsMoved}
 use Rattle.placing.proofs.Moved.{words-moved}
-use Rattle.views.specs.Meaning.{View}
 use Rattle.meaning.specs.Targets.{Request}
-use Rattle.meaning.specs.Decisions.{satisfied}
+use Rattle.meaning.specs.Decisions.{Terms, satisfied}
 use Rattle.shifted.specs.Shifted.{SatisfiedBehind}
 
 -- whether the first of policies is satisfied
-first-satisfied : View → Request → List (PolicyOf Word) → Bool
-first-satisfied view q [] = false
-first-satisfied view q (p ∷ ps) = satisfied view q p
+first-satisfied : Terms → Request → List (PolicyOf Word) → Bool
+first-satisfied terms q [] = false
+first-satisfied terms q (p ∷ ps) = satisfied terms q p
 
 pub satisfied-behind : SatisfiedBehind
 unfolding SatisfiedBehind WordsMoved wordsOf first-satisfied
-satisfied-behind t u p view q = ap (first-satisfied view q) (sym (words-moved t u (p ∷ [])))
+satisfied-behind t u p terms q = ap (first-satisfied terms q) (sym (words-moved t u (p ∷ [])))

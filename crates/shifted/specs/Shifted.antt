@@ -6,11 +6,10 @@ use lib.ListN.{length}
 use Rattle.grammar.specs.Policies.{Policy}
 use Rattle.grammar.specs.Moves.{further, movedPolicy}
 use Rattle.placing.specs.Said.{policyWords}
-use Rattle.views.specs.Meaning.{View}
 use Rattle.meaning.specs.Targets.{Request}
-use Rattle.meaning.specs.Decisions.{satisfied}
+use Rattle.meaning.specs.Decisions.{Terms, satisfied}
 
--- A policy of the text u is satisfied exactly when it is where t stands before u, and the policy is so much further on.
+-- A policy of the text u is satisfied exactly when it is where t stands before u, and the policy is so much further on; under every version.
 unfoldable pub SatisfiedBehind : Type 0
-SatisfiedBehind = (t u : List ℕ) (p : Policy) (view : View) (q : Request)
-    → satisfied view q (policyWords u p) ≡ satisfied view q (policyWords (t ++ u) (movedPolicy (further (length t)) p))
+SatisfiedBehind = (t u : List ℕ) (p : Policy) (terms : Terms) (q : Request)
+    → satisfied terms q (policyWords u p) ≡ satisfied terms q (policyWords (t ++ u) (movedPolicy (further (length t)) p))

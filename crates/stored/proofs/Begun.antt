@@ -7,10 +7,11 @@ use Prim.Native.Nat.{ℕ, _+_, _≤_, _<_}
 use native.Mathlib.Omega.{arith}
 use lib.ListN.{length, length-append}
 use Rattle.grammar.specs.Policies.{Span, Literal, Operand, Tree, Part, Actions, Policy}
+use Rattle.grammar.specs.declared.Version.{Version}
 use Rattle.placing.specs.Placed.{Lies, Each, none-left, and-each, LiteralPlaced, a-string, a-number, a-truth, ActionPlaced, an-action, OperandPlaced, an-attribute, a-literal, Listed, TreePlaced, a-constant, a-comparison, a-likeness, in-list, in-attribute, a-call, a-presence, a-negation, in-brackets, a-conjunction, a-disjunction, a-choice, PrincipalPlaced, any-principal, principal-type, ResourcePlaced, any-resource, resource-type, one-resource, ActionsPlaced, any-action, one-of, ConditionPlaced, no-condition, a-condition, PolicyPlaced}
 use Rattle.placing.proofs.Theorems.{policies-placed, span-fits}
 use Rattle.table.specs.declared.Entry.{Entry}
-use Rattle.table.specs.Entries.{entry, placed, literalEntry, literalEntries, operandEntry, whichKind, treeEntries, partEntry, actionEntries, conditionEntries, effectKind, targetEntries, policyEntries, policiesEntries}
+use Rattle.table.specs.Entries.{entry, placed, literalEntry, literalEntries, operandEntry, whichKind, treeEntries, partEntry, raised, principalEntry, actionEntries, conditionEntries, effectKind, targetEntries, policyEntries, policiesEntries}
 use Rattle.slices.specs.Parts.{Begins}
 use Rattle.table.specs.Layout.{entryAt, held, bytesOf, startsWith}
 use Rattle.stored.specs.Stored.{TextSays, StandFrom, StoredPolicies}
@@ -101,10 +102,10 @@ module _ (t : List ℕ) (short : length t ≤ 8192) where
 
   -- ---- policies
 
-  principal-small : {p : Part} → PrincipalPlaced p → Small (partEntry p)
-  unfolding partEntry
-  principal-small any-principal = no-fields
-  principal-small (principal-type {n = n} h i) = small n 0 (omega arith) (omega arith)
+  principal-small : (version : Version) {p : Part} → PrincipalPlaced p → Small (principalEntry version p)
+  unfolding principalEntry raised partEntry
+  principal-small version any-principal = no-fields
+  principal-small version (principal-type {n = n} h i) = small n 0 (omega arith) (omega arith)
 
   resource-small : {p : Part} → ResourcePlaced t p → Small (partEntry p)
   unfolding partEntry
@@ -126,23 +127,26 @@ module _ (t : List ℕ) (short : length t ≤ 8192) where
   condition-small no-condition e few = none-left
   condition-small (a-condition h d) e few = tree-small h e few
 
-  target-small : {p : Policy} → PolicyPlaced t p → Each Small (targetEntries p)
+  target-small : (version : Version) {p : Policy} → PolicyPlaced t p → Each Small (targetEntries version p)
   unfolding targetEntries
-  target-small {p} h = and-each (principal-small (h .principal)) (each-append (actionEntries (p .action)) _ (actions-small (h .action)) (one (resource-small (h .resource))))
+  target-small version {p} h =
+      and-each (principal-small version (h .principal)) (each-append (actionEntries (p .action)) _ (actions-small (h .action)) (one (resource-small (h .resource))))
 
-  policy-small : {p : Policy} → PolicyPlaced t p → (e : ℕ) → e + length (policyEntries e p) < 65536 → Each Small (policyEntries e p)
+  policy-small : (version : Version) {p : Policy} → PolicyPlaced t p → (e : ℕ) → e + length (policyEntries version e p) < 65536
+      → Each Small (policyEntries version e p)
   unfolding policyEntries
-  policy-small {p} h e few =
-      let a = targetEntries p in let m = e + length a in let b = conditionEntries m (p .condition) in
+  policy-small version {p} h e few =
+      let a = targetEntries version p in let m = e + length a in let b = conditionEntries m (p .condition) in
       let n = length-append (a ++ b) (entry (effectKind (p .permits)) e m ∷ []) in let o = length-append a b in
-      node-small (effectKind (p .permits)) (a ++ b) e m (each-append a b (target-small h) (condition-small (h .condition) m (omega arith))) (omega arith) (omega arith)
+      node-small (effectKind (p .permits)) (a ++ b) e m (each-append a b (target-small version h) (condition-small (h .condition) m (omega arith))) (omega arith) (omega arith)
 
-  policies-small : {ps : List Policy} → Each (PolicyPlaced t) ps → (e : ℕ) → e + length (policiesEntries e ps) < 65536 → Each Small (policiesEntries e ps)
+  policies-small : (version : Version) {ps : List Policy} → Each (PolicyPlaced t) ps → (e : ℕ) → e + length (policiesEntries version e ps) < 65536
+      → Each Small (policiesEntries version e ps)
   unfolding policiesEntries
-  policies-small none-left e few = none-left
-  policies-small (and-each {a = p} {l = ps} h hs) e few =
-      let a = policyEntries e p in let m = e + length a in let b = policiesEntries m ps in let n = length-append a b in
-      each-append a b (policy-small h e (omega arith)) (policies-small hs m (omega arith))
+  policies-small version none-left e few = none-left
+  policies-small version (and-each {a = p} {l = ps} h hs) e few =
+      let a = policyEntries version e p in let m = e + length a in let b = policiesEntries version m ps in let n = length-append a b in
+      each-append a b (policy-small version h e (omega arith)) (policies-small version hs m (omega arith))
 
 -- ---- a table that begins with a text's entries
 
@@ -151,17 +155,17 @@ stand-by : (T : List ℕ) (e : ℕ) (es : List Entry) → Each Small es → held
 stand-by T e [] s h = stored.none-left
 stand-by T e (x ∷ es) (and-each m s) h = stored.one-more (held-entry T e x es (m .first) (m .second) h) (stand-by T (e + 1) es s (held-right T e (x ∷ []) es h))
 
-module _ (table : List ℕ) {t : List ℕ} {ps : List Policy} (says : TextSays t ps) where
-  pub begun-stored : held table 0 (policiesEntries 0 ps) ≡ true → StoredPolicies (entryAt table) (length (policiesEntries 0 ps)) ps
+module _ (version : Version) (table : List ℕ) {t : List ℕ} {ps : List Policy} (says : TextSays t ps) where
+  pub begun-stored : held table 0 (policiesEntries version 0 ps) ≡ true → StoredPolicies (entryAt table) (length (policiesEntries version 0 ps)) ps
   begun-stored h =
       let short = says .short in
-      let n = entries-few t ps (says .read) in
-      let fit = policies-small t short (policies-placed t ps (says .read) .each) 0 (omega arith) in
-      record { stands = record { from = stand-by table 0 _ fit h; ends = omega arith; few = omega arith } }
+      let n = entries-few version t ps (says .read) in
+      let fit = policies-small t short version (policies-placed t ps (says .read) .each) 0 (omega arith) in
+      record { version = version; stands = record { from = stand-by table 0 _ fit h; ends = omega arith; few = omega arith } }
 
   -- the same where it begins with their bytes, by the test and by the statement
-  pub starts-stored : startsWith (bytesOf (policiesEntries 0 ps)) table ≡ true → StoredPolicies (entryAt table) (length (policiesEntries 0 ps)) ps
-  starts-stored h = begun-stored (held-starts table 0 (policiesEntries 0 ps) ∙ h)
+  pub starts-stored : startsWith (bytesOf (policiesEntries version 0 ps)) table ≡ true → StoredPolicies (entryAt table) (length (policiesEntries version 0 ps)) ps
+  starts-stored h = begun-stored (held-starts table 0 (policiesEntries version 0 ps) ∙ h)
 
-  pub begins-stored : Begins (bytesOf (policiesEntries 0 ps)) table → StoredPolicies (entryAt table) (length (policiesEntries 0 ps)) ps
-  begins-stored b = starts-stored (starts-decides (bytesOf (policiesEntries 0 ps)) table .complete b)
+  pub begins-stored : Begins (bytesOf (policiesEntries version 0 ps)) table → StoredPolicies (entryAt table) (length (policiesEntries version 0 ps)) ps
+  begins-stored b = starts-stored (starts-decides (bytesOf (policiesEntries version 0 ps)) table .complete b)

@@ -6,9 +6,10 @@ use Prim.Native.Nat.{ℕ, _+_, _-_, _<_}
 use native.Mathlib.Omega.{arith}
 use lib.ListN.{length, length-append, length-map}
 use Rattle.grammar.specs.Policies.{Tree, Actions, every, oneOf, Policy}
+use Rattle.grammar.specs.declared.Version.{Version}
 use Rattle.table.proofs.Counting.{policies-append}
 use Rattle.table.specs.declared.Entry.{Entry}
-use Rattle.table.specs.Entries.{entry, literalEntry, literalEntries, partEntry, actionEntries, conditionEntries, effectKind, targetEntries, policyEntries, policiesEntries}
+use Rattle.table.specs.Entries.{entry, literalEntry, literalEntries, partEntry, principalEntry, actionEntries, conditionEntries, effectKind, targetEntries, policyEntries, policiesEntries}
 use Rattle.stored.specs.Stored.{EntriesStand, StoredPolicy, StoredPolicies, ActionByLast, is-every, is-one-of, ConditionBetween, no-condition, a-condition, PolicyByLast, LastPolicy}
 use Rattle.stored.proofs.Standing.{stands-left, stands-right, stands-head, stands-tail, stands-before, stands-last, stands-from}
 use Rattle.stored.proofs.Views.{some-entries}
@@ -39,7 +40,8 @@ pub policy-view : {at : ℕ → Entry} {end : ℕ} (p : Policy) (h : StoredPolic
 unfolding policyEntries targetEntries
 policy-view {at} {end} p h =
     let first = h .first in let s = h .stands in
-    let front = partEntry (p .principal) ∷ actionEntries (p .action) in
+    let principal = principalEntry (h .version) (p .principal) in
+    let front = principal ∷ actionEntries (p .action) in
     let last = partEntry (p .resource) in
     let target = front ++ last ∷ [] in
     let m = first + length target in
@@ -55,11 +57,12 @@ policy-view {at} {end} p h =
     let e : end ≡ first + length ((target ++ conditionEntries m (p .condition)) ++ x ∷ []) = s .ends in
     let back : m - 1 - 1 ≡ m - 2 = omega arith in
     let view : PolicyByLast at end p x = record {
+      version = h .version;
       kind = refl;
       begins = omega arith;
       ends = omega arith;
-      principal = stands-head (partEntry (p .principal)) (actionEntries (p .action)) fs;
-      action = subst (λ (i : ℕ). ActionByLast at (m - 1) (p .action) (at i)) back (action-view (p .action) (stands-tail (partEntry (p .principal)) (actionEntries (p .action)) fs));
+      principal = stands-head principal (actionEntries (p .action)) fs;
+      action = subst (λ (i : ℕ). ActionByLast at (m - 1) (p .action) (at i)) back (action-view (p .action) (stands-tail principal (actionEntries (p .action)) fs));
       resource = stands-last front last ts;
       condition = condition-view (p .condition) cs;
     } in
@@ -70,12 +73,15 @@ policy-view {at} {end} p h =
 
 pub policies-view : {at : ℕ → Entry} {end : ℕ} (ps : List Policy) (p : Policy) → StoredPolicies at end (ps ++ p ∷ []) → LastPolicy at end (ps ++ p ∷ [])
 policies-view {at} {end} ps p h =
-    let f = 0 + length (policiesEntries 0 ps) in
-    let s = subst (EntriesStand at 0 end) (policies-append 0 ps p) (h .stands) in
-    let a = stands-left (policiesEntries 0 ps) (policyEntries f p) s in
-    let b = stands-right (policiesEntries 0 ps) (policyEntries f p) s in
-    let (v, e) = policy-view p (record { first = f; stands = b }) in
-    record { front = ps; last = p; is = refl; policy = v; before = record { stands = subst (λ (i : ℕ). EntriesStand at 0 i (policiesEntries 0 ps)) (sym e) a } }
+    let version = h .version in
+    let es = policiesEntries version 0 ps in
+    let f = 0 + length es in
+    let s = subst (EntriesStand at 0 end) (policies-append version 0 ps p) (h .stands) in
+    let a = stands-left es (policyEntries version f p) s in
+    let b = stands-right es (policyEntries version f p) s in
+    let (v, e) = policy-view p (record { version = version; first = f; stands = b }) in
+    let before : StoredPolicies at (at (end - 1) .first) ps = record { version = version; stands = subst (λ (i : ℕ). EntriesStand at 0 i es) (sym e) a } in
+    record { front = ps; last = p; is = refl; policy = v; before = before }
 
 pub no-policies : {at : ℕ → Entry} {end : ℕ} → StoredPolicies at end [] → end ≡ 0
 unfolding policiesEntries
@@ -97,16 +103,16 @@ last-policy {at} {end} (p ∷ ps) h more =
     let k = ended p ps in
     subst (LastPolicy at end) (sym (k .is)) (policies-view (k .front) (k .last) (subst (StoredPolicies at end) (k .is) h))
 
-policy-some : (e : ℕ) (p : Policy) → 0 < length (policyEntries e p)
+policy-some : (version : Version) (e : ℕ) (p : Policy) → 0 < length (policyEntries version e p)
 unfolding policyEntries
-policy-some e p =
-    let m = e + length (targetEntries p) in
-    let n = length-append (targetEntries p ++ conditionEntries m (p .condition)) (entry (effectKind (p .permits)) e m ∷ []) in omega arith
+policy-some version e p =
+    let target = targetEntries version p in let m = e + length target in
+    let n = length-append (target ++ conditionEntries m (p .condition)) (entry (effectKind (p .permits)) e m ∷ []) in omega arith
 
 pub none-stored : {at : ℕ → Entry} (ps : List Policy) → StoredPolicies at 0 ps → ps ≡ []
 unfolding policiesEntries
 none-stored [] h = refl
 none-stored (p ∷ ps) h =
-    let a = policyEntries 0 p in let b = policiesEntries (0 + length a) ps in
+    let a = policyEntries (h .version) 0 p in let b = policiesEntries (h .version) (0 + length a) ps in
     let e : 0 ≡ 0 + length (a ++ b) = h .stands .ends in
-    let n = length-append a b in let k = policy-some 0 p in absurd (omega arith)
+    let n = length-append a b in let k = policy-some (h .version) 0 p in absurd (omega arith)

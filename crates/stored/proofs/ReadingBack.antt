@@ -10,7 +10,10 @@ use lib.ListN.{length}
 use borrow.Author.Tests.{eq-eqb, ne-eqb}
 use Rattle.grammar.specs.Policies.{Span, Root, rootByte, Root.Principal, Root.Resource, Root.Env, Root.Action, Comparator, Comparator.Equal, Comparator.NotEqual, Comparator.More, Comparator.AtLeast, Comparator.Less, Comparator.AtMost, Literal, text, number, truth, Operand, attribute, literal, Which, Which.All, Which.Any, Tree, compare, contains, has, not, brackets, Part, any, typed, pinned, Actions, Policy}
 use Rattle.table.specs.declared.Entry.{Entry}
-use Rattle.table.specs.Entries.{entry, placed, literalEntry, literalEntries, operandEntry, comparatorKind, whichKind, hasKind, partEntry, effectKind}
+use Rattle.table.specs.Entries.{entry, placed, literalEntry, literalEntries, operandEntry, comparatorKind, whichKind, hasKind, partEntry, effectKind, principalEntry}
+use Rattle.grammar.specs.declared.Version.{Version}
+use Rattle.table.specs.Recorded.{lowered}
+use Rattle.table.proofs.Versions.{lowered-part}
 use Rattle.stored.specs.Stored.{Stored, StandFrom, none-left, one-more, TreeByLast, is-true, is-false, is-comparison, is-like, is-among, is-within, is-contains, is-has, is-not, is-brackets, is-both, is-either, is-choice, StoredPolicies, ActionByLast, is-every, is-one-of, ConditionBetween, no-condition, a-condition, PolicyByLast}
 use Rattle.stored.specs.ReadBack.{spanOfEntry, rootOfKind, literalOfEntry, operandOfEntry, comparatorOfKind, literalsBy, treeFrom, treeIn, treeBy, partOfEntry, actionsBy, conditionBy, policyBy, policiesUpTo, policiesBy}
 use Rattle.stored.proofs.Views.{view-of, stored-some}
@@ -118,10 +121,28 @@ part-back any = refl
 part-back (typed n) = refl
 part-back (pinned s) = refl
 
+part-at : {x : Entry} (p : Part) → x ≡ partEntry p → partOfEntry x ≡ p
+part-at p h = ap partOfEntry h ∙ part-back p
+
+principal-at : {x : Entry} (version : Version) (p : Part) → x ≡ principalEntry version p → partOfEntry (lowered x) ≡ p
+principal-at version p h = part-at p (ap lowered h ∙ lowered-part version p)
+
 effect-back : (b : Bool) → eqb (effectKind b) 34 ≡ b
 unfolding effectKind
 effect-back true = refl
 effect-back false = refl
+
+abbrev policy : Bool → Part → Actions → Part → Option Tree → Policy
+policy permits principal action resource condition =
+    record { permits = permits; principal = principal; action = action; resource = resource; condition = condition }
+
+-- policies with the same parts are one
+same-parts : {p q : Policy} → p .permits ≡ q .permits → p .principal ≡ q .principal → p .action ≡ q .action → p .resource ≡ q .resource
+    → p .condition ≡ q .condition → p ≡ q
+same-parts {p} {q} a b c d e =
+    let same : policy (p .permits) (p .principal) (p .action) (p .resource) (p .condition)
+    ≡ policy (q .permits) (q .principal) (q .action) (q .resource) (q .condition) = cc in
+    same
 
 actions-back : {at : ℕ → Entry} {end : ℕ} {a : Actions} {x : Entry} → ActionByLast at end a x → actionsBy at end x ≡ a
 unfolding actionsBy
@@ -136,7 +157,12 @@ condition-back {first = first} {end} (a-condition l h) = rw (ne-eqb first end (�
 pub policy-back : {at : ℕ → Entry} {end : ℕ} {p : Policy} {x : Entry} → PolicyByLast at end p x → policyBy at end x ≡ p
 unfolding policyBy
 policy-back {p = p} v =
-    rw (v .kind, effect-back (p .permits), v .principal, part-back (p .principal), actions-back (v .action), v .resource, part-back (p .resource), condition-back (v .condition))
+    same-parts
+    (ap (λ (k : ℕ). eqb k 34) (v .kind) ∙ effect-back (p .permits))
+    (principal-at (v .version) (p .principal) (v .principal))
+    (actions-back (v .action))
+    (part-at (p .resource) (v .resource))
+    (condition-back (v .condition))
 
 policies-in : {at : ℕ → Entry} (n end : ℕ) (ps : List Policy) → StoredPolicies at end ps → end ≤ n → policiesUpTo n at end ≡ ps
 unfolding policiesUpTo

@@ -8,6 +8,7 @@ use Rattle.grammar.specs.Policies.{Span, span, Root, Root.Principal, Root.Resou
 use Rattle.table.specs.declared.Entry.{Entry}
 use Rattle.table.specs.Kinds.{principalKind, resourceKind, envKind, actionKind, hasActionKind, stringKind, numberKind, trueKind, falseKind, equalKind, notEqualKind, moreKind, atLeastKind, lessKind, atMostKind, likeKind, inListKind, inAttributeKind, containsAllKind, containsAnyKind, notKind, bracketsKind, andKind, orKind, barePartKind, typedPartKind, bareActionKind, permitKind, roots}
 use Rattle.table.specs.Layout.{entryAt}
+use Rattle.table.specs.Recorded.{lowered}
 
 -- ---- operands and literals
 
@@ -93,11 +94,11 @@ actionsBy at end x = cond (eqb (x .kind) bareActionKind) every (oneOf (listBy at
 unfoldable pub conditionBy : (ℕ → Entry) → ℕ → ℕ → Option Tree
 conditionBy at first end = cond (eqb first end) none (some (treeBy at end))
 
--- the policy of which x is the last entry, number end - 1
+-- the policy of which x is the last entry, number end - 1; its version is not looked at
 unfoldable pub policyBy : (ℕ → Entry) → ℕ → Entry → Policy
 policyBy at end x = record {
   permits = eqb (x .kind) permitKind;
-  principal = partOfEntry (at (x .first));
+  principal = partOfEntry (lowered (at (x .first)));
   action = actionsBy at (x .second - 1) (at (x .second - 2));
   resource = partOfEntry (at (x .second - 1));
   condition = conditionBy at (x .second) (end - 1);

@@ -10,9 +10,10 @@ use Rattle.reading.specs.Lexemes.{tokensOf}
 use Rattle.reading.specs.Reader.{took}
 use Rattle.grammar.specs.Parser.{read-text}
 use Rattle.grammar.specs.Policies.{Span, Root, rootByte, Comparator, Literal, Operand, Which, Tree, constant, compare, like, among, within, contains, has, not, brackets, both, either, choice, Actions, every, oneOf, Policy}
+use Rattle.grammar.specs.declared.Version.{Version}
 use Rattle.table.specs.declared.Entry.{Entry}
 use Rattle.table.specs.Kinds.{trueKind, falseKind, likeKind, inListKind, inAttributeKind, notKind, bracketsKind, andKind, orKind, ifKind, bareActionKind, listedActionKind}
-use Rattle.table.specs.Entries.{entry, placed, hasKind, literalEntries, operandEntry, comparatorKind, whichKind, treeEntries, partEntry, effectKind, policyEntries, policiesEntries}
+use Rattle.table.specs.Entries.{entry, placed, hasKind, literalEntries, operandEntry, comparatorKind, whichKind, treeEntries, partEntry, effectKind, principalEntry, policyEntries, policiesEntries}
 use Rattle.table.specs.Layout.{fieldNumbers}
 
 -- a text of at most 8,192 bytes that says these policies
@@ -60,14 +61,16 @@ pub data TreeByLast (at : ℕ → Entry) (end : ℕ) : Tree → Entry → Type 0
 
 -- ---- policies
 
--- some policies' entries end before number `end`
+-- some policies' entries, under some version, end before number `end`
 pub record StoredPolicies (at : ℕ → Entry) (end : ℕ) (ps : List Policy) : Type 0 where
-  pub stands : EntriesStand at 0 end (policiesEntries 0 ps)
+  pub version : Version
+  pub stands : EntriesStand at 0 end (policiesEntries version 0 ps)
 
 -- one policy's
 pub record StoredPolicy (at : ℕ → Entry) (end : ℕ) (p : Policy) : Type 0 where
+  pub version : Version
   pub first : ℕ
-  pub stands : EntriesStand at first end (policyEntries first p)
+  pub stands : EntriesStand at first end (policyEntries version first p)
 
 -- an action part by its last entry, number end - 1: its strings before it
 pub data ActionByLast (at : ℕ → Entry) (end : ℕ) : Actions → Entry → Type 0 where
@@ -82,10 +85,11 @@ pub data ConditionBetween (at : ℕ → Entry) (first end : ℕ) : Option Tree �
 
 -- A policy by its last entry, number end - 1, which says where the policy begins and where its condition does.
 pub record PolicyByLast (at : ℕ → Entry) (end : ℕ) (p : Policy) (x : Entry) : Type 0 where
+  pub version : Version
   pub kind : x .kind ≡ effectKind (p .permits)
   pub begins : x .first + 3 ≤ x .second
   pub ends : x .second < end
-  pub principal : at (x .first) ≡ partEntry (p .principal)
+  pub principal : at (x .first) ≡ principalEntry version (p .principal)
   pub action : ActionByLast at (x .second - 1) (p .action) (at (x .second - 2))
   pub resource : at (x .second - 1) ≡ partEntry (p .resource)
   pub condition : ConditionBetween at (x .second) (end - 1) (p .condition)

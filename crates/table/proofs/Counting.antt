@@ -20,21 +20,24 @@ use Rattle.grammar.specs.Grammar.{Limits, Attribute, rooted, AnOperand, given, 
 use Rattle.grammar.specs.Grammar as grammar
 use Rattle.grammar.specs.Grammar.{sizes}
 use Rattle.grammar.specs.Parser.{read-text}
+use Rattle.grammar.specs.declared.Version.{Version}
 use Rattle.grammar.specs.Promise.{TokensAcceptedExactly}
 use Rattle.grammar.proofs.Exactly.{tokens-accepted-exactly}
 use Rattle.grammar.proofs.Framing.{shrinks-names}
 use Rattle.reading.specs.Reader.{took}
 use Rattle.table.specs.declared.Entry.{Entry}
-use Rattle.table.specs.Entries.{entry, placed, whichKind, operandEntry, literalEntry, literalEntries, joint, treeEntries, partEntry, actionEntries, conditionEntries, effectKind, targetEntries, policyEntries, policiesEntries}
+use Rattle.table.specs.Entries.{entry, placed, whichKind, operandEntry, literalEntry, literalEntries, joint, treeEntries, partEntry, principalEntry, actionEntries, conditionEntries, effectKind, targetEntries, policyEntries, policiesEntries}
 
 -- the entries of policies and of one more
-pub policies-append : (e : ℕ) (ps : List Policy) (p : Policy) → policiesEntries e (ps ++ p ∷ []) ≡ policiesEntries e ps ++ policyEntries (e + length (policiesEntries e ps)) p
+pub policies-append : (version : Version) (e : ℕ) (ps : List Policy) (p : Policy)
+    → policiesEntries version e (ps ++ p ∷ []) ≡ policiesEntries version e ps ++ policyEntries version (e + length (policiesEntries version e ps)) p
 unfolding policiesEntries
-policies-append e [] p = append-nil (policyEntries e p) ∙ ap (λ (i : ℕ). policyEntries i p) (sym (add-zero e))
-policies-append e (q ∷ ps) p =
-    let a = policyEntries e q in let f = e + length a in let b = policiesEntries f ps in
+policies-append version e [] p = append-nil (policyEntries version e p) ∙ ap (λ (i : ℕ). policyEntries version i p) (sym (add-zero e))
+policies-append version e (q ∷ ps) p =
+    let a = policyEntries version e q in let f = e + length a in let b = policiesEntries version f ps in
     let place : f + length b ≡ e + length (a ++ b) = (let n = length-append a b in omega arith) in
-    ap (λ (l : List Entry). a ++ l) (policies-append f ps p ∙ ap (λ (i : ℕ). b ++ policyEntries i p) place) ∙ sym (append-assoc a b (policyEntries (e + length (a ++ b)) p))
+    ap (λ (l : List Entry). a ++ l) (policies-append version f ps p ∙ ap (λ (i : ℕ). b ++ policyEntries version i p) place)
+    ∙ sym (append-assoc a b (policyEntries version (e + length (a ++ b)) p))
 
 -- what R reads has a token for each of its entries
 record Pays {A : Type 0} (es : ℕ → A → List Entry) (R : Reading A) : Type 0 where
@@ -140,28 +143,30 @@ module _ (L : Limits) where
   when-tokens grammar.When.bare e = omega arith
   when-tokens (grammar.When.braces k (begun l (ended h m))) e = let x = disjunction-pays (condition-pays (L .levels)) .at h e in omega arith
 
-  policy-tokens : {permits : Bool} {i r : List Lexeme} {p : Policy} → PolicyRest L permits i r p → (e : ℕ) → length (policyEntries e p) + length r ≤ length i
+  policy-tokens : {permits : Bool} {i r : List Lexeme} {p : Policy} → PolicyRest L permits i r p
+      → (version : Version) (e : ℕ) → length (policyEntries version e p) + length r ≤ length i
   unfolding policyEntries targetEntries
-  policy-tokens {permits = permits} (grammar.PolicyRest.rest {p = p} {a} {s} {c} (begun k₁ (begun k₂ (ended h₁ e₁))) (begun k₃ (ended h₂ e₂)) (begun k₄ (ended h₃ e₃)) (ended h₄ e₄)) e =
-      let target = (partEntry p ∷ actionEntries a) ++ partEntry s ∷ [] in
+  policy-tokens {permits = permits} (grammar.PolicyRest.rest {p = p} {a} {s} {c} (begun k₁ (begun k₂ (ended h₁ e₁))) (begun k₃ (ended h₂ e₂)) (begun k₄ (ended h₃ e₃)) (ended h₄ e₄)) version e =
+      let target = (principalEntry version p ∷ actionEntries a) ++ partEntry s ∷ [] in
       let f = e + length target in
       let u = typed-tokens h₁ in let v = action-tokens h₂ in let w = resource-tokens h₃ in let z = when-tokens h₄ f in
-      let n = length-append (partEntry p ∷ actionEntries a) (partEntry s ∷ []) in
+      let n = length-append (principalEntry version p ∷ actionEntries a) (partEntry s ∷ []) in
       let m = length-append target (conditionEntries f c) in
       let l = length-append (target ++ conditionEntries f c) (entry (effectKind permits) e f ∷ []) in
       omega arith
 
-  policies-tokens : {ps qs : List Policy} {i : List Lexeme} → Policies L ps i qs → length (policiesEntries 0 qs) ≤ length (policiesEntries 0 ps) + length i
-  policies-tokens grammar.Policies.end = omega arith
-  policies-tokens {ps = ps} (grammar.Policies.policy {p = p} t k h j) =
-      let x = policies-tokens j in let f = length (policiesEntries 0 ps) in let y = policy-tokens h (0 + f) in
-      let n = ap length (policies-append 0 ps p) in let m = length-append (policiesEntries 0 ps) (policyEntries (0 + f) p) in
+  policies-tokens : (version : Version) {ps qs : List Policy} {i : List Lexeme} → Policies L ps i qs
+      → length (policiesEntries version 0 qs) ≤ length (policiesEntries version 0 ps) + length i
+  policies-tokens version grammar.Policies.end = omega arith
+  policies-tokens version {ps = ps} (grammar.Policies.policy {p = p} t k h j) =
+      let x = policies-tokens version j in let f = length (policiesEntries version 0 ps) in let y = policy-tokens h version (0 + f) in
+      let n = ap length (policies-append version 0 ps p) in let m = length-append (policiesEntries version 0 ps) (policyEntries version (0 + f) p) in
       omega arith
 
   -- a text's policies have no more entries than the text has tokens
-  no-more-than-tokens : {i : List Lexeme} {ps : List Policy} → RuleText L i ps → length (policiesEntries 0 ps) ≤ length i
+  no-more-than-tokens : (version : Version) {i : List Lexeme} {ps : List Policy} → RuleText L i ps → length (policiesEntries version 0 ps) ≤ length i
   unfolding policiesEntries
-  no-more-than-tokens h = let x = policies-tokens h in omega arith
+  no-more-than-tokens version h = let x = policies-tokens version h in omega arith
 
 -- ---- tokens and bytes
 
@@ -182,6 +187,7 @@ module _ (text : List ℕ) where
   no-more-than-bytes = let x = tokens-bytes (suc (length text)) 0 (omega arith) in omega arith
 
 -- no more entries than bytes
-pub entries-few : (text : List ℕ) (ps : List Policy) → read-text (tokensOf text) ≡ took ps [] → length (policiesEntries 0 ps) ≤ length text
+pub entries-few : (version : Version) (text : List ℕ) (ps : List Policy) → read-text (tokensOf text) ≡ took ps []
+    → length (policiesEntries version 0 ps) ≤ length text
 unfolding TokensAcceptedExactly
-entries-few text ps e = let x = no-more-than-tokens sizes (tokens-accepted-exactly (tokensOf text) ps .0 e) in let y = no-more-than-bytes text in omega arith
+entries-few version text ps e = let x = no-more-than-tokens sizes version (tokens-accepted-exactly (tokensOf text) ps .0 e) in let y = no-more-than-bytes text in omega arith

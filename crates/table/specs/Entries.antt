@@ -1,12 +1,15 @@
--- The entries that say a text's policies: a kind and two fields each, the parts of a thing before the thing itself (docs/TABLE.md). Definitions only.
+-- The entries that say a text's policies under a version: a kind and two fields each, the parts of a thing before the thing itself (docs/TABLE.md).
+-- Definitions only.
 use mathlib.Core.Bool.{Bool, true, false}
 use mathlib.Core.List.{List, [], _∷_, _++_, map}
 use mathlib.Core.Option.{Option, none, some}
 use Prim.Native.Nat.{ℕ, _+_}
 use lib.ListN.{length}
 use Rattle.table.specs.declared.Entry.{Entry}
-use Rattle.table.specs.Kinds.{hasPrincipalKind, hasResourceKind, hasEnvKind, hasActionKind, stringKind, numberKind, trueKind, falseKind, equalKind, notEqualKind, moreKind, atLeastKind, lessKind, atMostKind, likeKind, inListKind, inAttributeKind, containsAllKind, containsAnyKind, notKind, bracketsKind, andKind, orKind, ifKind, barePartKind, typedPartKind, pinnedPartKind, bareActionKind, listedActionKind, permitKind, forbidKind}
+use Rattle.table.specs.Kinds.{hasPrincipalKind, hasResourceKind, hasEnvKind, hasActionKind, stringKind, numberKind, trueKind, falseKind, equalKind, notEqualKind, moreKind, atLeastKind, lessKind, atMostKind, likeKind, inListKind, inAttributeKind, containsAllKind, containsAnyKind, notKind, bracketsKind, andKind, orKind, ifKind, barePartKind, typedPartKind, pinnedPartKind, bareActionKind, listedActionKind, permitKind, forbidKind, secondStep}
 use Rattle.grammar.specs.Policies.{Span, Root, rootByte, Root.Principal, Root.Resource, Root.Env, Root.Action, Comparator, Comparator.Equal, Comparator.NotEqual, Comparator.More, Comparator.AtLeast, Comparator.Less, Comparator.AtMost, Literal, text, number, truth, Operand, attribute, literal, Which, Which.All, Which.Any, Tree, constant, compare, like, among, within, contains, has, not, brackets, both, either, choice, Part, any, typed, pinned, Actions, every, oneOf, Policy}
+use Rattle.grammar.specs.declared.Version.{Version}
+use Rattle.grammar.specs.declared.Version.the-variants.{First, Second}
 
 -- an entry of this kind, with these two fields
 abbrev pub entry : ℕ → ℕ → ℕ → Entry
@@ -89,6 +92,19 @@ partEntry any = entry barePartKind 0 0
 partEntry (typed k) = entry typedPartKind k 0
 partEntry (pinned s) = placed pinnedPartKind s
 
+-- an entry whose kind is so much higher
+unfoldable pub raised : ℕ → Entry → Entry
+raised step x = entry (x .kind + step) (x .first) (x .second)
+
+-- how much higher the kind of a principal part is under a version
+unfoldable pub stepOf : Version → ℕ
+stepOf First = 0
+stepOf Second = secondStep
+
+-- a principal part, which records the version by its kind
+unfoldable pub principalEntry : Version → Part → Entry
+principalEntry version p = raised (stepOf version) (partEntry p)
+
 -- an action part: bare, or its strings and how many they are
 unfoldable pub actionEntries : Actions → List Entry
 actionEntries every = entry bareActionKind 0 0 ∷ []
@@ -105,22 +121,22 @@ effectKind true = permitKind
 effectKind false = forbidKind
 
 -- a policy's target: its principal, action and resource parts
-unfoldable pub targetEntries : Policy → List Entry
-targetEntries p = (partEntry (p .principal) ∷ actionEntries (p .action)) ++ partEntry (p .resource) ∷ []
+unfoldable pub targetEntries : Version → Policy → List Entry
+targetEntries version p = (principalEntry version (p .principal) ∷ actionEntries (p .action)) ++ partEntry (p .resource) ∷ []
 
 -- a policy's own entry after its target and its condition: where the policy begins, and where its condition does
 abbrev pub policyEnd : ℕ → Bool → List Entry → (ℕ → List Entry) → List Entry
 policyEnd e permits target condition = (target ++ condition (e + length target)) ++ entry (effectKind permits) e (e + length target) ∷ []
 
 -- the entries of a policy whose first is number e
-unfoldable pub policyEntries : ℕ → Policy → List Entry
-policyEntries e p = policyEnd e (p .permits) (targetEntries p) (λ f. conditionEntries f (p .condition))
+unfoldable pub policyEntries : Version → ℕ → Policy → List Entry
+policyEntries version e p = policyEnd e (p .permits) (targetEntries version p) (λ f. conditionEntries f (p .condition))
 
 -- entries from number e on, and those of the rest, which go by the number after them
 abbrev pub andThen : ℕ → List Entry → (ℕ → List Entry) → List Entry
 andThen e first rest = first ++ rest (e + length first)
 
 -- the entries of policies of which the first begins at number e
-unfoldable pub policiesEntries : ℕ → List Policy → List Entry
-policiesEntries e [] = []
-policiesEntries e (p ∷ ps) = andThen e (policyEntries e p) (λ f. policiesEntries f ps)
+unfoldable pub policiesEntries : Version → ℕ → List Policy → List Entry
+policiesEntries version e [] = []
+policiesEntries version e (p ∷ ps) = andThen e (policyEntries version e p) (λ f. policiesEntries version f ps)

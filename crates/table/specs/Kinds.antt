@@ -119,3 +119,11 @@ permitKind = 34
 
 abbrev pub forbidKind : ℕ
 forbidKind = 35
+
+-- under version 2 the kind of a principal part is so much higher, past all others
+abbrev pub secondStep : ℕ
+secondStep = 7
+
+-- a bare principal part under version 2
+abbrev pub bareSecondKind : ℕ
+bareSecondKind = 36

@@ -79,3 +79,9 @@ pub const LISTED_ACTION: u8 = 33;
 pub const PERMIT: u8 = 34;
 
 pub const FORBID: u8 = 35;
+
+// Under version 2 the kind of a principal part is so much higher, past all others.
+pub const SECOND_STEP: u8 = 7;
+
+// A bare principal part under version 2.
+pub const BARE_SECOND: u8 = 36;

@@ -5,6 +5,9 @@ ghost use mathlib.Core.Path.{_≡_};
 ghost use mathlib.Core.Bool.{_&&_};
 ghost use Prim.Native.Nat.{_<_, _^_};
 ghost use Rattle.table.specs.Layout.{putAt, ofTwoBytes, entriesIn, entryAt, entryIs};
+ghost use Rattle.table.specs.Entries.{stepOf};
+ghost use Rattle.table.specs.Recorded.{recorded as recordedVersion};
+use grammar::Version;
 
 // How many bytes an entry takes in a table: the kind, and two for each field.
 pub const ENTRY_SIZE: usize = 5;
@@ -90,4 +93,25 @@ pub fn append(table: &mut [u8], seen: &[u8], number: usize, same: bool, x: Entry
     put_entry(table, number, x);
     let here = entry_is(seen, number, x);
     same & here
+}
+
+// The version that a table records, by the kind of its first entry.
+pub fn recorded(table: &[u8]) -> Version
+    ensures { λ r. ⌜ r ≡ recordedVersion (now (table .entry)) ⌝ }
+{
+    let x = entry_at(table, 0);
+    if entries::FORBID < x.kind {
+        return Version::Second;
+    }
+    Version::First
+}
+
+// How much higher the kind of a principal part is under a version.
+pub fn step_of(version: Version) -> u8
+    ensures { λ r. ⌜ r ≡ stepOf version ⌝ }
+{
+    match version {
+        Version::First => 0,
+        Version::Second => entries::SECOND_STEP,
+    }
 }

@@ -23,6 +23,7 @@ use Rattle.targets.specs.declared.Types.{Types}
 use Rattle.deciding.specs.Answers.{wordsIn}
 use Rattle.deciding.proofs.HeldLaws.{held-says, held-ready, held-many, held-few}
 use Rattle.pages.specs.Tally.{tallyOf}
+use Rattle.table.specs.Recorded.{recorded}
 use Rattle.sheets.specs.Sheets.{rowsIn, decisionAt, dividedAs, unless}
 use Rattle.turns.proofs.RowLaws.{none-ready, none-many}
 use Rattle.tallies.specs.Lent.{requestsOf}
@@ -75,13 +76,13 @@ module _ {r : TableSize} (b : Bool) (policies entries : ℕ) (is : r ≡ record 
 
     -- and the counts are those by all that the table holds
     pub counts-are : (text table s : List ℕ) (p : Sections) (n : ℕ)
-        → tallyOf (decisionAt s p q (wordsOf text (policiesAt table (r .entries)))) n ≡ tallyOf (decisionAt s p q (wordsOf text (policiesAt table entries))) n
+        → tallyOf (decisionAt (recorded table) s p q (wordsOf text (policiesAt table (r .entries)))) n ≡ tallyOf (decisionAt (recorded table) s p q (wordsOf text (policiesAt table entries))) n
     counts-are text table s p n = go b refl
       where
         go : (a : Bool) → b ≡ a
-            → tallyOf (decisionAt s p q (wordsOf text (policiesAt table (r .entries)))) n ≡ tallyOf (decisionAt s p q (wordsOf text (policiesAt table entries))) n
-        go true e = system-counts s p q (wordsOf text (policiesAt table (r .entries))) (wordsOf text (policiesAt table entries)) n (sym whose ∙ e)
-        go false e = let z : r .entries ≡ entries = rw e at entries-are in ap (λ (m : ℕ). tallyOf (decisionAt s p q (wordsOf text (policiesAt table m))) n) z
+            → tallyOf (decisionAt (recorded table) s p q (wordsOf text (policiesAt table (r .entries)))) n ≡ tallyOf (decisionAt (recorded table) s p q (wordsOf text (policiesAt table entries))) n
+        go true e = system-counts (recorded table) s p q (wordsOf text (policiesAt table (r .entries))) (wordsOf text (policiesAt table entries)) n (sym whose ∙ e)
+        go false e = let z : r .entries ≡ entries = rw e at entries-are in ap (λ (m : ℕ). tallyOf (decisionAt (recorded table) s p q (wordsOf text (policiesAt table m))) n) z
 
 -- ---- a tally for a question
 
@@ -116,15 +117,15 @@ module _ (text table s : List ℕ) (p : Sections) (qs : List Request) (before : 
 
   -- nothing is refused: the groups are those by the policies that the text says
   groups-said : (b : Bool) → someAsks qs ≡ b → {policies entries : ℕ} → cond b (heldOf text table) (Right 0 0) ≡ Right policies entries → firstWrong qs ≡ 0
-      → groupsOf groupCount (λ q. tallyOf (decisionAt s p q (wordsOf text (policiesAt table entries))) (rowsIn s p)) qs ≡ groupsOf groupCount (groupFor text s p) qs
+      → groupsOf groupCount (λ q. tallyOf (decisionAt (recorded table) s p q (wordsOf text (policiesAt table entries))) (rowsIn s p)) qs ≡ groupsOf groupCount (groupFor text table s p) qs
   groups-said true a {policies} {entries} h w = rw (held-says text table policies entries h)
   groups-said false a {policies} {entries} h w =
-      groups-alike (λ q. tallyOf (decisionAt s p q (wordsOf text (policiesAt table entries))) (rowsIn s p)) (groupFor text s p)
-      (λ q e. system-counts s p q (wordsOf text (policiesAt table entries)) (wordsIn text) (rowsIn s p) e) groupCount qs w a
+      groups-alike (λ q. tallyOf (decisionAt (recorded table) s p q (wordsOf text (policiesAt table entries))) (rowsIn s p)) (groupFor text table s p)
+      (λ q e. system-counts (recorded table) s p q (wordsOf text (policiesAt table entries)) (wordsIn text) (rowsIn s p) e) groupCount qs w a
 
   pub all-tallied : (b : Bool) → someAsks qs ≡ b → {policies entries n : ℕ} → cond b (heldOf text table) (Right 0 0) ≡ Right policies entries
       → n ≡ firstWrong qs → n ≡ 0 → {after : List ℕ}
-      → after ≡ withSums (groupsOf groupCount (λ q. tallyOf (decisionAt s p q (wordsOf text (policiesAt table entries))) (rowsIn s p)) qs)
+      → after ≡ withSums (groupsOf groupCount (λ q. tallyOf (decisionAt (recorded table) s p q (wordsOf text (policiesAt table entries))) (rowsIn s p)) qs)
       → RequestsTallied text table s p qs before n after
   unfolding unless
   all-tallied b a h e z c =

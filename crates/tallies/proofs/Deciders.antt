@@ -10,11 +10,11 @@ use native.Mathlib.Omega.{arith}
 use lib.ListN.{length, getD}
 use lib.Seq.{getD-set-same, getD-set-other, set-out}
 use Rattle.grammar.specs.Policies.{PolicyOf, Policy}
+use Rattle.grammar.specs.declared.Version.{Version}
 use Rattle.bags.specs.declared.sections.Sections.{Sections}
 use Rattle.placing.specs.Said.{Word, wordsOf}
-use Rattle.views.specs.Meaning.{View}
 use Rattle.meaning.specs.Targets.{Request, isSystem}
-use Rattle.meaning.specs.Decisions.{decisionOf, policiesDecide, byNumbers, outcomeOf, policyOf, isAllowed}
+use Rattle.meaning.specs.Decisions.{Terms, decisionOf, policiesDecide, byNumbers, outcomeOf, policyOf, isAllowed}
 use Rattle.meaning.specs.declared.Decision.{Decision}
 use Rattle.meaning.specs.declared.Decision.the-variants.{Allowed, Forbidden, Nothing, System}
 use Rattle.pages.specs.Tally.{howMany, countsAt, tallyOf, bumped, countedIn, leastPolicy, Countable}
@@ -33,21 +33,21 @@ unfolding leastPolicy policyOf
 some-by true d h = omega arith
 some-by false d h = h
 
-pub decided-some : (view : View) (q : Request) (ps : List (PolicyOf Word)) → leastPolicy (decisionOf view q ps) ≤ policyOf (decisionOf view q ps)
+pub decided-some : (terms : Terms) (q : Request) (ps : List (PolicyOf Word)) → leastPolicy (decisionOf terms q ps) ≤ policyOf (decisionOf terms q ps)
 unfolding decisionOf policiesDecide
-decided-some view q ps = some-by (isSystem (q .subject)) (policiesDecide view q ps) (numbers-some _ _)
+decided-some terms q ps = some-by (isSystem (q .subject)) (policiesDecide terms q ps) (numbers-some _ _)
 
-pub countable-there : (text s : List ℕ) (p : Sections) (q : Request) (ps : List Policy) (row : ℕ) → length ps ≤ 64
-    → Countable (decisionAt s p q (wordsOf text ps) row)
+pub countable-there : (version : Version) (text s : List ℕ) (p : Sections) (q : Request) (ps : List Policy) (row : ℕ) → length ps ≤ 64
+    → Countable (decisionAt version s p q (wordsOf text ps) row)
 unfolding decisionBy
-countable-there text s p q ps row h = record { some = decided-some _ q (wordsOf text ps); few = policy-few text s p q ps row h }
+countable-there version text s p q ps row h = record { some = decided-some _ q (wordsOf text ps); few = policy-few version text s p q ps row h }
 
-pub system-counts : (s : List ℕ) (p : Sections) (q : Request) (ps ps′ : List (PolicyOf Word)) (n : ℕ) → isSystem (q .subject) ≡ true
-    → tallyOf (decisionAt s p q ps) n ≡ tallyOf (decisionAt s p q ps′) n
+pub system-counts : (version : Version) (s : List ℕ) (p : Sections) (q : Request) (ps ps′ : List (PolicyOf Word)) (n : ℕ) → isSystem (q .subject) ≡ true
+    → tallyOf (decisionAt version s p q ps) n ≡ tallyOf (decisionAt version s p q ps′) n
 unfolding decisionBy decisionOf
-system-counts s p q ps ps′ n e =
-    let same : (row : ℕ) → decisionAt s p q ps row ≡ decisionAt s p q ps′ row = λ row. rw e in
-    let alike : _≡_ {A = ℕ → Decision} (decisionAt s p q ps) (decisionAt s p q ps′) = λ i row. same row i in
+system-counts version s p q ps ps′ n e =
+    let same : (row : ℕ) → decisionAt version s p q ps row ≡ decisionAt version s p q ps′ row = λ row. rw e in
+    let alike : _≡_ {A = ℕ → Decision} (decisionAt version s p q ps) (decisionAt version s p q ps′) = λ i row. same row i in
     ap (λ (d : ℕ → Decision). tallyOf d n) alike
 
 -- the policy's number where one decides

@@ -206,7 +206,7 @@ pub tally-heard : (c : TallyCall) → tallyRefusal (c .text) (c .table) (c .ques
 tally-heard c e = heard-by c e (refused-as c)
 
 pub counts-there : (text table s : List ℕ) (many : ℕ) (requests counts : List ℕ) → tallyRefusal text table s many requests ≡ 0
-    → countsAfter text table s many requests counts ≡ talliedOf text s (sectionsIn s) (requestsOf many requests)
+    → countsAfter text table s many requests counts ≡ talliedOf text table s (sectionsIn s) (requestsOf many requests)
 unfolding countsAfter unless
 counts-there text table s many requests counts e = rw e
 

@@ -4,6 +4,7 @@ use mathlib.Core.List.{List}
 use Prim.Native.Nat.{ℕ, _≤_, _<_}
 use lib.ListN.{length, getD}
 use Rattle.bags.specs.declared.sections.Sections.{Sections}
+use Rattle.table.specs.Recorded.{recorded}
 use Rattle.stored.specs.ReadBack.{policiesAt}
 use Rattle.stored.specs.Ready.{ReadyPolicies}
 use Rattle.placing.specs.Said.{wordsOf}
@@ -28,7 +29,7 @@ pub record Surveyed (text table s : List ℕ) (a : Asking) (starts : List ℕ) (
 
 -- the group of a request by the policies of so many entries of the table
 abbrev pub countedBy : List ℕ → List ℕ → List ℕ → Sections → ℕ → ℕ → Request → List ℕ
-countedBy text table s p entries all q = tallyOf (decisionAt s p q (wordsOf text (policiesAt table entries))) all
+countedBy text table s p entries all q = tallyOf (decisionAt (recorded table) s p q (wordsOf text (policiesAt table entries))) all
 
 -- by those that it holds
 abbrev pub groupBy : List ℕ → List ℕ → List ℕ → Asking → Request → List ℕ

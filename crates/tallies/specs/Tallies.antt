@@ -5,6 +5,7 @@ use mathlib.Core.List.{List, [], _∷_, _++_}
 use Prim.Native.Nat.{ℕ, zero, suc, _+_}
 use lib.Dec.{leb}
 use lib.ListN.{getD, replicate}
+use Rattle.table.specs.Recorded.{recorded}
 use Rattle.bags.specs.declared.sections.Sections.{Sections}
 use Rattle.questions.specs.Questions.{isQuestion}
 use Rattle.meaning.specs.Targets.{Request, isSystem, isSubject, isAction, isResource}
@@ -73,19 +74,19 @@ unfoldable pub withSums : List ℕ → List ℕ
 withSums groups = groups ++ sumsOf groups
 
 -- the group of a request over a question whose sections are p
-abbrev pub groupFor : List ℕ → List ℕ → Sections → Request → List ℕ
-groupFor text s p q = tallyOf (decisionAt s p q (wordsIn text)) (rowsIn s p)
+abbrev pub groupFor : List ℕ → List ℕ → List ℕ → Sections → Request → List ℕ
+groupFor text table s p q = tallyOf (decisionAt (recorded table) s p q (wordsIn text)) (rowsIn s p)
 
 -- the tally of requests
-abbrev pub talliedOf : List ℕ → List ℕ → Sections → List Request → List ℕ
-talliedOf text s p qs = withSums (groupsOf groupCount (groupFor text s p) qs)
+abbrev pub talliedOf : List ℕ → List ℕ → List ℕ → Sections → List Request → List ℕ
+talliedOf text table s p qs = withSums (groupsOf groupCount (groupFor text table s p) qs)
 
 -- ---- the call
 
 -- a tally for a question whose sections are p
 pub record RequestsTallied (text table s : List ℕ) (p : Sections) (qs : List Request) (before : List ℕ) (answer : ℕ) (after : List ℕ) : Type 0 where
   pub answered : answer ≡ firstRefusal text table qs
-  pub counts : after ≡ unless (firstRefusal text table qs) (talliedOf text s p qs) (λ _. before)
+  pub counts : after ≡ unless (firstRefusal text table qs) (talliedOf text table s p qs) (λ _. before)
 
 -- the refusal's number, 0 where nothing is refused: before all, no request or more than eight; then what is no question
 unfoldable pub tallyRefusal : List ℕ → List ℕ → List ℕ → ℕ → List ℕ → ℕ
@@ -95,7 +96,7 @@ tallyRefusal text table s many requests =
 -- the counts afterwards: a refusal changes nothing
 unfoldable pub countsAfter : List ℕ → List ℕ → List ℕ → ℕ → List ℕ → List ℕ → List ℕ
 countsAfter text table s many requests counts =
-    unless (tallyRefusal text table s many requests) (talliedOf text s (sectionsIn s) (requestsOf many requests)) (λ _. counts)
+    unless (tallyRefusal text table s many requests) (talliedOf text table s (sectionsIn s) (requestsOf many requests)) (λ _. counts)
 
 -- what the call promises
 pub record Tallied (text table s : List ℕ) (many : ℕ) (requests before : List ℕ) (answer : ℕ) (after : List ℕ) : Type 0 where

@@ -15,11 +15,11 @@ ghost use Rattle.tallies.specs.Tallies.{groupCount, formRefusal, firstWr
 ghost use Rattle.tallies.specs.Counted.{RulesHeld, Surveyed, countedBy, groupBy, CountsFew};
 use crate::lent::request_at;
 use bags::sections::Sections;
+use choices::choices_of;
+use choices::lasts;
 use kept::Walk;
 use kept::depths::looks;
 use meaning::Decision;
-use pages::rows::choices_of;
-use pages::rows::lasts;
 use questions::places::heads;
 use questions::places::places;
 use questions::places::rows;

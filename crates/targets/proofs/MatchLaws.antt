@@ -1,13 +1,13 @@
 -- What a target's entries ask of a request. Assumes nothing.
 use mathlib.Core.Path.{_≡_, refl, sym, _∙_, ap, subst}
-use mathlib.Core.Bool.{Bool, true, false, cond, _||_, and-true, and-false}
+use mathlib.Core.Bool.{Bool, true, false, cond, _||_, and-true, and-false, false≢true}
 use mathlib.Core.List.{List, _∷_}
 use Prim.Native.Nat.{ℕ, zero, suc, _+_, _-_, _≤_, _<_}
 use native.Mathlib.Omega.{arith}
-use lib.Dec.{eqb}
+use lib.Dec.{eqb, ltb}
 use lib.ListN.{length, take, drop, length-drop}
 use lib.Seq.{length-take-le}
-use borrow.Author.Tests.{eq-eqb, ne-eqb}
+use borrow.Author.Tests.{eq-eqb, ne-eqb, eqb-true, eqb-false, ltb-true}
 use Rattle.slices.specs.Same.{same}
 use Rattle.slices.proofs.Equal.{other-length}
 use Rattle.grammar.specs.Policies.{Span, span, Literal, text, number, truth, Part, pinned, Actions, oneOf}
@@ -16,7 +16,9 @@ use Rattle.placing.specs.Placed.{quotedAt, Each, StringPlaced, ActionPlaced, an
 use Rattle.placing.specs.Said.{literalWords, actionWords, partWords, policyWords}
 use Rattle.placing.proofs.EachLaws.{each-first, each-rest}
 use Rattle.table.specs.declared.Entry.{Entry}
+use Rattle.table.specs.Entries.{entry}
 use Rattle.table.specs.Layout.{entryAt}
+use Rattle.table.specs.Recorded.{lowered}
 use Rattle.stored.specs.ReadBack.{spanOfEntry, literalOfEntry, literalsBy, literalsAt, listBy, partOfEntry, actionsBy, actionsOf, policyBy, policyAt}
 use Rattle.meaning.specs.Conditions.{some}
 use Rattle.meaning.specs.Targets.{typeIn, partMatches, isString, actionMatches}
@@ -66,10 +68,64 @@ pinned-placed {t} {p} {s} e (one-resource {s = z} h) = let k : z ≡ s = cc in s
 pub pinned-quoted : (t : List ℕ) (x : Entry) → (x .kind ≡ 29 → ⊥) → (x .kind ≡ 30 → ⊥) → ResourcePlaced t (partOfEntry x) → (x .first + 2 ≤ x .second) × (x .second ≤ length t)
 pinned-quoted t x n m p = quoted (pinned-placed (pinned-is x n m) p)
 
--- a principal part lies as a resource part does
-pub as-resource : {t : List ℕ} {p : Part} → PrincipalPlaced p → ResourcePlaced t p
-as-resource any-principal = any-resource
-as-resource (principal-type l h) = resource-type l (omega arith)
+-- ---- the principal part, under either version
+
+-- an entry's kind as it is under version 1
+lowered-kind : (x : Entry) (b : Bool) → ltb 35 (x .kind) ≡ b → lowered x .kind ≡ cond b (x .kind - 7) (x .kind)
+unfolding lowered
+lowered-kind x true e = rw e
+lowered-kind x false e = rw e
+
+lowered-first : (x : Entry) → lowered x .first ≡ x .first
+unfolding lowered
+lowered-first x = go (ltb 35 (x .kind))
+  where
+    go : (b : Bool) → cond b (entry (x .kind - 7) (x .first) (x .second)) x .first ≡ x .first
+    go true = refl
+    go false = refl
+
+-- kind 29 or 36 is a bare one, and no other is
+bare-kind : (x : Entry) → eqb (x .kind) 29 || eqb (x .kind) 36 ≡ true → lowered x .kind ≡ 29
+bare-kind x h = go (eqb (x .kind) 29) refl (eqb (x .kind) 36) refl h
+  where
+    go : (a : Bool) → eqb (x .kind) 29 ≡ a → (b : Bool) → eqb (x .kind) 36 ≡ b → a || b ≡ true → lowered x .kind ≡ 29
+    go true e b f k = let z = eqb-true (x .kind) 29 e in lowered-kind x false (rw z) ∙ z
+    go false e true f k = let z = eqb-true (x .kind) 36 f in lowered-kind x true (rw z) ∙ rw z
+    go false e false f k = absurd (false≢true k)
+
+other-kind : (x : Entry) → eqb (x .kind) 29 || eqb (x .kind) 36 ≡ false → lowered x .kind ≡ 29 → ⊥
+other-kind x h k = go (eqb (x .kind) 29) refl (eqb (x .kind) 36) refl h (ltb 35 (x .kind)) refl
+  where
+    go : (a : Bool) → eqb (x .kind) 29 ≡ a → (b : Bool) → eqb (x .kind) 36 ≡ b → a || b ≡ false → (c : Bool) → ltb 35 (x .kind) ≡ c → ⊥
+    go true e b f z c m = false≢true (sym z)
+    go false e true f z c m = false≢true (sym z)
+    go false e false f z true m =
+        let l = ltb-true 35 (x .kind) m in
+        let n = eqb-false (x .kind) 36 f in
+        let q : x .kind - 7 ≡ 29 = sym (lowered-kind x true m) ∙ k in
+        n (omega arith)
+    go false e false f z false m = eqb-false (x .kind) 29 e (sym (lowered-kind x false m) ∙ k)
+
+-- a principal part is bare, or has a type
+typed-kind : {p : Part} {s : Span} → p ≡ pinned s → PrincipalPlaced p → ⊥
+typed-kind e any-principal = let z : _≡_ {A = ℕ} 0 1 = cc in omega arith
+typed-kind e (principal-type l h) = let z : _≡_ {A = ℕ} 0 1 = cc in omega arith
+
+typed-there : (y : Entry) → (y .kind ≡ 29 → ⊥) → PrincipalPlaced (partOfEntry y) → y .kind ≡ 30
+typed-there y n p = go (eqb (y .kind) 30) refl
+  where
+    go : (b : Bool) → eqb (y .kind) 30 ≡ b → y .kind ≡ 30
+    go true e = eqb-true (y .kind) 30 e
+    go false e = absurd (typed-kind (pinned-is y n (eqb-false (y .kind) 30 e)) p)
+
+module _ (x : Entry) (t s : List ℕ) (types : List (List ℕ)) where
+  pub bare-principal : eqb (x .kind) 29 || eqb (x .kind) 36 ≡ true → true ≡ partMatches types s (partWords t (partOfEntry (lowered x)))
+  bare-principal h = any-part t s (lowered x) types (bare-kind x h)
+
+  pub typed-principal : eqb (x .kind) 29 || eqb (x .kind) 36 ≡ false → PrincipalPlaced (partOfEntry (lowered x)) → {n : ℕ} → n ≡ typeIn types s
+      → eqb n (x .first) ≡ partMatches types s (partWords t (partOfEntry (lowered x)))
+  typed-principal h p {n} d =
+      ap (eqb n) (sym (lowered-first x)) ∙ typed-part t s (lowered x) types d (typed-there (lowered x) (other-kind x h) p)
 
 -- ---- the action part
 
@@ -154,7 +210,7 @@ module _ (t table : List ℕ) (end : ℕ) (x : Entry) (subject action resource :
   whole = targetMatches (request subject action resource) (policyWords t (policyAt table end x))
 
   module _ (y : Entry) (is : y ≡ entryAt table (x .first)) where
-    pub other-subject : {r : Bool} → r ≡ partMatches principalTypes subject (partWords t (partOfEntry y)) → r ≡ false → false ≡ whole
+    pub other-subject : {r : Bool} → r ≡ partMatches principalTypes subject (partWords t (partOfEntry (lowered y))) → r ≡ false → false ≡ whole
     unfolding targetMatches policyBy
     other-subject d e = rw (← is, sym d ∙ e)
 
@@ -163,7 +219,7 @@ module _ (t table : List ℕ) (end : ℕ) (x : Entry) (subject action resource :
       unfolding targetMatches policyBy
       other-resource d e = rw (← is′, sym d ∙ e, and-false)
 
-      pub by-action : {r r′ b : Bool} → r ≡ partMatches principalTypes subject (partWords t (partOfEntry y)) → r ≡ true → r′ ≡ partMatches resourceTypes resource (partWords t (partOfEntry z)) → r′ ≡ true
+      pub by-action : {r r′ b : Bool} → r ≡ partMatches principalTypes subject (partWords t (partOfEntry (lowered y))) → r ≡ true → r′ ≡ partMatches resourceTypes resource (partWords t (partOfEntry z)) → r′ ≡ true
           → (w : Entry) → w ≡ entryAt table (x .second - 2) → b ≡ actionMatches action (actionWords t (actionsOf table (x .second - 1) w)) → b ≡ whole
       unfolding targetMatches policyBy
       by-action d e f h w k a = a ∙ rw (k, ← is, sym d ∙ e, ← is′, sym f ∙ h) (sym (and-true _))

@@ -5,8 +5,9 @@ ghost use Prim.Native.Nat.{ℕ, _+_, _-_, _<_, _≤_};
 ghost use lib.ListN.{length};
 ghost use Rattle.slices.specs.Same.{same};
 ghost use Rattle.grammar.specs.Policies.{span};
-ghost use Rattle.placing.specs.Placed.{quotedAt, ResourcePlaced};
+ghost use Rattle.placing.specs.Placed.{quotedAt, PrincipalPlaced, ResourcePlaced};
 ghost use Rattle.placing.specs.Said.{actionWords, partWords, policyWords};
+ghost use Rattle.table.specs.Recorded.{lowered};
 ghost use Rattle.stored.specs.ReadBack.{partOfEntry, actionsOf, policyAt};
 ghost use Rattle.stored.specs.Ready.{Last};
 ghost use Rattle.meaning.specs.Targets.{typeIn, partMatches, actionMatches};
@@ -31,7 +32,7 @@ fn is_quoted(text: &[u8], start: usize, end: usize, s: &[u8]) -> bool
     same_bytes(s, &text[from..to])
 }
 
-// Whether the principal part or the resource part that x says matches s, whose type has this number among the part's types.
+// Whether the resource part that x says matches s, whose type has this number among the part's types.
 fn part_matches(text: &[u8], x: Entry, s: &[u8], type_number: usize) -> bool
     requires { ⌜ ResourcePlaced (now text) (partOfEntry x) ⌝ }
     ensures { λ r. ⌜ ((types : List (List ℕ)) → «type_number» ≡ typeIn types (now (s .entry))
@@ -44,6 +45,18 @@ fn part_matches(text: &[u8], x: Entry, s: &[u8], type_number: usize) -> bool
         return type_number == x.first;
     }
     is_quoted(text, x.first, x.second, s)
+}
+
+// Whether the principal part that x says, under either version, matches a subject whose type has this number: a bare one always, any other by its type.
+fn principal_matches(x: Entry, type_number: usize) -> bool
+    requires { ⌜ PrincipalPlaced (partOfEntry (lowered x)) ⌝ }
+    ensures { λ r. ⌜ ((t s : List ℕ) (types : List (List ℕ)) → «type_number» ≡ typeIn types s
+        → r ≡ partMatches types s (partWords t (partOfEntry (lowered x)))) ⌝ }
+{
+    if (x.kind == entries::BARE_PART) | (x.kind == entries::BARE_SECOND) {
+        return true;
+    }
+    type_number == x.first
 }
 
 // Whether the action part matches the action, where x is the part's last entry, number end - 1.
@@ -84,7 +97,7 @@ pub fn target_matches(
         (policyWords (now (text .entry)) (policyAt (now (table .entry)) end x)) ⌝ }
 {
     let principal = entry_in(table, x.first);
-    if !part_matches(text, principal, subject, types.subject) {
+    if !principal_matches(principal, types.subject) {
         return false;
     }
     let part = entry_in(table, x.second - 1);

@@ -4,7 +4,6 @@ pub mod RunLaws
 pub mod WordLaws
 pub mod TokenLaws
 pub mod LoneLaws
-pub mod PlaceLaws
 pub mod ReadLaws
 pub mod KindLaws
 pub mod FormLaws

@@ -6,5 +6,4 @@ pub mod Table
 pub mod Words
 pub mod Tokens
 pub mod Forms
-pub mod Places
 pub mod Blanks

@@ -1,8 +1,6 @@
-// The tokens of a rule text, and the line and column of a byte.
+// The tokens of a rule text: what they are, and the classes of bytes. They are read in the crate token_reader.
 pub mod classes;
 pub mod kinds;
-pub mod places;
 pub mod reader;
 pub mod runs;
 pub mod sizes;
-pub mod words;

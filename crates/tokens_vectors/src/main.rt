@@ -3,12 +3,12 @@
 ghost use mathlib.Core.Path.{_≡_};
 ghost use Prim.Native.Nat.{ℕ, _<_, _≤_};
 ghost use Rattle.tokens.specs.Table.{classTable};
+use places::Place;
+use places::place_of;
+use token_reader::next_token;
 use tokens::classes::class_table;
 use tokens::kinds;
-use tokens::places::Place;
-use tokens::places::place_of;
 use tokens::reader::Token;
-use tokens::reader::next_token;
 use vectors::with;
 
 // The sum with a token and its place.

@@ -9,6 +9,8 @@ use borrow.Author.Tests.{lt-ltb, ltb-true}
 use lib.Dec.{ltb}
 use lib.ListN.{length, getD, replicate}
 use Rattle.grammar.specs.Policies.{PolicyOf, Policy}
+use Rattle.grammar.specs.declared.Version.{Version}
+use Rattle.grammar.specs.declared.Version.the-variants.{First}
 use Rattle.bags.specs.Reading.{many}
 use Rattle.bags.specs.declared.After.the-variants.{At}
 use Rattle.bags.specs.declared.sections.Sections.{Sections}
@@ -20,12 +22,12 @@ use Rattle.table.specs.Entries.{policiesEntries}
 use Rattle.stored.specs.Stored.{none-left as nothing-left}
 use Rattle.stored.specs.ReadBack.{policiesUpTo, policiesAt}
 use Rattle.stored.specs.Ready.{ReadyPolicies}
-use Rattle.views.specs.Meaning.{View, look}
+use Rattle.views.specs.Meaning.{look}
 use Rattle.views.specs.Rows.{rowView, RowStands, bagOfRow, Chooses}
 use Rattle.views.proofs.RowLaws.{row-stands, row-shows}
 use Rattle.placing.specs.Said.{Word, wordsOf}
 use Rattle.meaning.specs.Targets.{Request, isSystem}
-use Rattle.meaning.specs.Decisions.{decisionOf, policiesDecide, policyOf, markOf, decidedMark, systemMarked, NamesPolicy, the-system, a-forbid, a-permit, none-named, NamedRightly}
+use Rattle.meaning.specs.Decisions.{Terms, under, decisionOf, policiesDecide, policyOf, markOf, decidedMark, systemMarked, NamesPolicy, the-system, a-forbid, a-permit, none-named, NamedRightly}
 use Rattle.meaning.specs.declared.Decision.the-variants.{System}
 use Rattle.meaning.specs.declared.Marked.{Marked}
 use Rattle.meaning.proofs.Deciding.{numbered-few, named-rightly}
@@ -74,9 +76,9 @@ stands-next {ends = ends} {choices = choices} {row = row} h s m =
 
 -- ---- what is kept from row to row
 
-module _ {text s : List ℕ} {w : Walk} {starts : List ℕ} {q : Request} {ps : List Policy} {looks : List ℕ} where
+module _ {version : Version} {text s : List ℕ} {w : Walk} {starts : List ℕ} {q : Request} {ps : List Policy} {looks : List ℕ} where
   -- before the first row no note says anything
-  pub kept-first : (values : List ℕ) → length values ≡ 6 → Aims text q ps looks → Kept text s w starts q ps looks values 0 (replicate 512 0)
+  pub kept-first : (values : List ℕ) → length values ≡ 6 → Aims text q ps looks → Kept version text s w starts q ps looks values 0 (replicate 512 0)
   kept-first values six a = record {
     aims = a;
     carried = record {
@@ -90,8 +92,8 @@ module _ {text s : List ℕ} {w : Walk} {starts : List ℕ} {q : Request} {ps : 
 
   -- the next row chooses alike in the columns before the one that moves
   pub kept-next : {grid : List (List ℕ)} {ends choices choices' values values' notes notes' : List ℕ} {from column : ℕ} {d : Marked} → w .policies ≡ length ps
-      → Kept text s w starts q ps looks values from notes → DecidedFrom text s (w .p) (w .n) starts q ps looks values d notes'
-      → Picked grid choices values → Moved grid ends choices column choices' values' → Kept text s w starts q ps looks values' column notes'
+      → Kept version text s w starts q ps looks values from notes → DecidedFrom version text s (w .p) (w .n) starts q ps looks values d notes'
+      → Picked grid choices values → Moved grid ends choices column choices' values' → Kept version text s w starts q ps looks values' column notes'
   kept-next {grid = grid} {values = values} many k d v m = record {
     aims = k .aims;
     carried = record {
@@ -173,16 +175,16 @@ module _ {s : List ℕ} {p : Sections} {n : ℕ} {starts ends : List ℕ} {grid 
         ∙ ap (λ (n : ℕ). look (bagOfRow s p n (firstIn p) (choicesAt (countsOf n s (firstIn p)) row))) (laid .many)
 
     -- the row's decision
-    pub decides-there : (system : Bool) (q : Request) (ps : List (PolicyOf Word)) → system ≡ isSystem (q .subject)
-        → cond system System (policiesDecide (rowView s p n starts values) q ps) ≡ decisionAt s p q ps row
+    pub decides-there : (version : Version) (system : Bool) (q : Request) (ps : List (PolicyOf Word)) → system ≡ isSystem (q .subject)
+        → cond system System (policiesDecide (under version (rowView s p n starts values)) q ps) ≡ decisionAt version s p q ps row
     unfolding decisionBy decisionOf
-    decides-there system q ps e = rw (e, shows)
+    decides-there version system q ps e = rw (e, shows)
 
     -- and its mark
-    pub marks-there : (system : Bool) (q : Request) (ps : List (PolicyOf Word)) → system ≡ isSystem (q .subject)
-        → cond system 0 (markOf (rowView s p n starts values) q ps) ≡ rowMark s p q ps row
+    pub marks-there : (version : Version) (system : Bool) (q : Request) (ps : List (PolicyOf Word)) → system ≡ isSystem (q .subject)
+        → cond system 0 (markOf (under version (rowView s p n starts values)) q ps) ≡ rowMark version s p q ps row
     unfolding markThere decidedMark
-    marks-there system q ps e = rw (e, shows)
+    marks-there version system q ps e = rw (e, shows)
 
 -- the decision and the mark, where the system comes first
 pub of-system : (system : Bool) (m : Marked) → (cond system systemMarked m .d ≡ cond system System (m .d)) × (cond system systemMarked m .mark ≡ cond system 0 (m .mark))
@@ -191,43 +193,43 @@ of-system false m = (refl, refl)
 
 -- ---- a policy's number is at most 64, and fits a byte
 
-named-few : {view : View} {q : Request} {ps : List (PolicyOf Word)} {n : ℕ} → NamesPolicy view q ps n → n ≤ length ps
+named-few : {terms : Terms} {q : Request} {ps : List (PolicyOf Word)} {n : ℕ} → NamesPolicy terms q ps n → n ≤ length ps
 named-few (the-system s) = omega arith
 named-few (a-forbid s l) = numbered-few (l .satisfied-as .numbered)
 named-few (a-permit s f l) = numbered-few (l .satisfied-as .numbered)
 named-few (none-named s f g) = omega arith
 
-module _ (text : List ℕ) (view : View) (q : Request) (ps : List Policy) where
-  system-few : isSystem (q .subject) ≡ true → policyOf (decisionOf view q (wordsOf text ps)) ≤ 64
+module _ (text : List ℕ) (terms : Terms) (q : Request) (ps : List Policy) where
+  system-few : isSystem (q .subject) ≡ true → policyOf (decisionOf terms q (wordsOf text ps)) ≤ 64
   unfolding decisionOf policyOf
   system-few e = rw e (omega arith)
 
-  other-few : length ps ≤ 64 → policyOf (decisionOf view q (wordsOf text ps)) ≤ 64
+  other-few : length ps ≤ 64 → policyOf (decisionOf terms q (wordsOf text ps)) ≤ 64
   unfolding NamedRightly
-  other-few h = omega (arith, many-words text ps, named-few (named-rightly view q (wordsOf text ps)))
+  other-few h = omega (arith, many-words text ps, named-few (named-rightly terms q (wordsOf text ps)))
 
-pub policy-few : (text : List ℕ) (s : List ℕ) (p : Sections) (q : Request) (ps : List Policy) (row : ℕ) → length ps ≤ 64
-    → policyOf (decisionAt s p q (wordsOf text ps) row) ≤ 64
+pub policy-few : (version : Version) (text : List ℕ) (s : List ℕ) (p : Sections) (q : Request) (ps : List Policy) (row : ℕ) → length ps ≤ 64
+    → policyOf (decisionAt version s p q (wordsOf text ps) row) ≤ 64
 unfolding decisionBy
-policy-few text s p q ps row h = go (isSystem (q .subject)) refl
+policy-few version text s p q ps row h = go (isSystem (q .subject)) refl
   where
-    view : View
-    view = look (bagOfRow s p (columnsIn s p) (firstIn p) (choicesAt (countsOf (columnsIn s p) s (firstIn p)) row))
+    terms : Terms
+    terms = under version (look (bagOfRow s p (columnsIn s p) (firstIn p) (choicesAt (countsOf (columnsIn s p) s (firstIn p)) row)))
 
-    go : (b : Bool) → isSystem (q .subject) ≡ b → policyOf (decisionOf view q (wordsOf text ps)) ≤ 64
-    go true e = system-few text view q ps e
-    go false e = other-few text view q ps h
+    go : (b : Bool) → isSystem (q .subject) ≡ b → policyOf (decisionOf terms q (wordsOf text ps)) ≤ 64
+    go true e = system-few text terms q ps e
+    go false e = other-few text terms q ps h
 
-pub policy-fits : (text : List ℕ) (s : List ℕ) (p : Sections) (q : Request) (ps : List Policy) (row : ℕ) → length ps ≤ 64
-    → policyOf (decisionAt s p q (wordsOf text ps) row) < 256
-policy-fits text s p q ps row h = omega (arith, policy-few text s p q ps row h)
+pub policy-fits : (version : Version) (text : List ℕ) (s : List ℕ) (p : Sections) (q : Request) (ps : List Policy) (row : ℕ) → length ps ≤ 64
+    → policyOf (decisionAt version s p q (wordsOf text ps) row) < 256
+policy-fits version text s p q ps row h = omega (arith, policy-few version text s p q ps row h)
 
 -- ---- policies of the system
 
 -- where there are none they can all be evaluated
 pub none-ready : (text table : List ℕ) → ReadyPolicies text table 0
 unfolding policiesUpTo policiesEntries
-none-ready text table = record { stored = record { stands = record { from = nothing-left; ends = refl; few = omega arith } }; placed = none-left; here = omega arith }
+none-ready text table = record { stored = record { version = First; stands = record { from = nothing-left; ends = refl; few = omega arith } }; placed = none-left; here = omega arith }
 
 pub none-many : (table : List ℕ) → _≡_ {A = ℕ} 0 (length (policiesAt table 0))
 unfolding policiesUpTo

@@ -8,6 +8,7 @@ use lib.ListN.{length, getD}
 use Rattle.tokens.specs.Sizes.{mostPolicies}
 use Rattle.bags.specs.declared.sections.Sections.{Sections}
 use Rattle.questions.specs.Questions.{Question, headOf, countOf, cell, product}
+use Rattle.table.specs.Recorded.{recorded}
 use Rattle.stored.specs.ReadBack.{policiesAt}
 use Rattle.stored.specs.Ready.{ReadyPolicies}
 use Rattle.placing.specs.Said.{wordsOf}
@@ -53,11 +54,11 @@ pub record AtRow (text table s : List ℕ) (w : Walk) (starts : List ℕ) (grid 
   pub acts : q .action ≡ action
   pub whose : w .system ≡ isSystem (q .subject)
   pub standing : Standing grid ends choices values row
-  pub kept : Kept text s w starts q (policiesAt table (w .entries)) looks values from notes
+  pub kept : Kept (recorded table) text s w starts q (policiesAt table (w .entries)) looks values from notes
 
 -- A row's turn: its decision and its mark are given, and the walk stands at the next row.
 pub record Turned (text table s : List ℕ) (w : Walk) (starts : List ℕ) (grid : List (List ℕ)) (ends looks action : List ℕ) (q : Request) (row : ℕ) (r : Turn)
     (choices values notes : List ℕ) : Type 0 where
-  pub decided : r .d ≡ decisionAt s (w .p) q (wordsOf text (policiesAt table (w .entries))) row
-  pub marked : r .mark ≡ rowMark s (w .p) q (wordsOf text (policiesAt table (w .entries))) row
+  pub decided : r .d ≡ decisionAt (recorded table) s (w .p) q (wordsOf text (policiesAt table (w .entries))) row
+  pub marked : r .mark ≡ rowMark (recorded table) s (w .p) q (wordsOf text (policiesAt table (w .entries))) row
   pub next : AtRow text table s w starts grid ends looks action q (row + 1) choices values (r .from) notes

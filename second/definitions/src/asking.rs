@@ -1,4 +1,5 @@
-//! What the program `ask` prints: whether a rule text compiles, what is decided of cases, one after the other, and the tally of requests.
+//! What the program `ask` prints: whether a rule text compiles, what is decided of cases, one after the other, the tally of requests and
+//! the sheet, each under a version.
 
 use crate::compile::{compile, Refusal, ROOM_FOR_EACH_BYTE};
 use crate::deciding::{decide, Decision, Request};
@@ -44,17 +45,27 @@ pub fn read_cases(bytes: &[u8]) -> Option<Vec<Case>> {
     Some(cases)
 }
 
+/// The version that the program's second word names: one decimal digit. Any other word counts as 0, which is no version; without
+/// such a word it is 1.
+pub fn version_of_word(word: Option<&str>) -> u64 {
+    match word.map(str::as_bytes) {
+        None => 1,
+        Some([digit @ b'0'..=b'9']) => u64::from(digit - b'0'),
+        Some(_) => 0,
+    }
+}
+
 /// What `ask check` prints: the number of policies and the bytes of the table, or the refusal.
-pub fn printed_check(text: &[u8]) -> String {
-    match compile(text, ROOM_FOR_EACH_BYTE * text.len()) {
-        Ok(compiled) => format!("compiled {} {}\n", compiled.policies.len(), compiled.table.len()),
+pub fn printed_check(text: &[u8], version: u64) -> String {
+    match compile(text, ROOM_FOR_EACH_BYTE * text.len(), version) {
+        Ok(compiled) => format!("compiled {} {}\n", compiled.set.policies.len(), compiled.table.len()),
         Err(refusal) => refusal.printed(),
     }
 }
 
 /// What `ask decide` prints: a line for each case. A text that is refused has one line and nothing else.
-pub fn printed_decide(text: &[u8], cases: &[Case]) -> String {
-    let compiled = match compile(text, ROOM_FOR_EACH_BYTE * text.len()) {
+pub fn printed_decide(text: &[u8], cases: &[Case], version: u64) -> String {
+    let compiled = match compile(text, ROOM_FOR_EACH_BYTE * text.len(), version) {
         Ok(compiled) => compiled,
         Err(refusal) => return refusal.printed(),
     };
@@ -78,8 +89,8 @@ pub fn requests_file(requests: &[Request]) -> Vec<u8> {
 
 /// What `ask tally` prints for `policy.txt`, `question.bin` and `requests.bin`: how many rows there are, then for each request and
 /// for the sums how many rows have each outcome, and how many each policy decides. A refusal is one line and nothing else.
-pub fn printed_tally(text: &[u8], question: &[u8], requests: &[u8]) -> String {
-    let compiled = match compile(text, ROOM_FOR_EACH_BYTE * text.len()) {
+pub fn printed_tally(text: &[u8], question: &[u8], requests: &[u8], version: u64) -> String {
+    let compiled = match compile(text, ROOM_FOR_EACH_BYTE * text.len(), version) {
         Ok(compiled) => compiled,
         Err(refusal) => return refusal.printed(),
     };
@@ -87,7 +98,7 @@ pub fn printed_tally(text: &[u8], question: &[u8], requests: &[u8]) -> String {
     match tally(text, &compiled.table, question, &read_requests(many, lent)) {
         Err(number) => Refusal::without_place(number).printed(),
         Ok(tally) => {
-            let policies = compiled.policies.len();
+            let policies = compiled.set.policies.len();
             let rows = read_question(question).map_or(0, |question| question.rows());
             let mut lines = format!("rows {}\n", rows);
             for (index, counts) in tally.requests.iter().enumerate() {
@@ -126,12 +137,52 @@ mod tests {
     #[test]
     fn each_case_has_a_line() {
         let text = b"permit(principal,action,resource);";
-        assert_eq!(printed_check(text), "compiled 1 20\n");
-        assert_eq!(printed_check(b"permit"), "refused 10 1 7 0\n");
+        assert_eq!(printed_check(text, 1), "compiled 1 20\n");
+        assert_eq!(printed_check(b"permit", 1), "refused 10 1 7 0\n");
         let cases =
             [case("person:K7", &[0, 0, 0]), case("dog:1", &[0, 0, 0]), case("system", &[]), case("tool:1", &[])];
-        assert_eq!(printed_decide(text, &cases), "decided 1 1 1\nrefused 21 0 0 0\ndecided 4 0 0\nrefused 24 0 0 0\n");
-        assert_eq!(printed_decide(b"permit", &cases), "refused 10 1 7 0\n");
+        for version in [1, 2] {
+            let decided = "decided 1 1 1\nrefused 21 0 0 0\ndecided 4 0 0\nrefused 24 0 0 0\n";
+            assert_eq!(printed_decide(text, &cases, version), decided);
+        }
+        assert_eq!(printed_decide(b"permit", &cases, 1), "refused 10 1 7 0\n");
+    }
+
+    #[test]
+    fn the_second_word_names_the_version() {
+        for (word, version) in
+            [("1", 1), ("2", 2), ("0", 0), ("9", 9), ("", 0), ("02", 0), ("22", 0), ("x", 0), ("²", 0), ("-", 0)]
+        {
+            assert_eq!(version_of_word(Some(word)), version, "{}", word);
+        }
+        assert_eq!(version_of_word(None), 1);
+    }
+
+    // Case I under `!`: satisfied under version 1, unsatisfied under version 2. Row 1 has env.a.
+    #[test]
+    fn answers_are_given_under_the_version() {
+        let text = b"permit(principal,action,resource)when{!(env.a!=true)};";
+        let question = [0, 0, 0, 1, 3, 1, b'a', 2, 0, 3, 1];
+        let request = b"tool:1\nteach\nshaft:A\n";
+        let requests = requests_file(&[crate::sheets::read_request(request)]);
+        let cases = [case("tool:1", &[0, 0, 0])];
+        let sheet = |version| crate::sheets::printed(text, &question, request, 60, version);
+        assert_eq!(printed_decide(text, &cases, 1), "decided 1 1 1\n");
+        assert_eq!(printed_decide(text, &cases, 2), "decided 3 0 0\n");
+        assert!(printed_tally(text, &question, &requests, 1)
+            .ends_with("sums\noutcome 1 2\noutcome 2 0\noutcome 3 0\noutcome 4 0\npolicy 1 2\n"));
+        assert!(printed_tally(text, &question, &requests, 2)
+            .ends_with("sums\noutcome 1 1\noutcome 2 0\noutcome 3 1\noutcome 4 0\npolicy 1 1\n"));
+        assert_eq!(sheet(1), "rows 2\n0 1 1 1\n1 1 1 1\nallowed 2\n");
+        assert_eq!(sheet(2), "rows 2\n1 1 1 1\nallowed 1\n");
+        for version in [0, 3, 257] {
+            let refused = "refused 30 0 0 0\n";
+            assert_eq!(printed_check(b"", version), refused);
+            assert_eq!(printed_decide(b":", &cases, version), refused);
+            assert_eq!(printed_tally(text, b"", b"", version), refused);
+            assert_eq!(sheet(version), refused);
+        }
+        assert_eq!(printed_check(text, 1), printed_check(text, 2));
     }
 
     // A question with one column of two candidates: env.a is absent, and true.
@@ -143,18 +194,18 @@ mod tests {
         let file = requests_file(&[of(b"tool:1"), of(b"system")]);
         assert_eq!(&file[..9], b"\x02\x06tool:1\x05");
         assert_eq!(
-            printed_tally(text, &question, &file),
+            printed_tally(text, &question, &file, 1),
             "rows 2\nrequest 1\noutcome 1 1\noutcome 2 1\noutcome 3 0\noutcome 4 0\npolicy 1 1\npolicy 2 1\n\
              request 2\noutcome 1 0\noutcome 2 0\noutcome 3 0\noutcome 4 2\npolicy 1 0\npolicy 2 0\n\
              sums\noutcome 1 1\noutcome 2 1\noutcome 3 0\noutcome 4 2\npolicy 1 1\npolicy 2 1\n"
         );
-        assert_eq!(printed_tally(b"", &question, &file[..1]), "refused 21 0 0 0\n");
-        assert_eq!(printed_tally(b"permit", &question, &file), "refused 10 1 7 0\n");
-        assert_eq!(printed_tally(text, &[0, 0, 0], &file), "refused 24 0 0 0\n");
-        assert_eq!(printed_tally(text, &question, b""), "refused 27 0 0 0\n");
+        assert_eq!(printed_tally(b"", &question, &file[..1], 1), "refused 21 0 0 0\n");
+        assert_eq!(printed_tally(b"permit", &question, &file, 1), "refused 10 1 7 0\n");
+        assert_eq!(printed_tally(text, &[0, 0, 0], &file, 1), "refused 24 0 0 0\n");
+        assert_eq!(printed_tally(text, &question, b"", 1), "refused 27 0 0 0\n");
         for many in [9, 300] {
             let file = requests_file(&vec![of(b"tool:1"); many]);
-            assert_eq!(printed_tally(text, &question, &file), "refused 27 0 0 0\n");
+            assert_eq!(printed_tally(text, &question, &file, 1), "refused 27 0 0 0\n");
         }
     }
 }

@@ -1,13 +1,13 @@
 //! Compiling: a rule text read into its policies by recursive descent, or its refusal (01, "The rule text", "The table"
-//! and "Refusal numbers").
+//! and "Refusal numbers"; 02, request 7).
 
 use crate::characters::{characters_of, is_utf8};
 use crate::numbers::Comparator;
 use crate::policies::{
     ActionPart, Attribute, Call, Condition, Conjunction, Disjunction, Effect, Literal, Operand, Policy, PrincipalPart,
-    ResourcePart, Root, Span, PRINCIPAL_TYPES, RESOURCE_TYPES,
+    ResourcePart, Root, Set, Span, Version, PRINCIPAL_TYPES, RESOURCE_TYPES,
 };
-use crate::table::{bytes_of, entries_of};
+use crate::table::{bytes_of, entries_of, recorded_version};
 use crate::tokens::{self, place_of, token_at, Token};
 
 /// 01, "Sizes": text 8,192 bytes.
@@ -26,7 +26,7 @@ const MOST_WILDCARDS: usize = 5;
 /// 01, "Sizes": conditions nest to 32 levels, the `when` braces are depth 1.
 const DEEPEST: usize = 32;
 
-/// 01, "Refusal numbers": the number and the place. 02, request 4: how many bytes the refused token has. Refusals 1 and 2
+/// 01, "Refusal numbers": the number and the place. 02, request 4: how many bytes the refused token has. Refusals 1, 2 and 30
 /// have place 0, 0 and length 0.
 #[derive(Clone, Copy, PartialEq, Eq, Debug)]
 pub struct Refusal {
@@ -48,22 +48,24 @@ impl Refusal {
     }
 }
 
-/// A text that compiles: its policies and the bytes of its table.
+/// A text that compiles: its policies with their version, and the bytes of its table.
 #[derive(PartialEq, Debug)]
 pub struct Compiled {
-    pub policies: Vec<Policy>,
+    pub set: Set,
     pub table: Vec<u8>,
 }
 
-/// Compile a text for a table with room for so many bytes. 01, "Refusal numbers": 1 and 2 come first.
-pub fn compile(text: &[u8], room: usize) -> Result<Compiled, Refusal> {
+/// Compile a text for a table with room for so many bytes, under the version of this number. 02, request 7: 30 comes before 1;
+/// 01, "Refusal numbers": then 1 and 2, before any token's.
+pub fn compile(text: &[u8], room: usize, version: u64) -> Result<Compiled, Refusal> {
+    let version = Version::named(version).ok_or_else(|| Refusal::without_place(30))?;
     refuse_if_too_long(text)?;
     if room < ROOM_FOR_EACH_BYTE * text.len() {
         return Err(Refusal::without_place(2));
     }
     let policies = policies_of(text)?;
-    let table = bytes_of(&entries_of(&policies));
-    Ok(Compiled { policies, table })
+    let table = bytes_of(&entries_of(&policies, version));
+    Ok(Compiled { set: Set::of(policies, version), table })
 }
 
 fn refuse_if_too_long(text: &[u8]) -> Result<(), Refusal> {
@@ -74,27 +76,30 @@ fn refuse_if_too_long(text: &[u8]) -> Result<(), Refusal> {
     }
 }
 
-/// 01, "Refusal numbers", 20: the policies, unless the text gets a refusal but 2 or the table doesn't begin with its
-/// compiled bytes.
-pub fn policies_said_by(text: &[u8], table: &[u8]) -> Option<Vec<Policy>> {
+/// 01, "Refusal numbers", 20: the policies, unless the text gets a refusal but 2 or the table doesn't begin with its compiled
+/// bytes; 02, request 7: under the version that the table records. For a text without policies any table will do.
+pub fn set_said_by(text: &[u8], table: &[u8]) -> Option<Set> {
     let policies = policies_of(text).ok()?;
-    let compiled = bytes_of(&entries_of(&policies));
-    if table.starts_with(&compiled) {
-        Some(policies)
+    if policies.is_empty() {
+        return Some(Set { policies, version: None });
+    }
+    let version = recorded_version(table)?;
+    if table.starts_with(&bytes_of(&entries_of(&policies, version))) {
+        Some(Set::of(policies, version))
     } else {
         None
     }
 }
 
-/// The table of a text, or no bytes if the text does not compile.
-pub fn table_of(text: &[u8]) -> Vec<u8> {
+/// The table of a text under a version, or no bytes if the text does not compile.
+pub fn table_of(text: &[u8], version: Version) -> Vec<u8> {
     match policies_of(text) {
-        Ok(policies) => bytes_of(&entries_of(&policies)),
+        Ok(policies) => bytes_of(&entries_of(&policies, version)),
         Err(_) => Vec::new(),
     }
 }
 
-/// A text is zero or more policies. Every refusal but 2 is given here.
+/// A text is zero or more policies. Every refusal but 2 and 30 is given here.
 pub fn policies_of(text: &[u8]) -> Result<Vec<Policy>, Refusal> {
     refuse_if_too_long(text)?;
     let mut reader = Reader { text, next: token_at(text, 0) };
@@ -535,9 +540,11 @@ mod tests {
     use super::*;
 
     const P: &str = "permit(principal,action,resource)";
+    /// What a text without policies compiles to: no version, and no bytes.
+    const EMPTY: Compiled = Compiled { set: Set { policies: Vec::new(), version: None }, table: Vec::new() };
 
     fn refusal(text: &[u8]) -> Option<(u8, usize, usize)> {
-        match compile(text, 8 * text.len()) {
+        match compile(text, 8 * text.len(), 1) {
             Ok(_) => None,
             Err(refusal) => Some((refusal.number, refusal.line, refusal.column)),
         }
@@ -564,7 +571,7 @@ mod tests {
 
     #[test]
     fn the_checked_examples_a_to_f() {
-        assert_eq!(compile(b"", 0), Ok(Compiled { policies: vec![], table: vec![] }));
+        assert_eq!(compile(b"", 0, 1), Ok(EMPTY));
         assert_eq!(policies_of(format!("{};", P).as_bytes()).unwrap().len(), 1);
         for (rest, number, column, length) in [
             ("", 10, 34, 0),
@@ -587,7 +594,7 @@ mod tests {
     // 01, "Refusal numbers": 1 and 2 come first, with place 0, 0.
     #[test]
     fn the_text_and_the_room_come_first() {
-        let numbers = |text: &[u8], room: usize| compile(text, room).map(|_| ()).map_err(|refusal| refusal.number);
+        let numbers = |text: &[u8], room: usize| compile(text, room, 1).map(|_| ()).map_err(|refusal| refusal.number);
         assert_eq!(numbers(&[b' '; 8_192], 65_536), Ok(()));
         assert_eq!(numbers(&[b' '; 8_192], 65_535), Err(2));
         assert_eq!(numbers(&[b' '; 8_193], 0), Err(1));
@@ -595,8 +602,62 @@ mod tests {
         assert_eq!(numbers(b":", 7), Err(2));
         assert_eq!(numbers(b":", 8), Err(4));
         assert_eq!(numbers(b"", 0), Ok(()));
-        assert_eq!(compile(b" ", 7), Err(Refusal { number: 2, line: 0, column: 0, length: 0 }));
-        assert_eq!(compile(b" \n", 16), Ok(Compiled { policies: vec![], table: vec![] }));
+        assert_eq!(compile(b" ", 7, 1), Err(Refusal { number: 2, line: 0, column: 0, length: 0 }));
+        assert_eq!(compile(b" \n", 16, 1), Ok(EMPTY));
+    }
+
+    // 02, request 7: 30 before 1, whatever else is wrong; a number of any width, and only 1 and 2 are versions.
+    #[test]
+    fn the_version_comes_before_all() {
+        let good = format!("{};", P);
+        for text in [&b""[..], b":", b"permit", good.as_bytes(), &[b' '; 8_193]] {
+            for room in [0, 8 * text.len()] {
+                for version in [0, 3, 4, 256, 257, 258, (1 << 32) + 1, (1 << 32) + 2, 1 << 63, u64::MAX] {
+                    let expected = Refusal { number: 30, line: 0, column: 0, length: 0 };
+                    assert_eq!(compile(text, room, version), Err(expected), "{}", version);
+                }
+                for version in [1, 2] {
+                    assert_ne!(compile(text, room, version).map_err(|refusal| refusal.number), Err(30));
+                }
+            }
+        }
+        for (version, kind) in [(1, 29), (2, 36)] {
+            let compiled = compile(good.as_bytes(), 8 * good.len(), version).unwrap();
+            assert_eq!(compiled.set.version.map(Version::number), Some(version));
+            assert_eq!((compiled.table[0], compiled.table.len()), (kind, 20));
+            assert_eq!(compile(b" ", 8, version), Ok(EMPTY));
+            assert_eq!(compile(b"permit", 48, version).unwrap_err().number, 10);
+        }
+    }
+
+    // 02, request 7: the table records the version; one that records neither, or two, is not the text's.
+    #[test]
+    fn a_table_is_good_under_the_version_that_it_records() {
+        let text = format!("{};forbid(principal is tool,action,resource)when{{env.a==1}};", P);
+        let text = text.as_bytes();
+        let version_of = |table: &[u8]| set_said_by(text, table).map(|set| set.version.unwrap().number());
+        let [one, two] = Version::ALL.map(|version| table_of(text, version));
+        for (number, table) in [(1, &one), (2, &two)] {
+            assert_eq!(version_of(table), Some(number));
+            assert_eq!(version_of(&[table, &b"more"[..]].concat()), Some(number));
+            assert_eq!(version_of(&table[..table.len() - 1]), None);
+            for kind in (0..=u8::MAX).filter(|kind| *kind != table[0]) {
+                let mut other = table.clone();
+                other[0] = kind;
+                assert_eq!(version_of(&other), None, "{}", kind);
+                other[0] = table[0];
+                other[20] = kind;
+                assert_eq!(version_of(&other).is_some(), kind == table[20], "{}", kind);
+            }
+        }
+        for table in [&[][..], &[29], &[36], &[36, 0, 0, 0]] {
+            assert_eq!(version_of(table), None);
+        }
+        for table in [&[][..], &one, &two, &[0], &[38; 40]] {
+            for empty in [&b""[..], b" \n"] {
+                assert_eq!(set_said_by(empty, table), Some(EMPTY.set));
+            }
+        }
     }
 
     // 3 to 6 are lower than every refusal of the grammar.
@@ -1047,7 +1108,7 @@ mod tests {
             }
             text.push_str("};");
             text.push_str(&" ".repeat(8_192 - text.len()));
-            let compiled = compile(text.as_bytes(), 65_536).unwrap();
+            let compiled = compile(text.as_bytes(), 65_536, 1).unwrap();
             let members = text.matches("1<1").count();
             assert_eq!(compiled.table.len(), 5 * (4 + 3 * members + members - 1));
         }
@@ -1065,17 +1126,17 @@ mod tests {
     #[test]
     fn the_table_must_begin_with_the_compiled_bytes() {
         let text = format!("{};", P);
-        let mut table = compile(text.as_bytes(), 1_000).unwrap().table;
-        let says = |table: &[u8]| policies_said_by(text.as_bytes(), table).is_some();
+        let mut table = compile(text.as_bytes(), 1_000, 1).unwrap().table;
+        let says = |table: &[u8]| set_said_by(text.as_bytes(), table).is_some();
         assert!(says(&table));
         assert!(!says(&table[..table.len() - 1]));
         table.push(9);
         assert!(says(&table));
         table[3] ^= 1;
         assert!(!says(&table));
-        assert!(policies_said_by(b"", b"").is_some());
-        assert!(policies_said_by(P.as_bytes(), &[0; 100]).is_none());
-        assert!(policies_said_by(&[b' '; 8_193], b"").is_none());
+        assert!(set_said_by(b"", b"").is_some());
+        assert!(set_said_by(P.as_bytes(), &[0; 100]).is_none());
+        assert!(set_said_by(&[b' '; 8_193], b"").is_none());
     }
 
     // The tree of one condition of each form, by hand.

@@ -1,12 +1,12 @@
-//! Deciding: requests, the truth of conditions, and the four outcomes (01, "Deciding").
+//! Deciding: requests, the truth of conditions under each version, and the four outcomes (01, "Deciding"; 02, request 7).
 
 use crate::bags::{path_without_blanks, read_bag, Content, Value};
-use crate::compile::policies_said_by;
+use crate::compile::set_said_by;
 use crate::numbers::{value_of, Comparator};
 use crate::patterns::like;
 use crate::policies::{
-    ActionPart, Attribute, Call, Condition, Disjunction, Effect, Literal, Operand, Policy, PrincipalPart, ResourcePart,
-    Root, Span, PRINCIPAL_TYPES, RESOURCE_TYPES,
+    ActionPart, Attribute, Call, Condition, Conjunction, Disjunction, Effect, Literal, Operand, Policy, PrincipalPart,
+    ResourcePart, Root, Set, Span, Version, PRINCIPAL_TYPES, RESOURCE_TYPES,
 };
 
 /// 01, "Deciding": the outcomes.
@@ -71,6 +71,16 @@ pub struct Decision {
 /// The decision about a request of the system.
 pub const SYSTEM_DECISION: Decision = Decision { outcome: SYSTEM, policy: 0, mark: 0 };
 
+/// The value of an attribute by root byte and path.
+pub type LookUp<'a> = dyn Fn(u8, &[u8]) -> Option<&'a Value> + 'a;
+
+/// 02, request 7: what makes a policy unsatisfied under version 2, the absent attribute that an operator met.
+#[derive(Clone, Copy, PartialEq, Eq, Debug)]
+pub struct Missing(pub Attribute);
+
+/// What a condition comes to: yes, no, or missing. Under version 1 none is missing.
+pub type Truth = Result<bool, Missing>;
+
 /// Whether a mark says that the policy of this number, from 1, is satisfied.
 pub fn is_marked(mark: u64, policy: usize) -> bool {
     mark >> (policy - 1) & 1 == 1
@@ -86,17 +96,24 @@ pub fn decide(text: &[u8], table: &[u8], bag: &[u8], request: Request) -> Result
         return Err(number);
     }
     let bag = read_bag(bag).ok_or(24)?;
-    let policies = policies_said_by(text, table).ok_or(20)?;
-    let look_up = |root: u8, path: &[u8]| bag.look_up(root, path);
-    Ok(Facts { text, request, look_up: &look_up }.decision(&policies))
+    let set = set_said_by(text, table).ok_or(20)?;
+    Ok(decision_of_set(text, &set, request, &|root, path| bag.look_up(root, path)))
+}
+
+/// The decision of a text's set. A text without policies has no version, and nothing is satisfied.
+pub fn decision_of_set<'a>(text: &'a [u8], set: &Set, request: Request<'a>, look_up: &'a LookUp<'a>) -> Decision {
+    match set.version {
+        Some(version) => Facts { text, version, request, look_up }.decision(&set.policies),
+        None => Decision { outcome: NOTHING_SATISFIED, policy: 0, mark: 0 },
+    }
 }
 
 /// What a decision depends on beside the policies. The text holds their paths, strings and numbers.
 pub struct Facts<'a> {
     pub text: &'a [u8],
+    pub version: Version,
     pub request: Request<'a>,
-    /// The value of an attribute by root byte and path.
-    pub look_up: &'a dyn Fn(u8, &[u8]) -> Option<&'a Value>,
+    pub look_up: &'a LookUp<'a>,
 }
 
 impl Facts<'_> {
@@ -116,10 +133,18 @@ impl Facts<'_> {
 
     /// A policy is satisfied if its target parts match and its condition, if any, is true.
     pub fn is_satisfied(&self, policy: &Policy) -> bool {
-        self.principal_matches(&policy.principal)
+        self.policy(policy) == Ok(true)
+    }
+
+    /// What a policy comes to: no where its target does not match, else what its condition does.
+    pub fn policy(&self, policy: &Policy) -> Truth {
+        let matches = self.principal_matches(&policy.principal)
             && self.action_matches(&policy.action)
-            && self.resource_matches(&policy.resource)
-            && policy.condition.as_ref().map_or(true, |condition| self.disjunction(condition))
+            && self.resource_matches(&policy.resource);
+        match &policy.condition {
+            Some(condition) if matches => self.disjunction(condition),
+            _ => Ok(matches),
+        }
     }
 
     /// `is` compares the text before the first colon.
@@ -146,47 +171,75 @@ impl Facts<'_> {
         }
     }
 
-    /// One of its conjunctions is true: all conditions of that.
-    pub fn disjunction(&self, disjunction: &Disjunction) -> bool {
-        disjunction
-            .conjunctions
-            .iter()
-            .any(|conjunction| conjunction.conditions.iter().all(|condition| self.condition(condition)))
+    /// One of its conjunctions is true. 02, request 7: they are met from left to right, up to the first that is.
+    pub fn disjunction(&self, disjunction: &Disjunction) -> Truth {
+        for conjunction in &disjunction.conjunctions {
+            if self.conjunction(conjunction)? {
+                return Ok(true);
+            }
+        }
+        Ok(false)
     }
 
-    /// An absent attribute makes its comparison, `like`, `in` or contains false; so does a kind mismatch.
-    pub fn condition(&self, condition: &Condition) -> bool {
+    /// All its conditions are true. They are met from left to right, up to the first that is false.
+    pub fn conjunction(&self, conjunction: &Conjunction) -> Truth {
+        for condition in &conjunction.conditions {
+            if !self.condition(condition)? {
+                return Ok(false);
+            }
+        }
+        Ok(true)
+    }
+
+    /// A condition's truth. 01, "Deciding": an absent attribute makes its comparison, `like`, `in` or contains false, and `!` then
+    /// gives true; 02, request 7: under version 2 the whole condition is missing.
+    pub fn condition(&self, condition: &Condition) -> Truth {
         match condition {
-            Condition::Compare { left, comparator, right } => match (self.operand(left), self.operand(right)) {
-                (Some(left), Some(right)) => compares(&left, *comparator, &right),
-                _ => false,
+            Condition::Not(condition) => Ok(!self.condition(condition)?),
+            Condition::Brackets(disjunction) => self.disjunction(disjunction),
+            // Only the chosen branch is met.
+            Condition::If { condition, then_part, else_part } => {
+                self.condition(if self.condition(condition)? { then_part } else { else_part })
+            }
+            Condition::Flag(flag) => Ok(*flag),
+            _ => match (self.version, self.operator(condition)) {
+                (Version::One, Err(Missing(_))) => Ok(false),
+                (_, truth) => truth,
             },
-            Condition::Like { operand, pattern } => match self.operand(operand) {
-                Some(Content::String(string)) => like(self.inside(*pattern), &string),
+        }
+    }
+
+    /// What an operator says of its operands. It meets them first, the left one and then the right one, whatever their kinds are;
+    /// a kind mismatch is false. `has` is the only one that no absent attribute stops.
+    fn operator(&self, condition: &Condition) -> Truth {
+        let holds = match condition {
+            Condition::Compare { left, comparator, right } => {
+                compares(&self.operand(left)?, *comparator, &self.operand(right)?)
+            }
+            Condition::Like { operand, pattern } => match self.operand(operand)? {
+                Content::String(string) => like(self.inside(*pattern), &string),
                 _ => false,
             },
             // Equal to some literal of the same kind.
-            Condition::InList { operand, list } => match self.operand(operand) {
-                Some(value) => list.iter().any(|literal| compares(&value, Comparator::Equal, &self.literal(literal))),
-                None => false,
-            },
+            Condition::InList { operand, list } => {
+                let value = self.operand(operand)?;
+                list.iter().any(|literal| compares(&value, Comparator::Equal, &self.literal(literal)))
+            }
             // A string among a list of strings.
-            Condition::InAttribute { operand, attribute } => match (self.operand(operand), self.attribute(attribute)) {
-                (Some(Content::String(string)), Some(Content::List(strings))) => strings.contains(&string),
+            Condition::InAttribute { operand, attribute } => match (self.operand(operand)?, self.met(attribute)?) {
+                (Content::String(string), Content::List(strings)) => strings.contains(&string),
                 _ => false,
             },
-            Condition::Contains { attribute, call, list } => match self.attribute(attribute) {
-                Some(Content::List(strings)) => self.contains(&strings, *call, list),
+            Condition::Contains { attribute, call, list } => match self.met(attribute)? {
+                Content::List(strings) => self.contains(&strings, *call, list),
                 _ => false,
             },
             Condition::Has(attribute) => self.attribute(attribute).is_some(),
-            Condition::Not(condition) => !self.condition(condition),
-            Condition::Brackets(disjunction) => self.disjunction(disjunction),
-            Condition::If { condition, then_part, else_part } => {
-                self.condition(if self.condition(condition) { then_part } else { else_part })
+            Condition::Not(_) | Condition::Brackets(_) | Condition::If { .. } | Condition::Flag(_) => {
+                unreachable!("no operator")
             }
-            Condition::Flag(flag) => *flag,
-        }
+        };
+        Ok(holds)
     }
 
     /// containsAll: each literal is a string of the list; containsAny: one is.
@@ -201,12 +254,17 @@ impl Facts<'_> {
         }
     }
 
-    /// The operand's value; nothing if it is an absent attribute.
-    fn operand(&self, operand: &Operand) -> Option<Content> {
+    /// The operand's value, unless it is an absent attribute.
+    fn operand(&self, operand: &Operand) -> Result<Content, Missing> {
         match operand {
-            Operand::Attribute(attribute) => self.attribute(attribute),
-            Operand::Literal(literal) => Some(self.literal(literal)),
+            Operand::Attribute(attribute) => self.met(attribute),
+            Operand::Literal(literal) => Ok(self.literal(literal)),
         }
+    }
+
+    /// The value of an attribute that an operator meets.
+    fn met(&self, attribute: &Attribute) -> Result<Content, Missing> {
+        self.attribute(attribute).ok_or(Missing(*attribute))
     }
 
     pub fn literal(&self, literal: &Literal) -> Content {
@@ -259,8 +317,12 @@ mod tests {
     const P: &str = "permit(principal,action,resource)";
     const REQUEST: Request = Request { subject: b"person:K7", action: b"teach", resource: b"shaft:A:1" };
 
+    fn table_under(text: &str, version: Version) -> Vec<u8> {
+        compile(text.as_bytes(), 8 * text.len(), version.number()).unwrap().table
+    }
+
     fn table_of(text: &str) -> Vec<u8> {
-        compile(text.as_bytes(), 8 * text.len()).unwrap().table
+        table_under(text, Version::One)
     }
 
     /// A bag with these values of principal.
@@ -290,20 +352,199 @@ mod tests {
         (decision.outcome, decision.policy)
     }
 
+    /// Whether a permit with this condition is satisfied under a version.
+    fn is_satisfied_under(version: Version, condition: &str, bag: &[u8]) -> bool {
+        let text = format!("{}when{{{}}};", P, condition);
+        let decision = decide(text.as_bytes(), &table_under(&text, version), bag, REQUEST).unwrap();
+        let Decision { outcome, policy, mark } = decision;
+        assert!((outcome, policy, mark) == (1, 1, 1) || (outcome, policy, mark) == (3, 0, 0));
+        outcome == ALLOWED
+    }
+
     fn is_true_in(condition: &str, bag: &[u8]) -> bool {
-        let decision = decided(&format!("{}when{{{}}};", P, condition), bag, REQUEST);
-        assert!(decision == (1, 1) || decision == (3, 0));
-        decision == (1, 1)
+        is_satisfied_under(Version::One, condition, bag)
     }
 
     fn is_true(condition: &str) -> bool {
         is_true_in(condition, &rich_bag())
     }
 
+    /// Whether it is satisfied under version 1, and under version 2.
+    fn under_both(condition: &str) -> (bool, bool) {
+        let under = |version| is_satisfied_under(version, condition, &rich_bag());
+        (under(Version::One), under(Version::Two))
+    }
+
     #[test]
     fn cases_g_and_h() {
-        assert!(is_true("true || false && false"));
-        assert!(!is_true("if true then true else true && false"));
+        for version in Version::ALL {
+            assert!(is_satisfied_under(version, "true || false && false", &rich_bag()));
+            assert!(!is_satisfied_under(version, "if true then true else true && false", &rich_bag()));
+        }
+    }
+
+    /// Conditions that meet an absent attribute.
+    const MISSING: [&str; 24] = [
+        "principal.a != \"x\"",
+        "principal.a == principal.a",
+        "principal.a == 1",
+        "1 < principal.a",
+        "principal.n == principal.a",
+        "principal.a >= principal.n",
+        "principal.a like \"*\"",
+        "principal.a in [1]",
+        "\"own\" in principal.a",
+        "principal.a in principal.l",
+        "principal.a in principal.b",
+        "principal.s in principal.a",
+        "principal.a.containsAll([\"x\"])",
+        "principal.a.containsAny([\"x\"])",
+        "resource.s==\"own\"",
+        "env.s==\"own\"",
+        "principal.z == 0",
+        "principal.z.a.b == 0",
+        "principal.S == \"own\"",
+        // Every operator meets both operands, though the other one mismatches anyway.
+        "1 in principal.a",
+        "principal.n in principal.a",
+        "principal.a in principal.s",
+        "principal.l == principal.a",
+        "principal.a > principal.t",
+    ];
+
+    // 02, request 7: under version 2 case I is unsatisfied both ways, and so is every other operator but `has`.
+    #[test]
+    fn case_i_under_version_2() {
+        for missing in MISSING {
+            assert_eq!(under_both(missing), (false, false), "{}", missing);
+            for (before, after) in [
+                ("!", ""),
+                ("!(", ")"),
+                ("!!!", ""),
+                ("!(true&&", ")"),
+                ("!(false||", ")"),
+                ("!if true then ", " else true"),
+            ] {
+                let condition = [before, missing, after].concat();
+                assert_eq!(under_both(&condition), (true, false), "{}", condition);
+            }
+            let twice = format!("!!({})", missing);
+            assert_eq!(under_both(&twice), (false, false), "{}", twice);
+        }
+    }
+
+    // 02, request 7: parts are met from left to right; `&&` stops at false, `||` at true, `if` meets only the chosen branch.
+    #[test]
+    fn parts_that_are_not_met_do_no_harm() {
+        for (condition, expected) in [
+            ("true || principal.a == 1", true),
+            ("!(false && principal.a == 1)", true),
+            ("false && principal.a == 1 || true", true),
+            ("if true then true else principal.a == 1", true),
+            ("if false then principal.a == 1 else true", true),
+            ("!(if true then false else principal.a == 1)", true),
+            ("principal.n == 3 || principal.a == 1 || principal.b == 1", true),
+            ("!(principal.n == 4 && principal.a == 1 && principal.b == 1)", true),
+            ("principal has a && principal.a == 1 || true", true),
+            ("!(principal has a && principal.a == 1)", true),
+            ("!(principal has a) || principal.a == 1", true),
+            ("if principal has a then principal.a == 1 else true", true),
+            ("(false && principal.a == 1) || (true || principal.a == 1)", true),
+            ("false && principal.a == 1", false),
+            ("if true then false else principal.a == 1", false),
+        ] {
+            assert_eq!(under_both(condition), (expected, expected), "{}", condition);
+        }
+    }
+
+    // A left part that is absent beats a later false or true: the whole condition fails.
+    #[test]
+    fn a_part_that_is_met_fails_the_whole() {
+        for condition in [
+            "principal.a == 1 || true",
+            "false || principal.a == 1 || true",
+            "!(principal.a == 1 && false)",
+            "!(true && principal.a == 1 && false)",
+            "!(principal.a == 1) || true",
+            "true && !(principal.a == 1) && true",
+            "(principal.a == 1 || true) && true",
+            "true && principal.a == 1 || true",
+            "if principal.a == 1 then false else true",
+            "if principal.a == 1 then true else true",
+            "if !(principal.a == 1) then true else true",
+            "if true then !(principal.a == 1) else false",
+            "if false then false else !(principal.a == 1)",
+            "!(if true then principal.a == 1 else true)",
+            "principal has a || !(principal.a == 1)",
+            "if principal.n == principal.a then false else true",
+        ] {
+            assert_eq!(under_both(condition), (true, false), "{}", condition);
+        }
+    }
+
+    // A kind mismatch stays false, `has` never misses, action.name is never absent, and a string that is not UTF-8 is there.
+    #[test]
+    fn what_is_not_absent_is_decided_alike() {
+        for (condition, expected) in [
+            ("principal.s == 1", false),
+            ("principal.n < \"a\"", false),
+            ("principal.l == principal.l", false),
+            ("principal.n like \"*\"", false),
+            ("1 in principal.l", false),
+            ("principal.s in principal.n", false),
+            ("principal.s.containsAny([\"own\"])", false),
+            ("principal.t in [1]", false),
+            ("principal has a", false),
+            ("resource has s", false),
+            ("action has name", true),
+            ("action.name == \"teach\"", true),
+            ("action.name like \"read\"", false),
+            ("action.name > 1", false),
+            ("action.name.containsAll([\"teach\"])", false),
+            ("\"own\" in action.name", false),
+        ] {
+            assert_eq!(under_both(condition), (expected, expected), "{}", condition);
+            let negated = format!("!{}", condition);
+            assert_eq!(under_both(&negated), (!expected, !expected), "{}", negated);
+        }
+        let bag = bag_of(&[("s", string_value(b"own\xFF"))]);
+        for version in Version::ALL {
+            assert!(!is_satisfied_under(version, "principal.s like \"*\"", &bag));
+            assert!(is_satisfied_under(version, "!(principal.s like \"*\")", &bag));
+        }
+    }
+
+    // By hand: policies 1 and 4 are satisfied whatever is absent; 2 and 3 only under version 1, and 3 forbids.
+    #[test]
+    fn a_decision_reads_the_recorded_version() {
+        let text = "permit(principal,action,resource)when{!(principal has a)};\
+            permit(principal,action,resource)when{!(principal.a==1)};\
+            forbid(principal,action,resource)when{principal.a==1||true};\
+            permit(principal,action,resource);";
+        let under = |version| decide(text.as_bytes(), &table_under(text, version), &rich_bag(), REQUEST);
+        assert_eq!(under(Version::One), Ok(Decision { outcome: 2, policy: 3, mark: 0b1111 }));
+        assert_eq!(under(Version::Two), Ok(Decision { outcome: 1, policy: 1, mark: 0b1001 }));
+        let mut mixed = table_under(text, Version::Two);
+        mixed[0] = 29;
+        assert_eq!(decide(text.as_bytes(), &mixed, &rich_bag(), REQUEST), Err(20));
+        assert_eq!(decide(text.as_bytes(), &mixed, &[], REQUEST), Err(24));
+        for table in [&[][..], &[29], &[36], &[0; 9]] {
+            assert_eq!(decide(b" ", table, &rich_bag(), REQUEST), Ok(Decision { outcome: 3, policy: 0, mark: 0 }));
+        }
+    }
+
+    // The absent attribute that is met first is the one that is told.
+    #[test]
+    fn what_is_missing_is_told() {
+        let text = format!("{}when{{true && !(principal.b in principal.a) || principal.c == 1}};", P);
+        let policies = crate::compile::policies_of(text.as_bytes()).unwrap();
+        let condition = policies[0].condition.as_ref().unwrap();
+        let truth = |version| {
+            let facts = Facts { text: text.as_bytes(), version, request: REQUEST, look_up: &|_, _| None };
+            facts.disjunction(condition).map_err(|Missing(attribute)| &text[attribute.path.start..attribute.path.end])
+        };
+        assert_eq!(truth(Version::One), Ok(true));
+        assert_eq!(truth(Version::Two), Err("b"));
     }
 
     #[test]

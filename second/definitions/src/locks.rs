@@ -446,7 +446,8 @@ impl Permit {
             && self.tests.iter().all(|test| test.holds(bag))
     }
 
-    /// What is decided where this permit is the whole text: 01, "Deciding", by what the lock means.
+    /// What is decided where this permit is the whole text: 01, "Deciding", by what the lock means. Under either version: a permit's
+    /// tests are joined by `&&` alone, so that it is unsatisfied where one meets an absent attribute, false or missing.
     pub fn decide(&self, bag: &[u8], request: Request) -> Result<Decision, u8> {
         if request.is_of_system() {
             return Ok(SYSTEM_DECISION);
@@ -858,7 +859,7 @@ mod tests {
         ] {
             let permit = of_lock(lock.as_bytes()).unwrap();
             let text = permit.text();
-            let table = compile(&text, 8 * text.len()).unwrap().table;
+            let tables = [1, 2].map(|version| compile(&text, 8 * text.len(), version).unwrap().table);
             for (bag, expected) in [(&full, in_full), (&mixed, false), (&empty, false)] {
                 for (action, resource, fits) in [
                     ("teach", "shaft:A", true),
@@ -875,7 +876,9 @@ mod tests {
                         "{}",
                         lock
                     );
-                    assert_eq!(decide(&text, &table, bag, request), decision);
+                    for table in &tables {
+                        assert_eq!(decide(&text, table, bag, request), decision);
+                    }
                 }
             }
         }

@@ -14,6 +14,46 @@ pub struct Span {
     pub end: usize,
 }
 
+/// 02, request 7: the versions of the rules, which differ in what an absent attribute does.
+#[derive(Clone, Copy, PartialEq, Eq, Debug)]
+pub enum Version {
+    One,
+    Two,
+}
+
+impl Version {
+    /// Both versions, in their order.
+    pub const ALL: [Version; 2] = [Version::One, Version::Two];
+
+    /// The version that a number names: only 1 and 2 name one.
+    pub fn named(number: u64) -> Option<Version> {
+        Version::ALL.into_iter().find(|version| version.number() == number)
+    }
+
+    /// The version's number.
+    pub fn number(self) -> u64 {
+        match self {
+            Version::One => 1,
+            Version::Two => 2,
+        }
+    }
+}
+
+/// The policies of a text, and the version that its table records. A text without policies has no version.
+#[derive(Default, PartialEq, Debug)]
+pub struct Set {
+    pub policies: Vec<Policy>,
+    pub version: Option<Version>,
+}
+
+impl Set {
+    /// The set of these policies under this version.
+    pub fn of(policies: Vec<Policy>, version: Version) -> Set {
+        let version = if policies.is_empty() { None } else { Some(version) };
+        Set { policies, version }
+    }
+}
+
 /// A policy: effect, target parts, and the disjunction after `when`, if there is one.
 #[derive(PartialEq, Debug)]
 pub struct Policy {

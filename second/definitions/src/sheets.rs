@@ -1,9 +1,9 @@
 //! Sheets: the listed rows of a question, page by page, and what the sheet program prints (01, "The sheet" and "Checked
 //! examples"; 02, request 6).
 
-use crate::compile::{compile, policies_said_by, Refusal, ROOM_FOR_EACH_BYTE};
-use crate::deciding::{Decision, Facts, Request, ALLOWED, SYSTEM, SYSTEM_DECISION};
-use crate::policies::Policy;
+use crate::compile::{compile, set_said_by, Refusal, ROOM_FOR_EACH_BYTE};
+use crate::deciding::{decision_of_set, Decision, Request, ALLOWED, SYSTEM, SYSTEM_DECISION};
+use crate::policies::Set;
 use crate::questions::{read_question, Question};
 
 /// A listed row is 14 bytes.
@@ -41,17 +41,17 @@ pub fn write_page(
     if start_row > question.rows() {
         return Err(26);
     }
-    let mut policies = Vec::new();
+    let mut set = Set::default();
     if !request.is_of_system() {
         if let Some(number) = request.refusal() {
             return Err(number);
         }
-        policies = policies_said_by(text, table).ok_or(20)?;
+        set = set_said_by(text, table).ok_or(20)?;
     }
     let mut room = lent[named_byte..].chunks_exact_mut(ROW_BYTES);
     let mut written = 0;
     for row in start_row..question.rows() {
-        let decision = decision_of_row(text, &policies, &question, request, row);
+        let decision = decision_of_row(text, &set, &question, request, row);
         if decision.outcome == ALLOWED || decision.outcome == SYSTEM {
             match room.next() {
                 None => return Ok(Page { written, next: row }),
@@ -64,19 +64,12 @@ pub fn write_page(
 }
 
 /// A row's decision: that over the base with each column's attribute set to its choice or removed.
-pub fn decision_of_row(
-    text: &[u8],
-    policies: &[Policy],
-    question: &Question,
-    request: Request,
-    row: usize,
-) -> Decision {
+pub fn decision_of_row(text: &[u8], set: &Set, question: &Question, request: Request, row: usize) -> Decision {
     if request.is_of_system() {
         return SYSTEM_DECISION;
     }
     let choices = question.choices_of(row);
-    let look_up = |root: u8, path: &[u8]| question.look_up(&choices, root, path);
-    Facts { text, request, look_up: &look_up }.decision(policies)
+    decision_of_set(text, set, request, &|root, path| question.look_up(&choices, root, path))
 }
 
 /// The row number (4 bytes, little-endian), outcome, policy, and the mark (8 bytes, little-endian).
@@ -103,10 +96,11 @@ pub fn read_request(bytes: &[u8]) -> Request<'_> {
     Request { subject: line(), action: line(), resource: line() }
 }
 
-/// What the sheet program prints for `policy.txt`, `question.bin` and `request.txt`, with pages of so many bytes. A refusal
-/// is one line and nothing else; one that is not of compiling has line, column and length 0.
-pub fn printed(text: &[u8], question: &[u8], request: &[u8], page_bytes: usize) -> String {
-    let compiled = match compile(text, ROOM_FOR_EACH_BYTE * text.len()) {
+/// What the sheet program prints for `policy.txt`, `question.bin` and `request.txt`, with pages of so many bytes; it is version 1,
+/// and `ask sheet` prints the same under another. A refusal is one line and nothing else; one that is not of compiling has line,
+/// column and length 0.
+pub fn printed(text: &[u8], question: &[u8], request: &[u8], page_bytes: usize, version: u64) -> String {
+    let compiled = match compile(text, ROOM_FOR_EACH_BYTE * text.len(), version) {
         Ok(compiled) => compiled,
         Err(refusal) => return refusal.printed(),
     };
@@ -144,7 +138,7 @@ mod tests {
     const REQUEST: &[u8] = b"person:K7\nteach\nshaft:A\n";
 
     fn table_of(text: &str) -> Vec<u8> {
-        compile(text.as_bytes(), 8 * text.len()).unwrap().table
+        compile(text.as_bytes(), 8 * text.len(), 1).unwrap().table
     }
 
     /// A page of the example, over lent bytes that are all 99.
@@ -159,24 +153,24 @@ mod tests {
     #[test]
     fn the_worked_example_is_printed() {
         for page_bytes in [14, 15, 28, 1_000] {
-            let lines = printed(EXAMPLE.as_bytes(), &example_question(), REQUEST, page_bytes);
+            let lines = printed(EXAMPLE.as_bytes(), &example_question(), REQUEST, page_bytes, 1);
             assert_eq!(lines, "rows 9\n3 1 1 1\n4 1 1 1\nallowed 2\n");
         }
-        assert_eq!(printed(EXAMPLE.as_bytes(), &example_question(), REQUEST, 13), "refused 25 0 0 0\n");
+        assert_eq!(printed(EXAMPLE.as_bytes(), &example_question(), REQUEST, 13, 1), "refused 25 0 0 0\n");
     }
 
     #[test]
     fn refusals_are_printed_alone() {
         let question = example_question();
-        assert_eq!(printed(b"\n :", &question, REQUEST, 60), "refused 4 2 2 1\n");
-        assert_eq!(printed(b":", b"", b"system", 60), "refused 4 1 1 1\n");
-        assert_eq!(printed(b"", b"", b"system", 60), "refused 24 0 0 0\n");
-        assert_eq!(printed(b"", &question, b"", 60), "refused 21 0 0 0\n");
-        assert_eq!(printed(b"", &question, b"tool:1", 60), "refused 22 0 0 0\n");
-        assert_eq!(printed(b"", &question, b"tool:1\na\n", 60), "refused 23 0 0 0\n");
-        assert_eq!(printed(b"", &question, b"tool:1\r\na\nshaft:1\nmore", 60), "rows 9\nallowed 0\n");
-        assert_eq!(printed(b"", &question, b"system\r\na\nshaft:1", 60), "refused 21 0 0 0\n");
-        assert_eq!(printed(b"", &[0, 0, 0, 0], b"system", 60), "rows 1\n0 4 0 0\nallowed 1\n");
+        assert_eq!(printed(b"\n :", &question, REQUEST, 60, 1), "refused 4 2 2 1\n");
+        assert_eq!(printed(b":", b"", b"system", 60, 1), "refused 4 1 1 1\n");
+        assert_eq!(printed(b"", b"", b"system", 60, 1), "refused 24 0 0 0\n");
+        assert_eq!(printed(b"", &question, b"", 60, 1), "refused 21 0 0 0\n");
+        assert_eq!(printed(b"", &question, b"tool:1", 60, 1), "refused 22 0 0 0\n");
+        assert_eq!(printed(b"", &question, b"tool:1\na\n", 60, 1), "refused 23 0 0 0\n");
+        assert_eq!(printed(b"", &question, b"tool:1\r\na\nshaft:1\nmore", 60, 1), "rows 9\nallowed 0\n");
+        assert_eq!(printed(b"", &question, b"system\r\na\nshaft:1", 60, 1), "refused 21 0 0 0\n");
+        assert_eq!(printed(b"", &[0, 0, 0, 0], b"system", 60, 1), "rows 1\n0 4 0 0\nallowed 1\n");
     }
 
     // Every start row, and every number of rows that fit.
@@ -237,7 +231,7 @@ mod tests {
         let rows = [[0, 0, 0, 0, 1, 1, 1, 0, 0, 0, 0, 0, 0, 0x80], [1, 0, 0, 0, 1, 1, 3, 1, 0, 0, 0, 0, 0, 0]];
         assert_eq!(lent.to_vec(), [&[99][..], &rows.concat(), &[99]].concat());
         assert_eq!(
-            printed(text.as_bytes(), &question, REQUEST, 14),
+            printed(text.as_bytes(), &question, REQUEST, 14, 1),
             "rows 3\n0 1 1 9223372036854775809\n1 1 1 259\nallowed 2\n"
         );
     }
@@ -278,6 +272,6 @@ mod tests {
         }
         plan.columns = Some(vec![Column { root: 1, path: b"q".to_vec(), candidates: vec![vec![0], vec![3, 1]] }]);
         let text = "permit(principal,action,resource)when{principal.p31==true&&principal.q==true};";
-        assert_eq!(printed(text.as_bytes(), &plan.bytes(), REQUEST, 60), "rows 2\n1 1 1 1\nallowed 1\n");
+        assert_eq!(printed(text.as_bytes(), &plan.bytes(), REQUEST, 60, 1), "rows 2\n1 1 1 1\nallowed 1\n");
     }
 }

@@ -1,13 +1,14 @@
-//! The table: the entries that say the policies (01, "The table"; the layout is that of docs/TABLE.md).
+//! The table: the entries that say the policies and their version (01, "The table", and 02, request 7; the layout is that of
+//! docs/TABLE.md).
 
 use crate::numbers::Comparator;
 use crate::policies::{
     ActionPart, Attribute, Call, Condition, Conjunction, Disjunction, Effect, Literal, Operand, Policy, PrincipalPart,
-    ResourcePart, Root, Span, PRINCIPAL_TYPES, RESOURCE_TYPES,
+    ResourcePart, Root, Span, Version, PRINCIPAL_TYPES, RESOURCE_TYPES,
 };
 
 /// What an entry of each kind is; kind 0 is not used.
-pub const KINDS: [&str; 36] = [
+pub const KINDS: [&str; 38] = [
     "",
     "attribute of principal",
     "attribute of resource",
@@ -44,6 +45,8 @@ pub const KINDS: [&str; 36] = [
     "action in",
     "permit",
     "forbid",
+    "bare principal, version 2",
+    "principal is a type, version 2",
 ];
 
 const ATTRIBUTE_OF_PRINCIPAL: u8 = 1;
@@ -67,8 +70,10 @@ const IS: u8 = 30;
 const RESOURCE_EQUALS: u8 = 31;
 const BARE_ACTION: u8 = 32;
 const ACTION_IN: u8 = 33;
-const PERMIT: u8 = 34;
-const FORBID: u8 = 35;
+pub const PERMIT: u8 = 34;
+pub const FORBID: u8 = 35;
+const BARE_PRINCIPAL_TWO: u8 = 36;
+const PRINCIPAL_IS_TWO: u8 = 37;
 
 /// One entry: a kind and two fields.
 #[derive(Clone, Copy, PartialEq, Eq, Debug)]
@@ -81,9 +86,9 @@ pub struct Entry {
 /// The bytes of an entry: the kind, then each field in 2 bytes, little-endian.
 pub const ENTRY_BYTES: usize = 5;
 
-/// The entries of the policies, one policy after the other.
-pub fn entries_of(policies: &[Policy]) -> Vec<Entry> {
-    let mut entries = Entries { written: Vec::new() };
+/// The entries of the policies under a version, one policy after the other.
+pub fn entries_of(policies: &[Policy], version: Version) -> Vec<Entry> {
+    let mut entries = Entries { version, written: Vec::new() };
     for policy in policies {
         entries.put_policy(policy);
     }
@@ -103,7 +108,17 @@ pub fn bytes_of(entries: &[Entry]) -> Vec<u8> {
     bytes
 }
 
+/// The version that a table records: its first entry is that of a principal part, and the kind of that tells it.
+pub fn recorded_version(table: &[u8]) -> Option<Version> {
+    match *table.first()? {
+        BARE | IS => Some(Version::One),
+        BARE_PRINCIPAL_TWO | PRINCIPAL_IS_TWO => Some(Version::Two),
+        _ => None,
+    }
+}
+
 struct Entries {
+    version: Version,
     written: Vec<Entry>,
 }
 
@@ -124,10 +139,7 @@ impl Entries {
     /// The target's parts, the condition's entries, and last the policy's own entry.
     fn put_policy(&mut self, policy: &Policy) {
         let policy_start = self.next();
-        match &policy.principal {
-            PrincipalPart::Bare => self.put(BARE, 0, 0),
-            PrincipalPart::Is(name) => self.put(IS, number_of_type(&PRINCIPAL_TYPES, name), 0),
-        }
+        self.put_principal(&policy.principal);
         match &policy.action {
             ActionPart::Bare => self.put(BARE_ACTION, 0, 0),
             ActionPart::In(strings) => {
@@ -151,6 +163,18 @@ impl Entries {
             Effect::Forbid => FORBID,
         };
         self.put(kind, policy_start, after_target);
+    }
+
+    /// The principal part, whose kind records the version.
+    fn put_principal(&mut self, part: &PrincipalPart) {
+        let (bare, is) = match self.version {
+            Version::One => (BARE, IS),
+            Version::Two => (BARE_PRINCIPAL_TWO, PRINCIPAL_IS_TWO),
+        };
+        match part {
+            PrincipalPart::Bare => self.put(bare, 0, 0),
+            PrincipalPart::Is(name) => self.put(is, number_of_type(&PRINCIPAL_TYPES, name), 0),
+        }
     }
 
     /// Conjunctions joined from the left: the left part, the right part, and the number of the right part's first entry.
@@ -279,9 +303,13 @@ mod tests {
     use super::*;
     use crate::compile::policies_of;
 
-    fn entries(text: &str) -> Vec<(u8, usize, usize)> {
+    fn entries_under(text: &str, version: Version) -> Vec<(u8, usize, usize)> {
         let policies = policies_of(text.as_bytes()).unwrap();
-        entries_of(&policies).iter().map(|entry| (entry.kind, entry.first, entry.second)).collect()
+        entries_of(&policies, version).iter().map(|entry| (entry.kind, entry.first, entry.second)).collect()
+    }
+
+    fn entries(text: &str) -> Vec<(u8, usize, usize)> {
+        entries_under(text, Version::One)
     }
 
     /// The entries of a condition; the condition's text begins at 0, its entries at 3.
@@ -338,6 +366,35 @@ mod tests {
         }
     }
 
+    // 02, request 7: the principal part of every policy records the version, and no other entry differs.
+    #[test]
+    fn principal_parts_record_the_version() {
+        let text = "permit(principal,action,resource)when{env.a==1};forbid(principal is tool,action in[\"a\"],resource is record);\
+            permit(principal is person,action,resource==\"x\");";
+        let one = entries_under(text, Version::One);
+        let mut two = entries_under(text, Version::Two);
+        for (place, kinds) in [(0, (29, 36)), (7, (30, 37)), (12, (30, 37))] {
+            assert_eq!((one[place].0, two[place].0), kinds);
+            two[place].0 -= 7;
+        }
+        assert_eq!(one, two);
+        assert_eq!(entries_under(" ", Version::Two), vec![]);
+    }
+
+    #[test]
+    fn the_first_entry_tells_the_version() {
+        for kind in 0..=u8::MAX {
+            let recorded = recorded_version(&[kind, 0, 0, 0, 0]).map(Version::number);
+            let expected = match kind {
+                29 | 30 => Some(1),
+                36 | 37 => Some(2),
+                _ => None,
+            };
+            assert_eq!(recorded, expected, "{}", kind);
+        }
+        assert_eq!(recorded_version(&[]), None);
+    }
+
     #[test]
     fn operands_and_comparisons_are_written_as_said() {
         assert_eq!(entries_of_condition("principal.a==1"), vec![(1, 10, 11), (10, 13, 14), (13, 0, 0)]);
@@ -391,5 +448,8 @@ mod tests {
             "env has", "number", "number", "<", "true", "if", "||", "permit",
         ];
         assert_eq!(kinds, expected);
+        let first = |text: &str| KINDS[usize::from(entries_under(text, Version::Two)[0].0)];
+        assert_eq!(first("permit(principal,action,resource);"), "bare principal, version 2");
+        assert_eq!(first("permit(principal is tool,action,resource);"), "principal is a type, version 2");
     }
 }

@@ -3,7 +3,7 @@
 
 use std::array::from_fn;
 
-use crate::compile::{policies_said_by, MOST_POLICIES};
+use crate::compile::{set_said_by, MOST_POLICIES};
 use crate::deciding::{is_marked, Decision, Request};
 use crate::questions::read_question;
 use crate::sheets::decision_of_row;
@@ -58,7 +58,7 @@ fn refusal(text: &[u8], table: &[u8], question: &[u8], request: Request) -> Opti
         None
     } else if let Some(number) = request.refusal() {
         Some(number)
-    } else if policies_said_by(text, table).is_none() {
+    } else if set_said_by(text, table).is_none() {
         Some(20)
     } else {
         None
@@ -68,10 +68,10 @@ fn refusal(text: &[u8], table: &[u8], question: &[u8], request: Request) -> Opti
 /// The decision of each row, for a request that is not refused.
 pub fn decisions(text: &[u8], table: &[u8], question: &[u8], request: Request) -> Vec<Decision> {
     // The system's rows are decided without a look at the policies.
-    let policies = policies_said_by(text, table).unwrap_or_default();
+    let set = set_said_by(text, table).unwrap_or_default();
     match read_question(question) {
         Some(question) => {
-            (0..question.rows()).map(|row| decision_of_row(text, &policies, &question, request, row)).collect()
+            (0..question.rows()).map(|row| decision_of_row(text, &set, &question, request, row)).collect()
         }
         None => Vec::new(),
     }
@@ -155,14 +155,19 @@ pub fn tally_into(
 #[cfg(test)]
 mod tests {
     use super::*;
-    use crate::compile::table_of;
+    use crate::compile;
     use crate::example::{example_question, EXAMPLE};
+    use crate::policies::Version;
 
     const TEACH: Request = Request { subject: b"person:K7", action: b"teach", resource: b"shaft:A" };
     const BY_TOOL: Request = Request { subject: b"tool:T1", ..TEACH };
     const READ: Request = Request { action: b"read", ..TEACH };
     const OF_RECORD: Request = Request { action: b"read", resource: b"record:1", ..TEACH };
     const BY_SYSTEM: Request = Request { subject: b"system", action: b"", resource: b"" };
+
+    fn table_of(text: &[u8]) -> Vec<u8> {
+        compile::table_of(text, Version::One)
+    }
 
     fn counts(outcomes: [u32; 4], first_policies: &[u32]) -> Counts {
         let mut policies = [0; MOST_POLICIES];
@@ -232,6 +237,23 @@ mod tests {
         let of = |question: &[u8]| tally(text, &table_of(text), question, &[TEACH]).unwrap().sums;
         assert_eq!(of(&[0, 0, 0, 0]), counts([1, 0, 0, 0], &[0, 1]));
         assert_eq!(of(&[0, 0, 1, 1, b'a', 3, 0, 0]), counts([0, 1, 0, 0], &[1, 0]));
+    }
+
+    // By hand, grade slowest: under version 2 neither policy is satisfied where what it names is absent, so that `!` there changes
+    // nothing. Rows 0 to 2 have no grade, rows 0, 3 and 6 no hired.
+    #[test]
+    fn the_recorded_version_is_counted_under() {
+        let text = EXAMPLE
+            .replace("principal.grade >= 3", "!(principal.grade >= 3)")
+            .replace("principal.hired != \"own\"", "!(principal.hired == \"own\")");
+        let sums_under = |version| {
+            let table = compile::table_of(text.as_bytes(), version);
+            tally(text.as_bytes(), &table, &example_question(), &[TEACH]).unwrap().sums
+        };
+        // Policy 2 in rows 0, 2, 3, 5, 6, 8; of rows 1, 4 and 7 policy 1 in 1 and 7.
+        assert_eq!(sums_under(Version::One), counts([2, 6, 1, 0], &[2, 6]));
+        // Policy 2 in rows 2, 5 and 8; policy 1 in 6 and 7.
+        assert_eq!(sums_under(Version::Two), counts([2, 3, 4, 0], &[2, 3]));
     }
 
     fn refused(question: &[u8], table: &[u8], requests: &[Request]) -> u8 {

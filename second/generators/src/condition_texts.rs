@@ -11,7 +11,7 @@ use crate::wide_strings;
 pub const P: &str = "permit(principal,action,resource)";
 
 /// A condition, and a bag.
-type Case = (String, Vec<u8>);
+pub type Case = (String, Vec<u8>);
 
 const COMPARATORS: [&str; 6] = ["==", "!=", ">", ">=", "<", "<="];
 
@@ -84,6 +84,33 @@ const LITERALS: [&str; 20] = [
     "0", "-0", "0.1", "-0.1", "0.10", "0.10000000000000", "1", "01", "1.0", "-1", "3", "2.5", "16", "999999999999999",
     "-999999999999999", "123456789012345", "0.00000000000001", "0.33333333333333", "0.00000000000000",
     "-0.00000000000000",
+];
+
+/// Three conditions joined in many ways.
+pub const JOINED: [&str; 23] = [
+    "A&&B&&C",
+    "A||B||C",
+    "A&&B||C",
+    "A||B&&C",
+    "(A||B)&&C",
+    "A&&(B||C)",
+    "!A&&B||C",
+    "!(A&&B)||C",
+    "!(A||B)&&C",
+    "!!A&&!B",
+    "if A then B else C",
+    "!if A then B else C",
+    "if A then B else C&&A",
+    "if !A then B else C||B",
+    "if (A&&B) then C else !C",
+    "if A then if B then C else A else B",
+    "if if A then B else C then C else A",
+    "if A then B else if C then A else B",
+    "A&&B&&C||A&&C||B",
+    "A||B&&C&&A||C&&B",
+    "((A))&&((B)||(C))",
+    "A&&if B then C else A",
+    "C||if A then !B else (B&&C)",
 ];
 
 /// A bag with these attributes: root byte, path, kind byte and value.
@@ -414,31 +441,7 @@ fn add_joined(cases: &mut Vec<Case>) {
     const TRUTHS: [[&str; 3]; 2] =
         [["false", "principal.a==1", "principal.n<3"], ["true", "!principal.a!=1", "principal.n>=3"]];
     let bag = values_bag();
-    for form in [
-        "A&&B&&C",
-        "A||B||C",
-        "A&&B||C",
-        "A||B&&C",
-        "(A||B)&&C",
-        "A&&(B||C)",
-        "!A&&B||C",
-        "!(A&&B)||C",
-        "!(A||B)&&C",
-        "!!A&&!B",
-        "if A then B else C",
-        "!if A then B else C",
-        "if A then B else C&&A",
-        "if !A then B else C||B",
-        "if (A&&B) then C else !C",
-        "if A then if B then C else A else B",
-        "if if A then B else C then C else A",
-        "if A then B else if C then A else B",
-        "A&&B&&C||A&&C||B",
-        "A||B&&C&&A||C&&B",
-        "((A))&&((B)||(C))",
-        "A&&if B then C else A",
-        "C||if A then !B else (B&&C)",
-    ] {
+    for form in JOINED {
         for truths in 0..8 {
             for shift in 0..3 {
                 let mut condition = form.to_string();

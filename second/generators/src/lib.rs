@@ -1,5 +1,6 @@
 //! Random inputs from a seed, valid ones and others, and the inputs that every seed has.
 
+pub mod absences;
 pub mod bag_bytes;
 pub mod condition_texts;
 pub mod damaged_texts;

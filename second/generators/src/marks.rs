@@ -34,6 +34,7 @@ mod tests {
     use super::*;
     use crate::examples::{question_of_rows, REQUEST};
     use definitions::compile::{policies_of, table_of};
+    use definitions::policies::Version;
     use definitions::tallies::decisions;
 
     #[test]
@@ -47,7 +48,8 @@ mod tests {
     #[test]
     fn each_row_has_a_mark_of_its_own() {
         let text = rules_with_marks_of_their_own(0);
-        let decided = decisions(text.as_bytes(), &table_of(text.as_bytes()), &question_of_rows(&[2; 6]), REQUEST);
+        let decided =
+            decisions(text.as_bytes(), &table_of(text.as_bytes(), Version::One), &question_of_rows(&[2; 6]), REQUEST);
         for (row, decision) in decided.iter().enumerate() {
             let expected: u64 = (0..64).filter(|bits| bits & row == *bits).map(|bits| 1 << bits).sum();
             assert_eq!((decision.outcome, decision.policy, decision.mark), (1, 1, expected));

@@ -9,8 +9,11 @@ use crate::random::Random;
 /// The roots in the order of their bytes, which count from 1.
 const ROOTS: [&str; 3] = ["principal", "resource", "env"];
 
-/// The attributes: root byte, path, and the kind that its values mostly have.
-const ATTRIBUTES: [(u8, &str, u8); 12] = [
+/// An attribute: root byte, path, and the kind that its values mostly have.
+pub type Attribute = (u8, &'static str, u8);
+
+/// The attributes.
+pub const ATTRIBUTES: [Attribute; 12] = [
     (1, "grade", 2),
     (1, "groups", 4),
     (1, "hired", STRING_KIND),
@@ -144,12 +147,18 @@ pub fn broken_action(random: &mut Random) -> &'static [u8] {
 pub fn text(random: &mut Random, wish: &Wish) -> Vec<u8> {
     let mut tokens = Tokens::new();
     for _ in 0..random.pick(&[1, 1, 1, 1, 2, 2, 3, 4]) {
-        put_policy(&mut tokens, random, wish);
+        put_policy(&mut tokens, random, wish, |tokens, random| put_disjunction(tokens, random, 3));
     }
     text_of(&tokens, random)
 }
 
-fn put_policy(tokens: &mut Tokens, random: &mut Random, wish: &Wish) {
+/// A policy, mostly with a condition; `put_inside` puts that.
+pub fn put_policy(
+    tokens: &mut Tokens,
+    random: &mut Random,
+    wish: &Wish,
+    put_inside: impl Fn(&mut Tokens, &mut Random),
+) {
     put(tokens, random.pick(&["permit", "permit", "forbid"]));
     put(tokens, "(");
     put(tokens, "principal");
@@ -172,7 +181,7 @@ fn put_policy(tokens: &mut Tokens, random: &mut Random, wish: &Wish) {
     if !random.one_in(6) {
         put(tokens, "when");
         put(tokens, "{");
-        put_disjunction(tokens, random, 3);
+        put_inside(tokens, random);
         put(tokens, "}");
     }
     put(tokens, ";");
@@ -232,7 +241,7 @@ fn put_condition(tokens: &mut Tokens, random: &mut Random, depth: usize) {
 }
 
 /// A condition that holds no other.
-fn put_plain_condition(tokens: &mut Tokens, random: &mut Random) {
+pub fn put_plain_condition(tokens: &mut Tokens, random: &mut Random) {
     match random.below(16) {
         0..=6 => put_comparison(tokens, random),
         7 | 8 => {
@@ -260,12 +269,50 @@ fn put_plain_condition(tokens: &mut Tokens, random: &mut Random) {
             put(tokens, ")");
         }
         14 => {
-            let (root, path, _) = random.pick(&ATTRIBUTES);
-            put(tokens, ROOTS[usize::from(root) - 1]);
-            put(tokens, "has");
-            put_path(tokens, path);
+            let attribute = random.pick(&ATTRIBUTES);
+            put_has(tokens, attribute);
         }
         _ => put(tokens, random.pick(&["true", "false"])),
+    }
+}
+
+/// A condition that has this attribute as an operand, and fits the kind of it.
+pub fn put_condition_on(tokens: &mut Tokens, random: &mut Random, attribute: Attribute) {
+    let kind = attribute.2;
+    match (kind, random.below(4)) {
+        (STRING_KIND, 0) => {
+            put_named(tokens, attribute);
+            put(tokens, "like");
+            put_string(tokens, random.pick(&PATTERNS));
+        }
+        (4, 0 | 1) => {
+            put_operand(tokens, random, STRING_KIND);
+            put(tokens, "in");
+            put_named(tokens, attribute);
+        }
+        (4, _) => {
+            put_named(tokens, attribute);
+            put(tokens, ".");
+            put(tokens, random.pick(&["containsAll", "containsAny"]));
+            put(tokens, "(");
+            put_list_of(tokens, random, |tokens, random| put_literal(tokens, random, STRING_KIND));
+            put(tokens, ")");
+        }
+        (_, 1) => {
+            put_named(tokens, attribute);
+            put(tokens, "in");
+            put_list_of(tokens, random, |tokens, random| put_literal(tokens, random, kind));
+        }
+        (_, 2) => {
+            put_operand(tokens, random, kind);
+            put(tokens, random.pick(&["==", "!="]));
+            put_named(tokens, attribute);
+        }
+        _ => {
+            put_named(tokens, attribute);
+            put(tokens, random.pick(&["==", "!=", "!="]));
+            put_operand(tokens, random, kind);
+        }
     }
 }
 
@@ -297,9 +344,21 @@ fn put_attribute(tokens: &mut Tokens, random: &mut Random, kind: u8) {
     while found.2 != kind && !random.one_in(12) {
         found = random.pick(&ATTRIBUTES);
     }
-    put(tokens, ROOTS[usize::from(found.0) - 1]);
+    put_named(tokens, found);
+}
+
+/// This attribute: root, `.`, path.
+fn put_named(tokens: &mut Tokens, (root, path, _): Attribute) {
+    put(tokens, ROOTS[usize::from(root) - 1]);
     put(tokens, ".");
-    put_path(tokens, found.1);
+    put_path(tokens, path);
+}
+
+/// This attribute's root, `has` and its path.
+pub fn put_has(tokens: &mut Tokens, (root, path, _): Attribute) {
+    put(tokens, ROOTS[usize::from(root) - 1]);
+    put(tokens, "has");
+    put_path(tokens, path);
 }
 
 fn put_path(tokens: &mut Tokens, path: &str) {

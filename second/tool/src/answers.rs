@@ -11,16 +11,16 @@ use definitions::locks::{self, Lent};
 
 use crate::command::{not_asked, Done};
 
-/// Who answers: the proved programs, or in tests a stand-in.
+/// Who answers: the proved programs, or in tests a stand-in. The first number is the version of the rules, whether there is one of it or not.
 pub trait Answers {
-    /// What the sheet program prints for these three files.
-    fn sheet(&self, text: &[u8], question: &[u8], request: &[u8]) -> Done<String>;
+    /// What the sheet program prints for these three files; under another version than 1 what `ask sheet` prints.
+    fn sheet(&self, version: u64, text: &[u8], question: &[u8], request: &[u8]) -> Done<String>;
     /// What `ask check` prints.
-    fn check(&self, text: &[u8]) -> Done<String>;
+    fn check(&self, version: u64, text: &[u8]) -> Done<String>;
     /// What `ask decide` prints for these cases.
-    fn decide(&self, text: &[u8], cases: &[Case]) -> Done<String>;
+    fn decide(&self, version: u64, text: &[u8], cases: &[Case]) -> Done<String>;
     /// What `ask tally` prints for these three files.
-    fn tally(&self, text: &[u8], question: &[u8], requests: &[u8]) -> Done<String>;
+    fn tally(&self, version: u64, text: &[u8], question: &[u8], requests: &[u8]) -> Done<String>;
     /// What `caretaker` prints for what is lent, with a room of so many bytes.
     fn lock(&self, lent: Lent, room: usize) -> Done<Vec<u8>>;
 }
@@ -37,6 +37,14 @@ pub struct Programs;
 impl Programs {
     fn run(&self, words: &[&str], files: &[(&str, &[u8])]) -> Done<String> {
         Ok(String::from_utf8_lossy(&self.run_for_bytes(words, files)?).into_owned())
+    }
+
+    /// What `ask` prints for this word under a version: without a second word it is version 1.
+    fn ask(&self, word: &str, version: u64, files: &[(&str, &[u8])]) -> Done<String> {
+        match version {
+            1 => self.run(&["ask", word], files),
+            _ => self.run(&["ask", word, &version.to_string()], files),
+        }
     }
 
     fn run_for_bytes(&self, words: &[&str], files: &[(&str, &[u8])]) -> Done<Vec<u8>> {
@@ -72,21 +80,26 @@ impl Programs {
 }
 
 impl Answers for Programs {
-    fn sheet(&self, text: &[u8], question: &[u8], request: &[u8]) -> Done<String> {
-        self.run(&["sheet"], &[("policy.txt", text), ("question.bin", question), ("request.txt", request)])
+    fn sheet(&self, version: u64, text: &[u8], question: &[u8], request: &[u8]) -> Done<String> {
+        let files = [("policy.txt", text), ("question.bin", question), ("request.txt", request)];
+        match version {
+            1 => self.run(&["sheet"], &files),
+            _ => self.ask("sheet", version, &files),
+        }
     }
 
-    fn check(&self, text: &[u8]) -> Done<String> {
-        self.run(&["ask", "check"], &[("policy.txt", text)])
+    fn check(&self, version: u64, text: &[u8]) -> Done<String> {
+        self.ask("check", version, &[("policy.txt", text)])
     }
 
-    fn decide(&self, text: &[u8], cases: &[Case]) -> Done<String> {
+    fn decide(&self, version: u64, text: &[u8], cases: &[Case]) -> Done<String> {
         let bytes: Vec<u8> = cases.iter().flat_map(Case::bytes).collect();
-        self.run(&["ask", "decide"], &[("policy.txt", text), ("cases.bin", &bytes)])
+        self.ask("decide", version, &[("policy.txt", text), ("cases.bin", &bytes)])
     }
 
-    fn tally(&self, text: &[u8], question: &[u8], requests: &[u8]) -> Done<String> {
-        self.run(&["ask", "tally"], &[("policy.txt", text), ("question.bin", question), ("requests.bin", requests)])
+    fn tally(&self, version: u64, text: &[u8], question: &[u8], requests: &[u8]) -> Done<String> {
+        let files = [("policy.txt", text), ("question.bin", question), ("requests.bin", requests)];
+        self.ask("tally", version, &files)
     }
 
     fn lock(&self, lent: Lent, room: usize) -> Done<Vec<u8>> {
@@ -176,9 +189,9 @@ fn hold(printed: &str, own: &str) -> Done<()> {
 }
 
 /// How many policies a text has, or its refusal.
-pub fn check(desk: &dyn Answers, text: &[u8]) -> Done<Result<usize, Refused>> {
-    let printed = desk.check(text)?;
-    hold(&printed, &asking::printed_check(text))?;
+pub fn check(desk: &dyn Answers, version: u64, text: &[u8]) -> Done<Result<usize, Refused>> {
+    let printed = desk.check(version, text)?;
+    hold(&printed, &asking::printed_check(text, version))?;
     let line = printed.trim_end();
     match (numbers(line, "compiled").map(|[policies, _]| policies), read_refused(line)) {
         (Some(policies), _) => Ok(Ok(policies)),
@@ -191,11 +204,11 @@ pub fn check(desk: &dyn Answers, text: &[u8]) -> Done<Result<usize, Refused>> {
 const MOST_CASES: usize = 2_000;
 const MOST_BYTES: usize = 131_072;
 
-/// The lowest number of a refusal that is of a case and not of the text.
-const FIRST_OF_CASES: usize = 20;
+/// The numbers of the refusals that are of a case, and not of the text or its version.
+const OF_CASES: std::ops::RangeInclusive<usize> = 20..=24;
 
 /// What is decided of each case, or the text's refusal.
-pub fn decide(desk: &dyn Answers, text: &[u8], cases: &[Case]) -> Done<Result<Vec<Answer>, Refused>> {
+pub fn decide(desk: &dyn Answers, version: u64, text: &[u8], cases: &[Case]) -> Done<Result<Vec<Answer>, Refused>> {
     let mut answers = Vec::new();
     let mut rest = cases;
     while !rest.is_empty() {
@@ -205,9 +218,9 @@ pub fn decide(desk: &dyn Answers, text: &[u8], cases: &[Case]) -> Done<Result<Ve
             bytes <= MOST_BYTES
         });
         let (now, later) = rest.split_at(fits.count().max(1));
-        let printed = desk.decide(text, now)?;
-        hold(&printed, &asking::printed_decide(text, now))?;
-        if let Some(refused) = read_refused(printed.trim_end()).filter(|refused| refused.number < FIRST_OF_CASES) {
+        let printed = desk.decide(version, text, now)?;
+        hold(&printed, &asking::printed_decide(text, now, version))?;
+        if let Some(refused) = read_refused(printed.trim_end()).filter(|refused| !OF_CASES.contains(&refused.number)) {
             return Ok(Err(refused));
         }
         let read: Option<Vec<Answer>> = printed.lines().map(read_answer).collect();
@@ -244,20 +257,20 @@ pub mod tests {
     pub struct StandIn;
 
     impl Answers for StandIn {
-        fn sheet(&self, text: &[u8], question: &[u8], request: &[u8]) -> Done<String> {
-            Ok(printed(text, question, request, 6_000))
+        fn sheet(&self, version: u64, text: &[u8], question: &[u8], request: &[u8]) -> Done<String> {
+            Ok(printed(text, question, request, 6_000, version))
         }
 
-        fn check(&self, text: &[u8]) -> Done<String> {
-            Ok(asking::printed_check(text))
+        fn check(&self, version: u64, text: &[u8]) -> Done<String> {
+            Ok(asking::printed_check(text, version))
         }
 
-        fn decide(&self, text: &[u8], cases: &[Case]) -> Done<String> {
-            Ok(asking::printed_decide(text, cases))
+        fn decide(&self, version: u64, text: &[u8], cases: &[Case]) -> Done<String> {
+            Ok(asking::printed_decide(text, cases, version))
         }
 
-        fn tally(&self, text: &[u8], question: &[u8], requests: &[u8]) -> Done<String> {
-            Ok(asking::printed_tally(text, question, requests))
+        fn tally(&self, version: u64, text: &[u8], question: &[u8], requests: &[u8]) -> Done<String> {
+            Ok(asking::printed_tally(text, question, requests, version))
         }
 
         fn lock(&self, lent: Lent, room: usize) -> Done<Vec<u8>> {
@@ -269,19 +282,19 @@ pub mod tests {
     pub struct Wrong(pub &'static str);
 
     impl Answers for Wrong {
-        fn sheet(&self, _: &[u8], _: &[u8], _: &[u8]) -> Done<String> {
+        fn sheet(&self, _: u64, _: &[u8], _: &[u8], _: &[u8]) -> Done<String> {
             Ok(self.0.to_string())
         }
 
-        fn check(&self, _: &[u8]) -> Done<String> {
+        fn check(&self, _: u64, _: &[u8]) -> Done<String> {
             Ok(self.0.to_string())
         }
 
-        fn decide(&self, _: &[u8], _: &[Case]) -> Done<String> {
+        fn decide(&self, _: u64, _: &[u8], _: &[Case]) -> Done<String> {
             Ok(self.0.to_string())
         }
 
-        fn tally(&self, _: &[u8], _: &[u8], _: &[u8]) -> Done<String> {
+        fn tally(&self, _: u64, _: &[u8], _: &[u8], _: &[u8]) -> Done<String> {
             Ok(self.0.to_string())
         }
 
@@ -294,11 +307,11 @@ pub mod tests {
     fn a_difference_is_an_error() {
         let text = b"permit(principal,action,resource);";
         let case = Case { request: [b"tool:1".to_vec(), b"a".to_vec(), b"shaft:1".to_vec()], bag: vec![0, 0, 0] };
-        assert_eq!(check(&StandIn, text), Ok(Ok(1)));
+        assert_eq!(check(&StandIn, 1, text), Ok(Ok(1)));
         let decided = Answer::Decided { outcome: 1, policy: 1, mark: 1 };
-        assert_eq!(decide(&StandIn, text, &[case.clone()]), Ok(Ok(vec![decided])));
+        assert_eq!(decide(&StandIn, 1, text, &[case.clone()]), Ok(Ok(vec![decided])));
         let refused = Refused { number: 4, line: 1, column: 1, length: 1 };
-        assert_eq!(decide(&StandIn, b":", &[case.clone()]), Ok(Err(refused)));
+        assert_eq!(decide(&StandIn, 1, b":", &[case.clone()]), Ok(Err(refused)));
         for wrong in [
             "",
             "compiled 2 20\n",
@@ -309,8 +322,8 @@ pub mod tests {
             "decided 1 2 1\n",
             "decided 1 1 1\ndecided 1 1 1\n",
         ] {
-            assert!(check(&Wrong(wrong), text).is_err(), "{}", wrong);
-            assert!(decide(&Wrong(wrong), text, &[case.clone()]).is_err(), "{}", wrong);
+            assert!(check(&Wrong(wrong), 1, text).is_err(), "{}", wrong);
+            assert!(decide(&Wrong(wrong), 1, text, &[case.clone()]).is_err(), "{}", wrong);
         }
         let lent = Lent { vocabulary: b"\x01a\x01b\x01", lock: b"a:c", actions: b"\x01d", resource: b"e" };
         let permit = "permit(principal, action in [\"d\"], resource == \"e\") when { principal.b == \"c\" };";
@@ -319,5 +332,24 @@ pub mod tests {
         for wrong in ["", "refused 28 0 0 0\n", "permit(principal, action, resource);\n", permit] {
             assert!(lock(&Wrong(wrong), lent, 100).is_err(), "{}", wrong);
         }
+    }
+    // 02, request 7: an answer is held to what is explained under the same version.
+    #[test]
+    fn a_difference_between_versions_is_an_error() {
+        let text = b"permit(principal,action,resource);";
+        let case = Case { request: [b"tool:1".to_vec(), b"a".to_vec(), b"shaft:1".to_vec()], bag: vec![0, 0, 0] };
+        let decided = Answer::Decided { outcome: 1, policy: 1, mark: 1 };
+        let absent = b"permit(principal,action,resource)when{!(env.a==1)};";
+        let unsatisfied = Answer::Decided { outcome: 3, policy: 0, mark: 0 };
+        assert_eq!(decide(&StandIn, 1, absent, &[case.clone()]), Ok(Ok(vec![decided])));
+        assert_eq!(decide(&StandIn, 2, absent, &[case.clone()]), Ok(Ok(vec![unsatisfied])));
+        assert!(decide(&Wrong("decided 1 1 1\n"), 2, absent, &[case.clone()]).is_err());
+        let none = Refused { number: 30, line: 0, column: 0, length: 0 };
+        for version in [0, 3, 257] {
+            assert_eq!(check(&StandIn, version, text), Ok(Err(none)));
+            assert_eq!(decide(&StandIn, version, b":", &[case.clone()]), Ok(Err(none)));
+            assert!(check(&Wrong("compiled 1 20\n"), version, text).is_err());
+        }
+        assert!(check(&Wrong("refused 30 0 0 0\n"), 2, text).is_err());
     }
 }

@@ -6,7 +6,9 @@ use std::path::Path;
 
 use definitions::asking::{requests_file, Case};
 use definitions::bags::Content;
+use definitions::compile::policies_of;
 use definitions::deciding::Request;
+use definitions::policies::Version;
 use definitions::questions::{read_question, Question};
 use definitions::sheets::read_request;
 
@@ -30,6 +32,8 @@ const REQUESTS: &str = "requests.bin";
 pub struct Asked {
     pub rules_name: String,
     pub rules: Vec<u8>,
+    /// The version of the rules that is asked for; only 1 and 2 are one.
+    pub version: u64,
     /// The file that says the question, and its bytes as they stand there.
     pub name: String,
     pub file: Vec<u8>,
@@ -50,6 +54,27 @@ impl Asked {
     pub fn request(&self) -> Request<'_> {
         let [subject, action, resource] = &self.request;
         Request { subject, action, resource }
+    }
+
+    /// The version by which an answer is explained: the one that is asked for. Where that is none, there is no answer but a refusal.
+    pub fn known_version(&self) -> Version {
+        Version::named(self.version).unwrap_or(Version::One)
+    }
+
+    /// The same under another version.
+    pub fn under(&self, version: Version) -> Asked {
+        Asked { version: version.number(), ..self.clone() }
+    }
+
+    /// The version that a sheet is held beside: the other one. The system's rows need no rules, and a text without policies has no version.
+    pub fn other_version(&self) -> Option<Version> {
+        let has_version =
+            !self.request().is_of_system() && policies_of(&self.rules).map_or(false, |all| !all.is_empty());
+        let other = match self.known_version() {
+            Version::One => Version::Two,
+            Version::Two => Version::One,
+        };
+        Some(other).filter(|_| has_version)
     }
 
     /// Whether it is a bag, which has no rows.
@@ -143,7 +168,7 @@ struct Places {
     requests: String,
 }
 
-/// What a folder or a question's file asks, with other rules if these are named. With `missing_is_empty` a file that a folder has not
+/// What a folder or a question's file asks under version 1, with other rules if these are named. With `missing_is_empty` a file that a folder has not
 /// is taken as empty, with a warning.
 pub fn read_asked(name: &str, rules: Option<&str>, missing_is_empty: bool) -> Done<Asked> {
     if !Path::new(name).exists() {
@@ -156,22 +181,18 @@ pub fn read_asked(name: &str, rules: Option<&str>, missing_is_empty: bool) -> Do
         Some((file, form)) => (places.text.clone(), file, form),
         None => read_question_bytes(&places, &mut missing)?,
     };
-    let mut request_file = None;
-    let requests = match requests_of_text(&name, &form, &places)? {
-        Some(requests) => requests,
+    let (requests, request_file) = match requests_of_text(&name, &form, &places)? {
+        Some(requests) => (requests, None),
         None => {
-            let what = format!("say subject = \"..\", action = \"..\" and resource = \"..\" in {}", places.text);
-            let bytes = missing.read(&places.request, &what)?;
-            missing.warnings.extend(doubts_of_request_file(&places.request, &bytes));
-            let parts = parts_of(&bytes);
-            request_file = Some((places.request.clone(), bytes));
-            vec![parts]
+            let bytes = read_request_file(&places, &mut missing)?;
+            (vec![parts_of(&bytes)], Some((places.request.clone(), bytes)))
         }
     };
     let is_text = name == places.text;
     let asked = Asked {
         rules_name: places.rules,
         rules,
+        version: Version::One.number(),
         sent: if is_text { form.bytes() } else { file.clone() },
         title: if is_text { first_comment(&file) } else { None },
         name,
@@ -184,6 +205,14 @@ pub fn read_asked(name: &str, rules: Option<&str>, missing_is_empty: bool) -> Do
     };
     check_one_line(&asked)?;
     Ok(asked)
+}
+
+/// The file of the request, where the question's text says none.
+fn read_request_file(places: &Places, missing: &mut Missing) -> Done<Vec<u8>> {
+    let what = format!("say subject = \"..\", action = \"..\" and resource = \"..\" in {}", places.text);
+    let bytes = missing.read(&places.request, &what)?;
+    missing.warnings.extend(doubts_of_request_file(&places.request, &bytes));
+    Ok(bytes)
 }
 
 /// Whether a missing file is taken as empty, and the warnings of those that were.

@@ -42,6 +42,8 @@ pub fn not_asked<T>(what: impl Into<String>) -> Done<T> {
 pub struct Words {
     pub names: Vec<String>,
     pub rules: Option<String>,
+    /// The versions of the rules, before and after; but for `diff` they are one.
+    pub versions: Option<[u64; 2]>,
     pub html: Option<String>,
     pub row: Option<usize>,
     pub request: Option<usize>,
@@ -52,46 +54,22 @@ pub struct Words {
     pub missing_is_empty: bool,
 }
 
+/// The version where none is named.
+const FIRST_VERSION: u64 = 1;
+
 impl Words {
     /// The words, if there are as many names as expected and no other options than those allowed.
     pub fn read(words: &[&str], options: &[&str], names: std::ops::RangeInclusive<usize>) -> Done<Words> {
         let usage = |what: String| Err(Failure::Usage(what));
         let mut read = Words::default();
-        let mut rest = words.iter();
+        let mut rest = words.iter().copied();
         while let Some(word) = rest.next() {
             if !word.starts_with('-') {
                 read.names.push(word.to_string());
-                continue;
-            }
-            if !options.contains(word) {
+            } else if !options.contains(&word) {
                 return usage(format!("unknown option {}", word));
-            }
-            let mut value = || rest.next().map(|value| value.to_string());
-            match *word {
-                "--table" => read.table = true,
-                "--lines" => read.lines = true,
-                "--forbidden" => read.forbidden = true,
-                "--missing-is-empty" => read.missing_is_empty = true,
-                "--rules" => match value() {
-                    Some(name) => read.rules = Some(name),
-                    None => return usage("--rules needs the name of a rule text".to_string()),
-                },
-                "--html" => match value() {
-                    Some(name) => read.html = Some(name),
-                    None => return usage("--html needs the name of the file to write".to_string()),
-                },
-                "--request" => match value().map(|number| number.parse()) {
-                    Some(Ok(number)) => read.request = Some(number),
-                    _ => return usage("--request needs the number of a request, from 1".to_string()),
-                },
-                "--room" => match value().map(|number| number.parse::<u16>()) {
-                    Some(Ok(number)) => read.room = Some(usize::from(number)),
-                    _ => return usage("--room needs a number of bytes, at most 65,535".to_string()),
-                },
-                _ => match value().map(|number| number.parse()) {
-                    Some(Ok(number)) => read.row = Some(number),
-                    _ => return usage("--row needs the number of a row, from 0".to_string()),
-                },
+            } else if let Err(what) = read.take(word, &mut rest) {
+                return usage(what.to_string());
             }
         }
         if !names.contains(&read.names.len()) {
@@ -100,6 +78,52 @@ impl Words {
         }
         Ok(read)
     }
+
+    /// Takes an option, with what it needs of the words behind it; or says what that is.
+    fn take<'a>(&mut self, option: &str, rest: &mut impl Iterator<Item = &'a str>) -> Result<(), &'static str> {
+        let mut value = || rest.next();
+        match option {
+            "--table" => self.table = true,
+            "--lines" => self.lines = true,
+            "--forbidden" => self.forbidden = true,
+            "--missing-is-empty" => self.missing_is_empty = true,
+            "--rules" => self.rules = Some(value().ok_or("--rules needs the name of a rule text")?.to_string()),
+            "--html" => self.html = Some(value().ok_or("--html needs the name of the file to write")?.to_string()),
+            "--request" => {
+                self.request = Some(number(value()).ok_or("--request needs the number of a request, from 1")?)
+            }
+            "--room" => {
+                let room: u16 = number(value()).ok_or("--room needs a number of bytes, at most 65,535")?;
+                self.room = Some(usize::from(room));
+            }
+            "--version" | "--versions" if self.versions.is_some() => return Err("the version is said twice"),
+            "--version" => {
+                let version = number(value()).ok_or("--version needs the number of a version, 1 or 2")?;
+                self.versions = Some([version, version]);
+            }
+            "--versions" => {
+                let both = "--versions needs two numbers, the versions before and after, as in --versions 1 2";
+                self.versions = Some([number(value()).ok_or(both)?, number(value()).ok_or(both)?]);
+            }
+            _ => self.row = Some(number(value()).ok_or("--row needs the number of a row, from 0")?),
+        }
+        Ok(())
+    }
+
+    /// The versions of the rules before and after.
+    pub fn versions(&self) -> [u64; 2] {
+        self.versions.unwrap_or([FIRST_VERSION; 2])
+    }
+
+    /// The version of the rules.
+    pub fn version(&self) -> u64 {
+        self.versions()[0]
+    }
+}
+
+/// The number that a word says.
+fn number<T: std::str::FromStr>(word: Option<&str>) -> Option<T> {
+    word?.parse().ok()
 }
 
 /// A file's bytes, or why there are none, and what to do.
@@ -139,10 +163,29 @@ mod tests {
             (&["a", "--row", "x"], "--row needs the number of a row, from 0"),
             (&["a", "--row"], "--row needs the number of a row, from 0"),
             (&["a", "--request", "first"], "--request needs the number of a request, from 1"),
+            (&["a", "--version"], "--version needs the number of a version, 1 or 2"),
+            (&["a", "--version", "two"], "--version needs the number of a version, 1 or 2"),
+            (&["a", "--version", "18446744073709551616"], "--version needs the number of a version, 1 or 2"),
+            (&["a", "--version", "2", "--version", "2"], "the version is said twice"),
+            (&["a", "--version", "2", "--versions", "1", "2"], "the version is said twice"),
+            (
+                &["a", "--versions", "1"],
+                "--versions needs two numbers, the versions before and after, as in --versions 1 2",
+            ),
         ] {
-            let said = Words::read(words, &["--rules", "--html", "--row", "--request"], 1..=1).unwrap_err();
-            assert_eq!(said, Failure::Usage(what.to_string()));
+            let options = ["--rules", "--html", "--row", "--request", "--version", "--versions"];
+            assert_eq!(Words::read(words, &options, 1..=1).unwrap_err(), Failure::Usage(what.to_string()));
         }
+    }
+
+    // Any number may be named: whether there is such a version is not for the words to say.
+    #[test]
+    fn versions_are_named() {
+        let of = |words: &[&str]| Words::read(words, &["--version", "--versions"], 0..=0).unwrap().versions();
+        assert_eq!(of(&[]), [1, 1]);
+        assert_eq!(of(&["--version", "2"]), [2, 2]);
+        assert_eq!(of(&["--version", "257"]), [257, 257]);
+        assert_eq!(of(&["--versions", "1", "2"]), [1, 2]);
     }
 
     #[test]

@@ -4,7 +4,7 @@ use std::fs;
 use std::path::{Path, PathBuf};
 use std::sync::atomic::{AtomicUsize, Ordering};
 
-use crate::answers::tests::StandIn;
+use crate::answers::tests::{StandIn, Wrong};
 use crate::command::Said;
 use crate::{documented, failed, run};
 
@@ -176,6 +176,17 @@ fn wrong_words_are_said_with_the_usage() {
         (&["tally"], "a name is missing; usage: ./desk tally WHERE"),
         (&["tally", "@", "--table"], "unknown option --table; usage: ./desk tally WHERE"),
         (&["sheet", "@", "--request", "one"], "--request needs the number of a request, from 1"),
+        (
+            &["sheet", "@", "--version", "two"],
+            "--version needs the number of a version, 1 or 2; usage: ./desk sheet WHERE",
+        ),
+        (&["check", "@", "--version"], "--version needs the number of a version, 1 or 2; usage: ./desk check RULES"),
+        (&["sheet", "@", "--versions", "1", "2"], "unknown option --versions; usage: ./desk sheet"),
+        (
+            &["diff", "@policy.txt", "@policy.txt", "@", "--versions", "1"],
+            "--versions needs two numbers, the versions before",
+        ),
+        (&["lock", "@", "--version", "2"], "unknown option --version; usage: ./desk lock"),
     ] {
         let said = folder.says(words);
         assert_eq!(said.status, 2, "{:?}", words);
@@ -408,7 +419,10 @@ const REFUSED: [(&str, &str); 24] = [
         "This may not stand here: expected `in` or `,` in the policy that begins in line 1.",
     ),
     ("permit(principal,action,resource)when{action.kind == 1};", "After action only name may stand"),
-    ("permit(principal,action,resource)when{env.a like \"**\"};", "A pattern has at most 100 characters and 5 wildcards"),
+    (
+        "permit(principal,action,resource)when{env.a like \"**\"};",
+        "A pattern has at most 100 characters and 5 wildcards",
+    ),
     ("permit(principal,action,resource)when{env.a == 1234567890123456};", "Too long: a word has at most 64 bytes"),
     ("permit(principal,action,resource)when{};", "expected a condition (an attribute, a literal, `!`, `(` or `if`)"),
     (
@@ -747,11 +761,280 @@ fn two_rule_texts_are_compared() {
     assert!(said.out.contains("0 closed, 2 decided by another policy"), "{}", said.out);
 }
 
+/// The worked example with the forbid that version 2 disarms, and a permit with a hole that it closes.
+const TURNED: &str = "permit(principal is person, action, resource is shaft)\n  when { !(principal.grade < 3) };\n\
+    forbid(principal, action in [\"teach\"], resource)\n  when { !(principal.hired == \"own\") };\n";
+
+/// The folder of these rules and the worked example's question.
+fn turned() -> Folder {
+    with_question(TURNED, &[REQUEST, COLUMNS].concat())
+}
+
+// 02, request 7: every command that compiles does so under the version that is named, and says so where it is not version 1.
+#[test]
+fn answers_are_given_under_the_version() {
+    let folder = turned();
+    let said = folder.says(&["sheet", "@"]);
+    assert_eq!((said.out.as_str(), said.warnings.len()), ("rows 9\n1 1 1 1\n4 1 1 1\nallowed 2\n", 0));
+    assert_eq!(folder.says(&["sheet", "@", "--version", "1"]).out, said.out);
+    let said = folder.says(&["sheet", "@", "--version", "2"]);
+    assert_eq!(said.out, "rows 9\n3 1 1 1\n4 1 1 1\nallowed 2\n");
+    assert_eq!(said.warnings, ["these lines are under version 2"]);
+    let said = folder.says(&["tally", "@", "--lines", "--version", "2"]);
+    assert!(
+        said.out.ends_with("sums\noutcome 1 2\noutcome 2 3\noutcome 3 4\noutcome 4 0\npolicy 1 2\npolicy 2 3\n"),
+        "{}",
+        said.out
+    );
+    assert_eq!(said.warnings, ["these lines are under version 2"]);
+    for words in [&["sheet", "@", "--table"][..], &["tally", "@"], &["explain", "@", "--row", "0"]] {
+        let line = "\nUnder version 2 of the rules.\n";
+        let (one, two) = (folder.says(words), folder.says(&[words, &["--version", "2"]].concat()));
+        assert!(!one.out.contains("Under version 2"), "{}", one.out);
+        assert!(format!("\n{}", two.out).contains(line), "{}", two.out);
+    }
+}
+
+// So does every page, and a text without policies has no version.
+#[test]
+fn pages_say_their_version() {
+    let folder = turned();
+    for command in ["sheet", "tally"] {
+        let page = |words: &[&str]| {
+            assert_eq!(folder.says(&[&[command, "@", "--html", "@page.html"], words].concat()).status, 0);
+            fs::read_to_string(folder.path("page.html")).unwrap()
+        };
+        assert!(!page(&[]).contains("<b>Under version"));
+        let page = page(&["--version", "2"]);
+        assert!(
+            page.contains(" <b>Under version 2 of the rules.</b></p>")
+                && page.contains(" under version 2 from these files")
+        );
+    }
+    assert!(folder
+        .says(&["check", "@", "--version", "2"])
+        .out
+        .ends_with("policy.txt under version 2: 2 policies, 1 permit and 1 forbid.\n"));
+    fs::write(folder.path("policy.txt"), " \n").unwrap();
+    assert!(folder
+        .says(&["check", "@", "--version", "2"])
+        .out
+        .ends_with("policy.txt: 0 policies, 0 permits and 0 forbids.\n"));
+    assert_eq!(folder.says(&["sheet", "@", "--version", "2"]).out, "rows 9\nallowed 0\n");
+}
+
+#[test]
+fn one_request_is_decided_under_the_version() {
+    let bag = ["bag\n", REQUEST, "principal.grade = 3\n"].concat();
+    let folder = Folder::new(&[("policy.txt", TURNED), ("k7.txt", &bag)]);
+    assert!(folder.says(&["decide", "@k7.txt"]).out.starts_with("Forbidden by policy 2 in line 3"));
+    let said = folder.says(&["decide", "@k7.txt", "--version", "2"]);
+    assert!(
+        said.out.starts_with("Under version 2 of the rules.\nAllowed by policy 1 in line 1: no forbid is satisfied"),
+        "{}",
+        said.out
+    );
+    assert!(
+        said.out.ends_with("!! policy 2 in line 3 is disarmed: it could forbid if principal.hired were there\n"),
+        "{}",
+        said.out
+    );
+    let said = folder.says(&["explain", "@k7.txt", "--version", "2"]).out;
+    let line =
+        "    principal.hired is absent, and it is met: under version 2 that makes the whole policy unsatisfied\n";
+    assert!(said.starts_with("Under version 2 of the rules.\n\npolicy 1") && said.contains(line), "{}", said);
+    let tests = [REQUEST, "principal.grade = 3\ntest \"nobody noted it\"\nexpect forbidden by 2\n"].concat();
+    fs::write(folder.path("tests.txt"), tests).unwrap();
+    assert!(folder.says(&["test", "@tests.txt"]).out.ends_with("\n1 test, 0 failed\n"));
+    let said = folder.says(&["test", "@tests.txt", "--version", "2"]);
+    assert_eq!(said.status, 1);
+    assert!(said.out.ends_with("but it is allowed by policy 1\n1 test under version 2, 1 failed\n"), "{}", said.out);
+    let said = with_question(RULES, &[REQUEST, "principal.grade = \"3\"\nprincipal.hired = \"own\""].concat());
+    let never = "principal.grade is never a number in this question: the comparison is never true";
+    assert!(all(&said.says(&["sheet", "@", "--version", "2"])).contains(never));
+}
+
+// 02, request 7: 30 before everything that is wrong with the text.
+#[test]
+fn a_version_that_is_none_is_refused() {
+    let tests = [REQUEST, "test \"a\"\nexpect forbidden\n"].concat();
+    let bag = ["bag\n", REQUEST].concat();
+    for rules in [TURNED, "permit", ""] {
+        let files = [
+            ("policy.txt", rules),
+            ("question.txt", &[REQUEST, COLUMNS].concat()),
+            ("k7.txt", &bag),
+            ("tests.txt", &tests),
+        ];
+        let folder = Folder::new(&files);
+        for version in ["0", "3", "10", "257", "18446744073709551615"] {
+            for words in [
+                &["check", "@"][..],
+                &["sheet", "@", "--table"],
+                &["tally", "@"],
+                &["decide", "@k7.txt"],
+                &["explain", "@", "--row", "3"],
+                &["test", "@tests.txt"],
+                &["diff", "@policy.txt", "@policy.txt", "@"],
+            ] {
+                let said = folder.says(&[words, &["--version", version]].concat());
+                let sentence = format!("Refused, number 30. There is no version {} of the rules: there are versions 1 and 2. Say --version 1,", version);
+                assert_eq!(said.status, 1, "{:?}", words);
+                assert!(said.out.replace('\n', " ").starts_with(&sentence), "{:?}\n{}", words, said.out);
+            }
+            let said = folder.says(&["sheet", "@", "--version", version]);
+            assert_eq!((said.out.as_str(), said.status), ("refused 30 0 0 0\n", 1));
+            assert!(said.warnings.last().unwrap().starts_with("refused: There is no version"), "{:?}", said.warnings);
+            let said = folder.says(&["sheet", "@", "--version", version, "--html", "@page.html"]);
+            assert_eq!(said.status, 1);
+            assert!(fs::read_to_string(folder.path("page.html")).unwrap().contains("<h1>Refused, number 30</h1>"));
+        }
+    }
+}
+
+#[test]
+fn refusals_of_a_version_are_held_to_the_version() {
+    let words = ["diff", "@policy.txt", "@policy.txt", "@", "--versions", "1", "3"];
+    assert!(turned().says(&words).out.starts_with("Refused, number 30.\nThere is no version 3"));
+    // A program that refuses a version that there is, or another thing than a version that there is not, is wrong.
+    for (wrong, version) in [("refused 30 0 0 0\n", "2"), ("refused 24 0 0 0\n", "3")] {
+        let path = turned();
+        let where_it_is = path.path("question.txt");
+        let failed = run(&Wrong(wrong), &["sheet", &where_it_is, "--version", version]).unwrap_err();
+        assert!(format!("{:?}", failed).contains("it is wrong, so nothing is shown"), "{:?}", failed);
+    }
+}
+
+// What version 2 closes, takes away and opens stands in the table and on the page of version 1, and of version 2.
+#[test]
+fn the_sheet_tells_what_version_2_changes() {
+    let folder = turned();
+    let table = folder.says(&["sheet", "@", "--table", "--forbidden"]).out;
+    for line in [
+        "The same rules under version 2:",
+        "    Version 2 closes this hole: row 1.",
+        "!!! VERSION 2 OPENS 1 ROW that version 1 forbids: what is absent disarms a forbid.",
+        "    row 3: policy 2 in line 3 forbids under version 1; under version 2 it meets principal.hired,",
+        "    row  principal.grade  principal.hired  outcome  version 2  policy",
+        "!!    1  ABSENT !!        \"own\"            allowed  no         1 permit(principal is person, actio..",
+        "      4  3                \"own\"            allowed  yes        1 permit(principal is person, actio..",
+        "version 2: whether the row is allowed under it.",
+        "    in row 1 with principal.grade = 2.5; version 2 closes it",
+        "      3  3               absent         forbidden      YES        2 forbid(principal, action..  1",
+    ] {
+        assert!(table.lines().any(|said| said == line), "{}\n{}", line, table);
+    }
+    assert_eq!(folder.says(&["sheet", "@", "--html", "@page.html", "--forbidden"]).status, 0);
+    let page = fs::read_to_string(folder.path("page.html")).unwrap();
+    for part in [
+        "<h2>The same rules under version 2</h2>\n<p>Version 2 closes this hole: row 1.</p>\n<div class=\"opened\"><p><b>!!! VERSION 2 OPENS 1 ROW",
+        "<th class=\"short\">version 2</th>",
+        "<td class=\"short\">no</td>",
+        "<td class=\"short opened\">YES</td>",
+        "<p>version 2: whether the row is allowed under it.</p>",
+    ] {
+        assert!(page.contains(part), "{}\n{}", part, page);
+    }
+    let table = folder.says(&["sheet", "@", "--table", "--version", "2"]).out;
+    for line in [
+        "Version 2 beside version 1:",
+        "    Version 2 closes the hole of version 1: row 1.",
+        "version 1: whether the row is allowed under it.",
+    ] {
+        assert!(table.lines().any(|said| said == line), "{}\n{}", line, table);
+    }
+    assert!(table.contains("ABSENT !!        allowed  NO   "), "{}", table);
+}
+
+// The rows that the version alone changes, and in each what is met; the policies of the one text are shown once.
+#[test]
+fn one_text_is_compared_under_two_versions() {
+    let folder = turned();
+    let diff = |versions: &[&str]| folder.says(&[&["diff", "@policy.txt", "@policy.txt", "@"], versions].concat()).out;
+    let name = folder.path("policy.txt");
+    let said = diff(&["--versions", "1", "2"]);
+    assert!(
+        said.starts_with(&format!(
+            "{} under version 1 before, {} under version 2 after.\n9 rows: 1 opened, 1 closed,",
+            name, name
+        )),
+        "{}",
+        said
+    );
+    for rows in [
+        "  row 3  principal.grade = 3, principal.hired = absent\n      before: forbidden by policy 2\n      after:  allowed by policy 1\n      \
+         under version 2 policy 2 meets principal.hired, which is absent, and is unsatisfied\n",
+        "  row 1  principal.grade = absent, principal.hired = \"own\"\n      before: allowed by policy 1\n      after:  not permitted\n      \
+         under version 2 policy 1 meets principal.grade, which is absent, and is unsatisfied\n",
+    ] {
+        assert!(said.contains(rows), "{}", said);
+    }
+    assert_eq!(said.matches("policy.txt, policy 1 in line 1:").count(), 1, "{}", said);
+    let back = diff(&["--versions", "2", "1"]);
+    assert!(
+        back.contains("1 opened, 1 closed")
+            && back.contains("      after:  forbidden by policy 2\n      under version 2 policy 2 meets"),
+        "{}",
+        back
+    );
+    assert!(diff(&["--version", "2"]).contains(&format!(
+        "{} under version 2 before, {} under version 2 after.\n9 rows: 0 opened, 0 closed",
+        name, name
+    )));
+    assert!(diff(&[]).starts_with(&format!("{} before, {} after.\n9 rows: 0 opened, 0 closed", name, name)));
+}
+
+// A permit that version 2 takes away may leave the row to another. Of two texts nothing is said of what is met.
+#[test]
+fn the_version_may_leave_a_row_to_another_policy() {
+    let folder = turned();
+    let diff = |versions: &[&str]| folder.says(&[&["diff", "@policy.txt", "@policy.txt", "@"], versions].concat()).out;
+    let second = [
+        TURNED,
+        "permit(principal, action, resource) when { !(principal has grade) && principal.hired == \"own\" };\n",
+    ]
+    .concat();
+    fs::write(folder.path("policy.txt"), second).unwrap();
+    let said = diff(&["--versions", "1", "2"]);
+    assert!(said.contains("1 opened, 0 closed, 1 decided by another policy, 7 as before."), "{}", said);
+    assert!(
+        said.contains("      after:  allowed by policy 3\n      under version 2 policy 1 meets principal.grade"),
+        "{}",
+        said
+    );
+    fs::write(folder.path("after.txt"), TURNED).unwrap();
+    assert!(!folder.says(&["diff", "@policy.txt", "@after.txt", "@", "--versions", "1", "2"]).out.contains("meets"));
+}
+
+// docs/QUESTIONS.md shows what is said of examples/versions.
+#[test]
+fn the_examples_of_versions_are_documented() {
+    let path = Path::new(env!("CARGO_MANIFEST_DIR")).join("../../examples/versions");
+    let (folder, rules) = (path.to_string_lossy().into_owned(), path.join("policy.txt").to_string_lossy().into_owned());
+    let says = |words: &[&str]| run(&StandIn, words).unwrap().out;
+    let part = |said: String, first: &str, lines: usize| -> String {
+        let shown = said.lines().skip_while(|line| !line.starts_with(first)).take(lines);
+        shown.map(|line| format!("    {}\n", line)).collect()
+    };
+    for shown in [
+        part(says(&["sheet", &folder, "--table"]), "The same rules", 7),
+        part(says(&["explain", &folder, "--row", "9", "--version", "2"]), "policy 2", 7),
+        part(says(&["check", &rules, "--version", "3"]), "Refused", 4),
+        part(says(&["diff", &rules, &rules, &folder, "--versions", "1", "2"]), "  row 9", 4),
+    ] {
+        assert!(shown.lines().count() > 3 && documented(&shown), "{}", shown);
+    }
+    for (tests, version) in [("7 tests, 0 failed\n", "1"), ("7 tests under version 2, 0 failed\n", "2")] {
+        let words = ["tests.txt", "both.txt"].map(|name| path.join(name).to_string_lossy().into_owned());
+        assert!(says(&["test", &words[0], "--rules", &words[1], "--version", version]).ends_with(tests));
+    }
+}
+
 // The examples say what their pages say.
 #[test]
 fn the_examples_have_no_stale_files() {
     let examples = Path::new(env!("CARGO_MANIFEST_DIR")).join("../../examples");
-    for name in ["worked", "crew", "crew/night", "crew/records", "south"] {
+    for name in ["worked", "crew", "crew/night", "crew/records", "south", "versions"] {
         let path = examples.join(name).to_string_lossy().into_owned();
         let said = run(&StandIn, &["sheet", &path]).unwrap_or_else(|failure| failed(&[], failure));
         assert_eq!(said.status, 0, "{}", all(&said));

@@ -5,7 +5,7 @@ use std::path::Path;
 
 use definitions::compile::policies_of;
 use definitions::locks::{permit_of, NO_LOCK};
-use definitions::policies::{Effect, Policy};
+use definitions::policies::{Effect, Policy, Version};
 
 use crate::answers::{self, Answer, Answers, Refused};
 use crate::asked::{file_name, read_asked, write_made, Asked, RULES};
@@ -13,7 +13,7 @@ use crate::bytes::read_bytes;
 use crate::command::{not_asked, read_file, Done, Said, Words};
 use crate::diffing::{diff, diff_text};
 use crate::doubts::{doubts, doubts_of_all};
-use crate::explaining::{also_satisfied, conclusion, disarmed, explained};
+use crate::explaining::{also_satisfied, conclusion, disarmed, explained, Rules};
 use crate::lock_reasons::{doubts_of, no_room, sentence_of};
 use crate::locking::{read_locks, LockFile, LockLine};
 use crate::page;
@@ -21,35 +21,34 @@ use crate::places::{place_in_text, wrong_in_text, PlaceShown};
 use crate::plain;
 use crate::printed::{check_belongs, read_printed, Listed, Printed};
 use crate::record::record_of;
-use crate::refusals::{Files, RefusalShown};
-use crate::report::{report, tally_report};
-use crate::rules::{condition_lines, policy_texts};
+use crate::refusals::{Files, RefusalShown, NO_VERSION};
+use crate::report::{report, tally_report, Sheets};
+use crate::rules::{condition_lines, policy_texts, PolicyText};
 use crate::tallies::{self, check_lists, check_marks, RefusedTally, TallyShown};
 use crate::tally_page::tally_page;
 use crate::tally_text::tally_text;
 use crate::testing::{answer_text, read_tests};
+use crate::versions::{said_of_version, under};
 use crate::words::count_of;
 use crate::writing::text_of;
 
 /// `sheet`: plain lines, a table or a page.
 pub fn sheet(desk: &dyn Answers, words: &[&str]) -> Done<Said> {
-    let options = ["--rules", "--request", "--table", "--html", "--forbidden", "--missing-is-empty"];
+    let options = ["--rules", "--version", "--request", "--table", "--html", "--forbidden", "--missing-is-empty"];
     let words = Words::read(words, &options, 1..=1)?;
-    let mut asked = read_asked(&words.names[0], words.rules.as_deref(), words.missing_is_empty)?;
+    let mut asked = what_is_asked(&words, words.missing_is_empty)?;
     if !words.missing_is_empty {
         check_has_rows(&asked)?;
     }
     asked.choose(words.request)?;
-    let printed = desk.sheet(&asked.rules, &asked.sent, &asked.request_bytes())?;
+    let printed = desk.sheet(asked.version, &asked.rules, &asked.sent, &asked.request_bytes())?;
     let listed = match read_sheet(&asked, &printed)? {
         Ok(listed) => listed,
         Err(refused) => return refused_sheet(&asked, &words, &printed, refused),
     };
     add_doubts(&mut asked);
     if !words.table && words.html.is_none() {
-        let mut said = Said::answered(printed);
-        said.warnings = asked.warnings;
-        return Ok(said);
+        return Ok(said_in_lines(&asked, printed));
     }
     let tally = match tallies::tally(desk, &asked)? {
         (_, Ok(tally)) => tally,
@@ -58,7 +57,9 @@ pub fn sheet(desk: &dyn Answers, words: &[&str]) -> Done<Said> {
     let chosen = words.request.unwrap_or(1);
     check_lists(&tally.requests[chosen - 1], &listed)?;
     check_marks(&asked, &listed)?;
-    let report = report(desk, &asked, &listed, TallyShown::new(&asked, tally, Some(chosen))?, words.forbidden)?;
+    let other = other_sheet(desk, &asked)?;
+    let sheets = Sheets { listed: &listed, other: other.as_deref() };
+    let report = report(desk, &asked, sheets, TallyShown::new(&asked, tally, Some(chosen))?, words.forbidden)?;
     let mut said = Said::default();
     if let Some(name) = &words.html {
         put_page(name, &page::sheet_page(&report, &record_of(&recorded(&asked))))?;
@@ -71,11 +72,43 @@ pub fn sheet(desk: &dyn Answers, words: &[&str]) -> Done<Said> {
     Ok(said)
 }
 
+/// What the words' first name asks, under the version that they name.
+fn what_is_asked(words: &Words, missing_is_empty: bool) -> Done<Asked> {
+    let asked = read_asked(&words.names[0], words.rules.as_deref(), missing_is_empty)?;
+    Ok(Asked { version: words.version(), ..asked })
+}
+
+/// Plain lines as a proved program printed them. Under which version, where it is not version 1, is said beside them.
+fn said_in_lines(asked: &Asked, printed: String) -> Said {
+    let mut said = Said::answered(printed);
+    said.warnings.extend(asked.warnings.iter().cloned());
+    if asked.version != 1 {
+        said.warnings.push(format!("these lines are{}", under(asked.version)));
+    }
+    said
+}
+
+/// The rows that the sheet lists under the other version; nothing where there is no rule to compare.
+fn other_sheet(desk: &dyn Answers, asked: &Asked) -> Done<Option<Vec<Listed>>> {
+    let other = match asked.other_version() {
+        Some(version) => asked.under(version),
+        None => return Ok(None),
+    };
+    let printed = desk.sheet(other.version, &other.rules, &other.sent, &other.request_bytes())?;
+    match read_sheet(&other, &printed)? {
+        Ok(listed) => {
+            check_marks(&other, &listed)?;
+            Ok(Some(listed))
+        }
+        Err(_) => not_asked("the sheet is refused under one version alone: one of the proved programs is wrong"),
+    }
+}
+
 /// `tally`: tables of counts, a page, or plain lines.
 pub fn tally(desk: &dyn Answers, words: &[&str]) -> Done<Said> {
-    let words = Words::read(words, &["--rules", "--lines", "--html"], 1..=1)?;
+    let words = Words::read(words, &["--rules", "--version", "--lines", "--html"], 1..=1)?;
     let words = Words { table: !words.lines && words.html.is_none(), ..words };
-    let mut asked = read_asked(&words.names[0], words.rules.as_deref(), false)?;
+    let mut asked = what_is_asked(&words, false)?;
     check_has_rows(&asked)?;
     let (printed, tally) = match tallies::tally(desk, &asked)? {
         (printed, Ok(tally)) => (printed, tally),
@@ -83,15 +116,12 @@ pub fn tally(desk: &dyn Answers, words: &[&str]) -> Done<Said> {
     };
     let policies = policies_of(&asked.rules).unwrap_or_default();
     asked.warnings.extend(doubts_of_all(&asked, &policies));
-    let mut said = Said { out: printed, warnings: asked.warnings.clone(), status: 0 };
     let report = tally_report(&asked, tally)?;
     if let Some(name) = &words.html {
         put_page(name, &tally_page(&report, &record_of(&recorded(&asked))))?;
-        said.out = format!("wrote {}\n", name);
-    } else if words.table {
-        said = Said::answered(tally_text(&report));
+        return Ok(Said { out: format!("wrote {}\n", name), warnings: asked.warnings, status: 0 });
     }
-    Ok(said)
+    Ok(if words.table { Said::answered(tally_text(&report)) } else { said_in_lines(&asked, printed) })
 }
 
 /// A refused tally, as it is shown: which request is refused, why, and what to do.
@@ -130,7 +160,8 @@ fn said_refusal(asked: &Asked, words: &Words, printed: &str, shown: RefusalShown
     let mut said = Said::refused(printed.to_string());
     said.warnings = asked.warnings.clone();
     if let Some(name) = &words.html {
-        put_page(name, &page::refusal_page(&shown, &asked.rules_name, &asked.warnings, &record_of(&recorded(asked))))?;
+        let record = record_of(&recorded(asked));
+        put_page(name, &page::refusal_page(&shown, &asked.rules_name, asked.version, &asked.warnings, &record))?;
         said.out.clear();
     }
     if words.table {
@@ -170,7 +201,8 @@ fn read_sheet(asked: &Asked, printed: &str) -> Done<Result<Vec<Listed>, Refused>
     }
 }
 
-/// A refusal in words. One with a place must be where, and as long as, what explains it finds it.
+/// A refusal in words. One with a place must be where, and as long as, what explains it finds it; one of the version, and no other, must be
+/// for a version that is none.
 fn refusal_shown(asked: &Asked, refused: Refused) -> Done<RefusalShown> {
     let own = policies_of(&asked.rules).err().map(|own| Refused {
         number: usize::from(own.number),
@@ -178,6 +210,12 @@ fn refusal_shown(asked: &Asked, refused: Refused) -> Done<RefusalShown> {
         column: own.column,
         length: own.length,
     });
+    if (refused.number == NO_VERSION) != Version::named(asked.version).is_none() {
+        return not_asked(format!(
+            "the proved program refuses version {} with {}: it is wrong, so nothing is shown",
+            asked.version, refused.number
+        ));
+    }
     if refused.line > 0 && own != Some(refused) {
         let Refused { number, line, column, length } = refused;
         return not_asked(format!(
@@ -185,8 +223,13 @@ fn refusal_shown(asked: &Asked, refused: Refused) -> Done<RefusalShown> {
             number, line, column, count_of(length, "byte", "bytes")
         ));
     }
-    let files =
-        Files { text: &asked.rules, question: &asked.sent, request: asked.request(), requests: asked.requests.len() };
+    let files = Files {
+        text: &asked.rules,
+        version: asked.version,
+        question: &asked.sent,
+        request: asked.request(),
+        requests: asked.requests.len(),
+    };
     RefusalShown::new(&files, refused).or_else(not_asked)
 }
 
@@ -200,25 +243,24 @@ fn add_doubts(asked: &mut Asked) -> Vec<Policy> {
 
 /// `check`: whether a rule text compiles.
 pub fn check(desk: &dyn Answers, words: &[&str]) -> Done<Said> {
-    let words = Words::read(words, &[], 1..=1)?;
+    let words = Words::read(words, &["--version"], 1..=1)?;
     let name = in_folder(&words.names[0], RULES);
     let text = read_file(&name)?;
-    match answers::check(desk, &text)? {
-        Ok(policies) => {
-            let permits =
-                policies_of(&text).unwrap_or_default().iter().filter(|one| one.effect == Effect::Permit).count();
-            let (permit, forbid) =
-                (count_of(permits, "permit", "permits"), count_of(policies - permits, "forbid", "forbids"));
-            Ok(Said::answered(format!(
-                "{}: {}, {} and {}.\n",
-                name,
-                count_of(policies, "policy", "policies"),
-                permit,
-                forbid
-            )))
-        }
-        Err(refused) => Ok(Said::refused(refused_rules(&name, &text, refused)?)),
-    }
+    let policies = match answers::check(desk, words.version(), &text)? {
+        Ok(policies) => policies,
+        Err(refused) => return Ok(Said::refused(refused_rules(&name, &text, words.version(), refused)?)),
+    };
+    let permits = policies_of(&text).unwrap_or_default().iter().filter(|one| one.effect == Effect::Permit).count();
+    // A text without policies has no version.
+    let under = if policies == 0 { String::new() } else { under(words.version()) };
+    Ok(Said::answered(format!(
+        "{}{}: {}, {} and {}.\n",
+        name,
+        under,
+        count_of(policies, "policy", "policies"),
+        count_of(permits, "permit", "permits"),
+        count_of(policies - permits, "forbid", "forbids")
+    )))
 }
 
 /// The file of this name in a folder, or the file that is named.
@@ -231,9 +273,10 @@ fn in_folder(name: &str, file: &str) -> String {
 }
 
 /// A refusal of rules, with its place and what is expected there.
-fn refused_rules(name: &str, text: &[u8], refused: Refused) -> Done<String> {
+fn refused_rules(name: &str, text: &[u8], version: u64, refused: Refused) -> Done<String> {
     let files = Files {
         text,
+        version,
         question: &[],
         request: definitions::deciding::Request { subject: b"", action: b"", resource: b"" },
         requests: 0,
@@ -273,28 +316,29 @@ fn one_case(
             ))
         }
     };
-    Ok(answers::decide(desk, &asked.rules, &[case.clone()])?.map(|answers| (case, answers[0])))
+    Ok(answers::decide(desk, asked.version, &asked.rules, &[case.clone()])?.map(|answers| (case, answers[0])))
 }
 
 /// `decide`: one request over a bag.
 pub fn decide(desk: &dyn Answers, words: &[&str]) -> Done<Said> {
-    let words = Words::read(words, &["--rules", "--request"], 1..=1)?;
-    let mut asked = read_asked(&words.names[0], words.rules.as_deref(), false)?;
+    let words = Words::read(words, &["--rules", "--version", "--request"], 1..=1)?;
+    let mut asked = what_is_asked(&words, false)?;
     asked.choose(words.request)?;
     let (case, answer) = match one_case(desk, &asked, None)? {
         Ok(answered) => answered,
-        Err(refused) => return Ok(Said::refused(refused_rules(&asked.rules_name, &asked.rules, refused)?)),
+        Err(refused) => return Ok(Said::refused(refusal_shown(&asked, refused)?.text(&asked.rules_name))),
     };
     let mut said = match answer {
         Answer::Refused(refused) => Said::refused(refusal_shown(&asked, refused)?.text(&asked.rules_name)),
         Answer::Decided { outcome, policy, .. } => {
             let texts = policy_texts(&asked.rules);
-            let mut lines = conclusion(answer, &texts);
+            let mut lines = Vec::from_iter(said_of_version(asked.version));
+            lines.extend(conclusion(answer, &texts));
             lines.extend(texts.iter().filter(|text| text.number == policy).flat_map(|text| condition_lines(text)));
             lines.extend(also_satisfied(answer, &texts));
             if outcome == 1 {
                 let policies = policies_of(&asked.rules).unwrap_or_default();
-                lines.extend(disarmed(&asked.rules, &policies, &texts, &case));
+                lines.extend(disarmed(&rules_of(&asked, &policies, &texts), &case));
             }
             Said::answered(lines.join("\n") + "\n")
         }
@@ -306,26 +350,33 @@ pub fn decide(desk: &dyn Answers, words: &[&str]) -> Done<Said> {
 
 /// `explain`: why a row, or one request, is decided as it is.
 pub fn explain(desk: &dyn Answers, words: &[&str]) -> Done<Said> {
-    let words = Words::read(words, &["--rules", "--row", "--request"], 1..=1)?;
-    let mut asked = read_asked(&words.names[0], words.rules.as_deref(), false)?;
+    let words = Words::read(words, &["--rules", "--version", "--row", "--request"], 1..=1)?;
+    let mut asked = what_is_asked(&words, false)?;
     asked.choose(words.request)?;
     let (case, answer) = match one_case(desk, &asked, words.row)? {
         Ok(answered) => answered,
-        Err(refused) => return Ok(Said::refused(refused_rules(&asked.rules_name, &asked.rules, refused)?)),
+        Err(refused) => return Ok(Said::refused(refusal_shown(&asked, refused)?.text(&asked.rules_name))),
     };
     if let Answer::Refused(refused) = answer {
         return Ok(Said::refused(refusal_shown(&asked, refused)?.text(&asked.rules_name)));
     }
     let policies = add_doubts(&mut asked);
-    let lines = explained(&asked.rules, &policies, &policy_texts(&asked.rules), &case, answer);
+    let texts = policy_texts(&asked.rules);
+    let mut lines = Vec::from_iter(said_of_version(asked.version).map(|said| said + "\n"));
+    lines.extend(explained(&rules_of(&asked, &policies, &texts), &case, answer));
     let mut said = Said::answered(lines.join("\n") + "\n");
     said.warnings = asked.warnings;
     Ok(said)
 }
 
+/// The rules of what is asked, to be explained.
+fn rules_of<'a>(asked: &'a Asked, policies: &'a [Policy], texts: &'a [PolicyText]) -> Rules<'a> {
+    Rules { text: &asked.rules, version: asked.known_version(), policies, texts }
+}
+
 /// `test`: requests with expected outcomes.
 pub fn test(desk: &dyn Answers, words: &[&str]) -> Done<Said> {
-    let words = Words::read(words, &["--rules"], 1..=usize::MAX)?;
+    let words = Words::read(words, &["--rules", "--version"], 1..=usize::MAX)?;
     let mut said = Said::default();
     let (mut all, mut failed) = (0, 0);
     for name in &words.names {
@@ -335,9 +386,9 @@ pub fn test(desk: &dyn Answers, words: &[&str]) -> Done<Said> {
         let rules_name = words.rules.clone().unwrap_or(beside);
         let rules = read_file(&rules_name)?;
         let cases: Vec<_> = tests.iter().map(|test| test.case.clone()).collect();
-        let answers = match answers::decide(desk, &rules, &cases)? {
+        let answers = match answers::decide(desk, words.version(), &rules, &cases)? {
             Ok(answers) => answers,
-            Err(refused) => return Ok(Said::refused(refused_rules(&rules_name, &rules, refused)?)),
+            Err(refused) => return Ok(Said::refused(refused_rules(&rules_name, &rules, words.version(), refused)?)),
         };
         for (test, answer) in tests.iter().zip(answers) {
             all += 1;
@@ -356,22 +407,23 @@ pub fn test(desk: &dyn Answers, words: &[&str]) -> Done<Said> {
             }
         }
     }
-    said.out += &format!("{}, {} failed\n", count_of(all, "test", "tests"), failed);
+    said.out += &format!("{}{}, {} failed\n", count_of(all, "test", "tests"), under(words.version()), failed);
     said.status = i32::from(failed > 0);
     Ok(said)
 }
 
 /// `diff`: two rule texts, one question.
 pub fn difference(desk: &dyn Answers, words: &[&str]) -> Done<Said> {
-    let words = Words::read(words, &["--request"], 3..=3)?;
+    let words = Words::read(words, &["--request", "--version", "--versions"], 3..=3)?;
     let [before, after] =
         [0, 1].map(|side: usize| read_asked(&words.names[2], Some(words.names[side].as_str()), false));
     let (mut before, mut after) = (before?, after?);
+    [before.version, after.version] = words.versions();
     before.choose(words.request)?;
     after.choose(words.request)?;
     let mut sheets = Vec::new();
     for asked in [&before, &after] {
-        let printed = desk.sheet(&asked.rules, &asked.question_bytes(), &asked.request_bytes())?;
+        let printed = desk.sheet(asked.version, &asked.rules, &asked.question_bytes(), &asked.request_bytes())?;
         match read_sheet(asked, &printed)? {
             Ok(listed) => sheets.push(listed),
             Err(refused) => return Ok(Said::refused(refusal_shown(asked, refused)?.text(&asked.rules_name))),

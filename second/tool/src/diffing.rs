@@ -1,4 +1,8 @@
-//! Two rule texts and one question: the rows opened, closed, and decided by another policy.
+//! Two rule texts, or one under two versions, and one question: the rows opened, closed, and decided by another policy.
+
+use definitions::compile::policies_of;
+use definitions::policies::Version;
+use definitions::questions::Question;
 
 use crate::answers::{decide, Answer, Answers};
 use crate::asked::Asked;
@@ -6,6 +10,7 @@ use crate::command::{not_asked, Done};
 use crate::printed::Listed;
 use crate::rules::{policy_texts, PolicyText};
 use crate::testing::answer_text;
+use crate::versions::{met_absent, under};
 use crate::words::count_of;
 use crate::writing::candidate_text;
 
@@ -76,7 +81,7 @@ fn noes(desk: &dyn Answers, asked: &Asked, rows: &[usize]) -> Done<Vec<Answer>> 
             )
         }
     };
-    match decide(desk, &asked.rules, &cases)? {
+    match decide(desk, asked.version, &asked.rules, &cases)? {
         Ok(answers) => Ok(answers),
         Err(_) => not_asked("the sheet has rows, but the rules are refused: one of the proved programs is wrong"),
     }
@@ -85,22 +90,11 @@ fn noes(desk: &dyn Answers, asked: &Asked, rows: &[usize]) -> Done<Vec<Answer>> 
 /// The difference as text.
 pub fn diff_text(diff: &Diff, before: &Asked, after: &Asked) -> Done<String> {
     let question = before.question()?;
-    let line = |changed: &Changed| {
-        let choices = question.choices_of(changed.row);
-        let columns = before.form.columns.iter().flatten().zip(choices);
-        let values: Vec<String> = columns
-            .map(|(column, choice)| format!("{} = {}", column.name(), candidate_text(&column.candidates[choice])))
-            .collect();
-        let values = if values.is_empty() { String::new() } else { format!("  {}", values.join(", ")) };
-        format!(
-            "  row {}{}\n      before: {}\n      after:  {}\n",
-            changed.row,
-            values,
-            answer_text(changed.before),
-            answer_text(changed.after)
-        )
+    let named = |asked: &Asked| match before.version == after.version {
+        true => format!("{}{}", asked.rules_name, under(asked.version)),
+        false => format!("{} under version {}", asked.rules_name, asked.version),
     };
-    let mut text = format!("{} before, {} after.\n", before.rules_name, after.rules_name);
+    let mut text = format!("{} before, {} after.\n", named(before), named(after));
     text += &format!(
         "{}: {} opened, {} closed, {} decided by another policy, {} as before.\n",
         count_of(question.rows(), "row", "rows"),
@@ -115,20 +109,61 @@ pub fn diff_text(diff: &Diff, before: &Asked, after: &Asked) -> Done<String> {
         ("Allowed before and after, by another policy", &diff.by_another),
     ] {
         if !rows.is_empty() {
-            text += &format!("\n{}\n{}", title, rows.iter().map(line).collect::<String>());
+            let rows: String = rows.iter().map(|changed| changed_text(changed, &question, before, after)).collect();
+            text += &format!("\n{}\n{}", title, rows);
         }
     }
     Ok(text + &policies_text(diff, before, after))
 }
 
-/// The policies that are named, as they stand in their files.
+/// A row that is decided otherwise: its values, both answers, and what version 2 meets there.
+fn changed_text(changed: &Changed, question: &Question, before: &Asked, after: &Asked) -> String {
+    let choices = question.choices_of(changed.row);
+    let columns = before.form.columns.iter().flatten().zip(choices);
+    let values: Vec<String> = columns
+        .map(|(column, choice)| format!("{} = {}", column.name(), candidate_text(&column.candidates[choice])))
+        .collect();
+    let values = if values.is_empty() { String::new() } else { format!("  {}", values.join(", ")) };
+    format!(
+        "  row {}{}\n      before: {}\n      after:  {}\n{}",
+        changed.row,
+        values,
+        answer_text(changed.before),
+        answer_text(changed.after),
+        met_text(changed, question, before, after).unwrap_or_default()
+    )
+}
+
+/// Which absent attribute makes the policy that decides under version 1 unsatisfied under version 2; nothing where more than the version
+/// differs.
+fn met_text(changed: &Changed, question: &Question, before: &Asked, after: &Asked) -> Option<String> {
+    let under_first = match (before.known_version(), after.known_version()) {
+        (Version::One, Version::Two) => changed.before,
+        (Version::Two, Version::One) => changed.after,
+        _ => return None,
+    };
+    let policy = match under_first {
+        Answer::Decided { policy, .. } if before.rules == after.rules => policy,
+        _ => return None,
+    };
+    let policies = policies_of(&before.rules).ok()?;
+    let attribute = met_absent(before, question, changed.row, policies.get(policy.checked_sub(1)?)?)?;
+    let said = format!("policy {} meets {}, which is absent, and is unsatisfied", policy, attribute);
+    Some(format!("      under version 2 {}\n", said))
+}
+
+/// The policies that are named, as they stand in their files; those of one text under two versions once.
 fn policies_text(diff: &Diff, before: &Asked, after: &Asked) -> String {
-    let mut text = String::new();
     let changed = || diff.opened.iter().chain(&diff.closed).chain(&diff.by_another);
-    for (asked, answers) in [
-        (before, changed().map(|one| one.before).collect::<Vec<_>>()),
-        (after, changed().map(|one| one.after).collect::<Vec<_>>()),
-    ] {
+    let befores: Vec<Answer> = changed().map(|one| one.before).collect();
+    let afters: Vec<Answer> = changed().map(|one| one.after).collect();
+    let is_one_file = (&before.rules_name, &before.rules) == (&after.rules_name, &after.rules);
+    let sides = match is_one_file {
+        true => vec![(before, [befores, afters].concat())],
+        false => vec![(before, befores), (after, afters)],
+    };
+    let mut text = String::new();
+    for (asked, answers) in sides {
         let is_named = |policy: &&PolicyText| {
             answers
                 .iter()

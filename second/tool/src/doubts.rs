@@ -5,7 +5,7 @@ use definitions::characters::is_utf8;
 use definitions::deciding::Facts;
 use definitions::numbers::Comparator;
 use definitions::patterns::like;
-use definitions::policies::{ActionPart, Attribute, Condition, Effect, Literal, Operand, Policy, Root};
+use definitions::policies::{ActionPart, Attribute, Condition, Effect, Literal, Operand, Policy, Root, Version};
 
 use crate::asked::{file_name, Asked};
 use crate::form::{attribute, PARTS};
@@ -124,7 +124,7 @@ fn doubt_of_action(asked: &Asked, policies: &[Policy]) -> Option<String> {
 /// A request that no permit's target matches, and which part is at fault if one alone is.
 fn doubts_of_target(asked: &Asked, policies: &[Policy]) -> Vec<String> {
     let none = |_: u8, _: &[u8]| None;
-    let facts = Facts { text: &asked.rules, request: asked.request(), look_up: &none };
+    let facts = Facts { text: &asked.rules, version: asked.known_version(), request: asked.request(), look_up: &none };
     let matches = |policy: &Policy| {
         policy.effect == Effect::Permit
             && facts.principal_matches(&policy.principal)
@@ -175,7 +175,7 @@ fn doubts_of_attributes(asked: &Asked, policies: &[Policy]) -> Vec<String> {
 /// What a policy that is about this request asks for, and the question gives nowhere.
 fn doubts_of_missing(asked: &Asked, policies: &[Policy]) -> Vec<String> {
     let none = |_: u8, _: &[u8]| None;
-    let facts = Facts { text: &asked.rules, request: asked.request(), look_up: &none };
+    let facts = Facts { text: &asked.rules, version: asked.known_version(), request: asked.request(), look_up: &none };
     let mut missing: Vec<(String, Vec<usize>)> = Vec::new();
     for (index, policy) in policies.iter().enumerate() {
         let is_about = facts.principal_matches(&policy.principal)
@@ -220,12 +220,24 @@ fn doubts_of_kinds(asked: &Asked, policies: &[Policy]) -> Vec<String> {
                 if !values.is_empty() && !values.iter().any(|value| kinds.contains(&kind_of(value))) {
                     let name = crate::rules::attribute_text(&asked.rules, &asked_for);
                     let kinds = kinds.join(" or ");
-                    let never = if asked.is_bag() {
-                        format!("{} is not {}: the comparison is false", name, kinds)
-                    } else {
-                        format!("{} is never {} in this question: the comparison is always false", name, kinds)
+                    // Under version 2 it may be missing, where something is absent.
+                    let truth = match (asked.known_version(), asked.is_bag()) {
+                        (Version::One, true) => "false",
+                        (Version::One, false) => "always false",
+                        (Version::Two, true) => "not true",
+                        (Version::Two, false) => "never true",
                     };
-                    doubts.push(format!("policy {} has {}, but {}", index + 1, condition_text(&asked.rules, leaf), never));
+                    let never = if asked.is_bag() {
+                        format!("{} is not {}: the comparison is {}", name, kinds, truth)
+                    } else {
+                        format!("{} is never {} in this question: the comparison is {}", name, kinds, truth)
+                    };
+                    doubts.push(format!(
+                        "policy {} has {}, but {}",
+                        index + 1,
+                        condition_text(&asked.rules, leaf),
+                        never
+                    ));
                 }
             }
         }

@@ -1,22 +1,32 @@
 //! Why a request is decided as it is: each policy with its target and the parts of its condition, the values met, and what is absent.
+//! Under version 2 also which absent attribute is met and makes a policy unsatisfied, and which parts are not met.
 
 use definitions::asking::Case;
 use definitions::bags::read_bag;
-use definitions::deciding::{Facts, Request};
-use definitions::policies::{Condition, Disjunction, Effect, Policy};
+use definitions::deciding::{Facts, Missing, Request, Truth};
+use definitions::policies::{Condition, Conjunction, Disjunction, Effect, Policy, Version};
 
 use crate::answers::Answer;
 use crate::report::{others_marked, outcome_text};
 use crate::rules::{
-    attribute_text, attributes, condition_text, disjunction_text, effect_text, leaves, path_of, section_of,
-    target_texts, PolicyText,
+    attribute_text, attributes, condition_text, conjunction_text, disjunction_text, effect_text, leaves, path_of,
+    section_of, target_texts, PolicyText,
 };
 use crate::words::ordinal;
 use crate::writing::value_text;
 
-/// The explanation of an answer, line by line. The answer must be that of these policies.
-pub fn explained(text: &[u8], policies: &[Policy], texts: &[PolicyText], case: &Case, answer: Answer) -> Vec<String> {
-    over(text, case, |explaining| {
+/// Rules as they are explained: their text and version, the policies, and these as they stand in the text.
+pub struct Rules<'a> {
+    pub text: &'a [u8],
+    pub version: Version,
+    pub policies: &'a [Policy],
+    pub texts: &'a [PolicyText],
+}
+
+/// The explanation of an answer, line by line. The answer must be that of these rules.
+pub fn explained(rules: &Rules, case: &Case, answer: Answer) -> Vec<String> {
+    let Rules { policies, texts, .. } = rules;
+    over(rules, case, |explaining| {
         let mut lines = explaining.policies(policies, texts);
         lines.extend(conclusion(answer, texts));
         lines.extend(also_satisfied(answer, texts));
@@ -25,9 +35,9 @@ pub fn explained(text: &[u8], policies: &[Policy], texts: &[PolicyText], case: &
 }
 
 /// The forbids that an absence disarms, a line each: they are not satisfied, and could be.
-pub fn disarmed(text: &[u8], policies: &[Policy], texts: &[PolicyText], case: &Case) -> Vec<String> {
-    over(text, case, |explaining| {
-        let forbids = policies.iter().zip(texts).filter(|(policy, _)| policy.effect == Effect::Forbid);
+pub fn disarmed(rules: &Rules, case: &Case) -> Vec<String> {
+    over(rules, case, |explaining| {
+        let forbids = rules.policies.iter().zip(rules.texts).filter(|(policy, _)| policy.effect == Effect::Forbid);
         let about = forbids.filter(|(policy, _)| explaining.is_about(policy));
         let open = about.filter(|(policy, _)| !explaining.facts.is_satisfied(policy));
         open.filter_map(|(policy, shown)| {
@@ -40,7 +50,7 @@ pub fn disarmed(text: &[u8], policies: &[Policy], texts: &[PolicyText], case: &C
 }
 
 /// What is said of a case's facts; nothing where its bag is none.
-fn over(text: &[u8], case: &Case, said: impl FnOnce(&Explaining) -> Vec<String>) -> Vec<String> {
+fn over(rules: &Rules, case: &Case, said: impl FnOnce(&Explaining) -> Vec<String>) -> Vec<String> {
     let [subject, action, resource] = &case.request;
     let request = Request { subject, action, resource };
     let bag = match read_bag(&case.bag) {
@@ -48,8 +58,8 @@ fn over(text: &[u8], case: &Case, said: impl FnOnce(&Explaining) -> Vec<String>)
         None => return Vec::new(),
     };
     let look_up = |root: u8, path: &[u8]| bag.look_up(root, path);
-    let facts = Facts { text, request, look_up: &look_up };
-    said(&Explaining { text, facts: &facts })
+    let facts = Facts { text: rules.text, version: rules.version, request, look_up: &look_up };
+    said(&Explaining { text: rules.text, facts: &facts })
 }
 
 /// What is decided, and why by this policy.
@@ -158,35 +168,69 @@ impl Explaining<'_> {
         ];
         match &policy.condition {
             None => lines.push("    no condition".to_string()),
-            Some(condition) => self.disjunction(condition, 1, &mut lines),
+            Some(condition) => {
+                self.disjunction(condition, 1, &mut lines);
+                lines.extend(self.unsatisfied_by(condition));
+            }
         }
         lines.extend(self.absences(policy, is_satisfied));
         lines
+    }
+
+    /// The absent attribute that is met and makes the policy of this condition unsatisfied, in a sentence: under version 2 alone.
+    fn unsatisfied_by(&self, condition: &Disjunction) -> Option<String> {
+        let Missing(attribute) = self.facts.disjunction(condition).err()?;
+        let name = attribute_text(self.text, &attribute);
+        Some(format!("    {} is absent, and it is met: under version 2 that makes the whole policy unsatisfied", name))
+    }
+
+    /// Whether what follows a part is met too, where it is met behind a part of this truth. Under version 1 all parts are.
+    fn goes_on(&self, behind: bool, truth: Truth) -> bool {
+        self.facts.version == Version::One || truth == Ok(behind)
     }
 
     /// Conditions joined by `||`, each conjunction under a line of its own where there are several.
     fn disjunction(&self, disjunction: &Disjunction, depth: usize, lines: &mut Vec<String>) {
         let many = disjunction.conjunctions.len() > 1;
         if many {
-            lines.push(format!("{}one of these must be true: {}", indent(depth), self.facts.disjunction(disjunction)));
+            let truth = truth_text(self.facts.disjunction(disjunction));
+            lines.push(format!("{}one of these must be true: {}", indent(depth), truth));
         }
+        let depth = depth + usize::from(many);
+        let mut is_met = true;
         for (index, conjunction) in disjunction.conjunctions.iter().enumerate() {
-            let mut depth = depth + usize::from(many);
-            if conjunction.conditions.len() > 1 {
-                let all = conjunction.conditions.iter().all(|condition| self.facts.condition(condition));
-                let which = if many { format!("{}: ", ordinal(index + 1)) } else { String::new() };
-                lines.push(format!("{}{}all of these must be true: {}", indent(depth), which, all));
-                depth += 1;
+            let which = if many { format!("{}: ", ordinal(index + 1)) } else { String::new() };
+            if is_met {
+                self.conjunction(conjunction, &which, depth, lines);
+                is_met = self.goes_on(false, self.facts.conjunction(conjunction));
+            } else {
+                lines.push(format!("{}{}: not met", indent(depth), conjunction_text(self.text, conjunction)));
             }
-            for condition in &conjunction.conditions {
+        }
+    }
+
+    /// Conditions joined by `&&`, under a line of their own where there are several.
+    fn conjunction(&self, conjunction: &Conjunction, which: &str, depth: usize, lines: &mut Vec<String>) {
+        let many = conjunction.conditions.len() > 1;
+        if many {
+            let truth = truth_text(self.facts.conjunction(conjunction));
+            lines.push(format!("{}{}all of these must be true: {}", indent(depth), which, truth));
+        }
+        let depth = depth + usize::from(many);
+        let mut is_met = true;
+        for condition in &conjunction.conditions {
+            if is_met {
                 self.condition(condition, depth, lines);
+                is_met = self.goes_on(true, self.facts.condition(condition));
+            } else {
+                lines.push(format!("{}{}: not met", indent(depth), condition_text(self.text, condition)));
             }
         }
     }
 
     /// A condition with its truth, and the values that it met; its parts under it.
     fn condition(&self, condition: &Condition, depth: usize, lines: &mut Vec<String>) {
-        let truth = self.facts.condition(condition);
+        let truth = truth_text(self.facts.condition(condition));
         match condition {
             Condition::Not(inner) => {
                 lines.push(format!("{}not: {}", indent(depth), truth));
@@ -199,8 +243,11 @@ impl Explaining<'_> {
             Condition::If { condition, then_part, else_part } => {
                 lines.push(format!("{}if: {}", indent(depth), truth));
                 self.condition(condition, depth + 1, lines);
-                let (word, part) =
-                    if self.facts.condition(condition) { ("then", then_part) } else { ("else", else_part) };
+                let (word, part) = match self.facts.condition(condition) {
+                    Ok(true) => ("then", then_part),
+                    Ok(false) => ("else", else_part),
+                    Err(Missing(_)) => return,
+                };
                 lines.push(format!("{}{}", indent(depth), word));
                 self.condition(part, depth + 1, lines);
             }
@@ -293,7 +340,7 @@ impl Explaining<'_> {
                         && !path_of(self.text, one).is_empty()
                         && self.facts.attribute(one).is_none()
                 });
-                let truth = self.facts.condition(condition);
+                let truth = self.facts.condition(condition) == Ok(true);
                 (is_open || !truth, is_open || truth)
             }
         }
@@ -304,6 +351,15 @@ fn indent(depth: usize) -> String {
     "    ".repeat(depth)
 }
 
+/// A truth in words.
+fn truth_text(truth: Truth) -> &'static str {
+    match truth {
+        Ok(true) => "true",
+        Ok(false) => "false",
+        Err(Missing(_)) => "missing",
+    }
+}
+
 #[cfg(test)]
 mod tests {
     use super::*;
@@ -312,10 +368,16 @@ mod tests {
     use definitions::compile::policies_of;
 
     fn of(rules: &str, choices: &[usize], answer: Answer) -> String {
+        under(Version::One, rules, choices, answer)
+    }
+
+    fn under(version: Version, rules: &str, choices: &[usize], answer: Answer) -> String {
         let asked = asked(rules, QUESTION, REQUEST);
         let policies = policies_of(&asked.rules).unwrap();
+        let texts = policy_texts(&asked.rules);
         let case = asked.case_of(choices).unwrap();
-        explained(&asked.rules, &policies, &policy_texts(&asked.rules), &case, answer).join("\n")
+        let rules = Rules { text: &asked.rules, version, policies: &policies, texts: &texts };
+        explained(&rules, &case, answer).join("\n")
     }
 
     #[test]
@@ -370,6 +432,67 @@ No other policy is satisfied.";
             "Policies that are not about this request:\n    policy 1 in line 1, forbid: not principal is tool",
         ] {
             assert!(said.contains(line), "{}\n{}", line, said);
+        }
+    }
+
+    /// What is said under version 2 of a permit with this condition, where the grade is 3 and hired is absent.
+    fn under_2(condition: &str) -> String {
+        let rules = format!("permit(principal,action,resource)when{{{}}};", condition);
+        under(Version::Two, &rules, &[1, 0], Answer::Decided { outcome: 3, policy: 0, mark: 0 })
+    }
+
+    /// What is said where hired is met.
+    const UNSATISFIED: &str =
+        "    principal.hired is absent, and it is met: under version 2 that makes the whole policy unsatisfied\n";
+
+    // 02, request 7: what is met and absent is said, and what is behind it is not met.
+    #[test]
+    fn under_version_2_the_absent_attribute_is_named() {
+        let met = "principal.hired == \"own\": missing   (principal.hired is absent)\n";
+        for (condition, lines) in [
+            (
+                "!(principal.hired==\"own\")",
+                format!("    not: missing\n        ( principal.hired == \"own\" ): missing\n            {}", met),
+            ),
+            (
+                "principal.hired==\"own\"||true",
+                format!("    one of these must be true: missing\n        {}        true: not met\n", met),
+            ),
+            (
+                "principal.grade==3&&principal.hired==\"own\"&&false",
+                format!(
+                    "    all of these must be true: missing\n        principal.grade == 3: true   (principal.grade is 3)\n        {}        false: not met\n",
+                    met
+                ),
+            ),
+            ("if principal.hired==\"own\" then true else true", format!("    if: missing\n        {}", met)),
+        ] {
+            let said = under_2(condition);
+            assert!(said.contains(&format!("{}{}", lines, UNSATISFIED)), "{}\n{}", condition, said);
+            assert!(said.starts_with("policy 1 in line 1, permit: not satisfied\n"), "{}", said);
+        }
+        // Of two attributes the one that is met first is named.
+        assert!(under_2("principal.hired==principal.until").contains(UNSATISFIED));
+    }
+
+    // What is not met makes nothing missing, and `has` may meet it.
+    #[test]
+    fn under_version_2_what_is_not_met_does_nothing() {
+        for (condition, lines) in [
+            (
+                "false&&principal.hired==\"own\"||principal has hired",
+                "        1st: all of these must be true: false\n            false: false\n            principal.hired == \"own\": not met\n        \
+                 principal has hired: false   (principal.hired is absent)\n",
+            ),
+            (
+                "if true then false else principal.hired==\"own\"",
+                "    if: false\n        true: true\n    then\n        false: false\n",
+            ),
+            ("principal.grade>3||principal.hired==3&&true", "        2nd: all of these must be true: missing\n"),
+        ] {
+            let said = under_2(condition);
+            assert!(said.contains(lines), "{}\n{}", condition, said);
+            assert_eq!(said.contains(UNSATISFIED), lines.contains("missing"), "{}", said);
         }
     }
 }

@@ -11,19 +11,21 @@ pub struct Help {
 pub const COMMANDS: [Help; 10] = [
     Help {
         name: "sheet",
-        usage: "WHERE [--rules FILE] [--request N] [--table | --html FILE] [--forbidden]",
+        usage: "WHERE [--rules FILE] [--version N] [--request N] [--table | --html FILE] [--forbidden]",
         line: "which rows of a question are allowed",
         more: "\
 WHERE is a folder with policy.txt and question.txt, or a question's text file with policy.txt beside it.
   --rules FILE   take the rules from FILE
+  --version N    compile the rules under version N, 1 or 2; without it under version 1
   --request N    of a question with several requests, the sheet of request N, from 1
   --table        a table with the attributes' values, the other policies that applied, the tally and holes, instead of plain lines
   --html FILE    a page for paper, written to FILE: with the tally, the rules, the day, the sums of the files and a line to sign
-  --forbidden    with --table or --html, the rows that are not allowed too, and what decides them",
+  --forbidden    with --table or --html, the rows that are not allowed too, and what decides them
+Table and page also say which holes of version 1 version 2 closes, which other rows it takes away, and which it opens.",
     },
     Help {
         name: "tally",
-        usage: "WHERE [--rules FILE] [--lines | --html FILE]",
+        usage: "WHERE [--rules FILE] [--version N] [--lines | --html FILE]",
         line: "how many rows have each outcome, and how many each policy decides, for one to eight requests",
         more: "\
 WHERE is a folder with policy.txt and question.txt, or a question's text file with policy.txt beside it. The question has one
@@ -35,36 +37,45 @@ request, or several after lines request:
 What stands before the first request holds for all. Each request is counted over all rows, and the sums are over the requests.
 Below them stands in how many rows a policy is satisfied though another decides: the tool counts this, and it is not proved.
   --rules FILE   take the rules from FILE
+  --version N    compile the rules under version N, 1 or 2; without it under version 1
   --lines        plain lines: rows N; for each request, and for the sums: outcome 1 to 4 and policy 1 to the last, each with its rows
   --html FILE    a page for paper, written to FILE",
     },
     Help {
         name: "check",
-        usage: "RULES",
+        usage: "RULES [--version N]",
         line: "whether a rule text compiles; if not, where and what is expected",
-        more: "RULES is a rule text, or a folder with policy.txt. No question is needed.",
+        more: "\
+RULES is a rule text, or a folder with policy.txt. No question is needed. N is the version of the rules, 1 or 2; without it
+version 1. A text compiles under both or under neither.",
     },
     Help {
         name: "decide",
-        usage: "WHERE [--rules FILE] [--request N]",
+        usage: "WHERE [--rules FILE] [--version N] [--request N]",
         line: "what is decided of one request over a bag",
         more: "\
 WHERE is a text file that begins with bag, says subject, action and resource, and has attributes; or a folder whose question
-has no columns. The rules are policy.txt beside it, or FILE. Of a question with several requests N is one, from 1. Said are the
-outcome, the policy that decides, the other policies that are satisfied, and which forbid an absence disarms.",
+has no columns. The rules are policy.txt beside it, or FILE. Said are the outcome, the policy that decides, the other policies
+that are satisfied, and which forbid an absence disarms.
+  --version N    compile the rules under version N, 1 or 2; without it under version 1
+  --request N    of a question with several requests, request N, from 1",
     },
     Help {
         name: "explain",
-        usage: "WHERE [--row N] [--rules FILE] [--request K]",
+        usage: "WHERE [--row N] [--rules FILE] [--version N] [--request N]",
         line: "why a row, or one request, is decided as it is",
         more: "\
 Each policy whose target matches, with the parts of its condition, the values met, what is absent, and which forbid an
-absence disarms; then what is decided, and which other policies are satisfied. N is a row's number as the sheet has it, from
-0; a question without columns, or a bag, needs none. Of a question with several requests K is one, from 1.",
+absence disarms; then what is decided, and which other policies are satisfied.
+  --row N        a row's number as the sheet has it, from 0; a question without columns, or a bag, needs none
+  --rules FILE   take the rules from FILE
+  --version N    compile the rules under version N, 1 or 2; without it under version 1. Under version 2 it is also said which
+                 absent attribute is met and makes a policy unsatisfied, and which parts are not met
+  --request N    of a question with several requests, request N, from 1",
     },
     Help {
         name: "test",
-        usage: "TESTS.. [--rules FILE]",
+        usage: "TESTS.. [--rules FILE] [--version N]",
         line: "requests with expected outcomes; exit status 1 if one is not met",
         more: "\
 TESTS are text files: attributes, subject, action and resource that hold for all tests, and then tests:
@@ -72,15 +83,17 @@ TESTS are text files: attributes, subject, action and resource that hold for all
     principal.hired = absent
     expect forbidden by 2
 expect has allowed, forbidden, not permitted, system, or refused and a number; after the first two maybe by and a policy's
-number. The rules are policy.txt beside the tests, or FILE.",
+number. The rules are policy.txt beside the tests, or FILE; N is their version, 1 or 2, and without it version 1.",
     },
     Help {
         name: "diff",
-        usage: "BEFORE AFTER WHERE [--request N]",
+        usage: "BEFORE AFTER WHERE [--version N | --versions M N] [--request N]",
         line: "two rule texts, one question: rows opened, closed, decided by another policy",
         more: "\
-BEFORE and AFTER are rule texts, WHERE is a folder with question.txt or a question's text file. Of a question with several
-requests N is one, from 1.",
+BEFORE and AFTER are rule texts, WHERE is a folder with question.txt or a question's text file.
+  --version N      compile both under version N, 1 or 2; without it under version 1
+  --versions M N   compile BEFORE under version M and AFTER under version N: with one text twice, what the version changes
+  --request N      of a question with several requests, request N, from 1",
     },
     Help {
         name: "write",
@@ -109,7 +122,8 @@ WHERE is a text file, or a folder with lock.txt: the vocabulary's words, and act
     actions = \"teach\", \"read\"
     resource = \"shaft:A\"
     lock = firm:own & flag:taught & grade>=3
-Each lock is printed as a permit, one a line; if one is refused, none is. docs/LOCKS.md tells more.
+Each lock is printed as a permit, one a line; if one is refused, none is. A permit needs no version: it means the same under
+both. docs/LOCKS.md tells more.
   --room N   the bytes that the permit may have; without it, as many as the longest permit has",
     },
 ];
@@ -124,7 +138,8 @@ pub fn overview() -> String {
         text += &format!("  {:<8} {}\n", command.name, command.line);
     }
     text + &format!(
-        "\n./desk COMMAND --help tells more. docs/QUESTIONS.md has the form of questions, bags and tests, docs/LOCKS.md that of locks.\n{}\n",
+        "\n./desk COMMAND --help tells more. docs/QUESTIONS.md has the form of questions, bags and tests, docs/LOCKS.md that of locks.\n\
+         Rules are compiled under version 1, or with --version 2 under version 2: docs/RULES.md, 'Absence'.\n{}\n",
         STATUS
     )
 }

@@ -16,6 +16,7 @@ mod help;
 mod holes;
 mod lock_reasons;
 mod locking;
+mod noes;
 mod page;
 mod places;
 mod plain;
@@ -31,6 +32,7 @@ mod tallies;
 mod tally_page;
 mod tally_text;
 mod testing;
+mod versions;
 mod words;
 mod writing;
 

@@ -5,6 +5,7 @@ use crate::record::Record;
 use crate::refusals::RefusalShown;
 use crate::report::{has_others, said_of_others, title_of, Absence, ColumnShown, PolicyShown, Report, RowShown};
 use crate::tally_page::{lies_on_its_side, tally_section};
+use crate::versions::{said_of_version, under};
 use crate::words::{count_of, grouped, ranges, sentence};
 
 /// With more columns the page lies on its side.
@@ -24,9 +25,10 @@ pub fn sheet_page(report: &Report, record: &Record) -> String {
     let mut body = format!("<h1>{}</h1>\n", escaped(&report.title));
     let whose = title_of(&report.request);
     let whose = if whose == report.title { String::new() } else { format!("{}. ", escaped(&whose)) };
-    body += &format!("<p>{}Made on {}.</p>\n", whose, record.day);
+    body += &format!("<p>{}Made on {}.{}</p>\n", whose, record.day, version(report.version));
     body += &warnings(&report.warnings);
     body += &sums(report);
+    body += &versions(report);
     body += &tally_section(report);
     body += &columns(report);
     body += &base(report);
@@ -41,12 +43,12 @@ pub fn sheet_page(report: &Report, record: &Record) -> String {
         body += &table(report, others, "Rows that are not allowed");
     }
     body += &rules(report);
-    body += &recorded(record);
+    body += &recorded(record, report.version);
     page(&report.title, &body, report.columns.len() > MOST_COLUMNS_UPRIGHT || lies_on_its_side(&report.tally))
 }
 
 /// The page of a refusal.
-pub fn refusal_page(refusal: &RefusalShown, name: &str, notes: &[String], record: &Record) -> String {
+pub fn refusal_page(refusal: &RefusalShown, name: &str, version: u64, notes: &[String], record: &Record) -> String {
     let title = format!("Refused, number {}", refusal.number);
     let mut body = format!("<h1>{}</h1>\n<p>Made on {}.</p>\n{}", title, record.day, warnings(notes));
     body += &format!("<p>{}</p>\n", escaped(&refusal.meaning));
@@ -54,8 +56,13 @@ pub fn refusal_page(refusal: &RefusalShown, name: &str, notes: &[String], record
         body += &format!("<p>{}, line {}, column {}:</p>\n", escaped(name), place.line, place.column);
         body += &format!("<pre>{}\n{}</pre>\n", escaped(&place.text), place.carets());
     }
-    body += &recorded(record);
+    body += &recorded(record, version);
     page(&title, &body, false)
+}
+
+/// Under which version, in bold behind the day; nothing for version 1.
+pub fn version(version: u64) -> String {
+    said_of_version(version).map_or(String::new(), |said| format!(" <b>{}</b>", said))
 }
 
 pub fn page(title: &str, body: &str, on_its_side: bool) -> String {
@@ -97,6 +104,29 @@ fn sums(report: &Report) -> String {
             grouped(sums.holes),
             absent()
         );
+    }
+    text
+}
+
+/// What version 2 changes beside version 1: the rows that it opens in a box, with the policies that it disarms.
+fn versions(report: &Report) -> String {
+    let versions = match &report.versions {
+        Some(versions) => versions,
+        None => return String::new(),
+    };
+    let mut text = format!("<h2>{}</h2>\n", versions.heading());
+    for sentence in versions.sentences() {
+        text += &format!("<p>{}</p>\n", escaped(&sentence));
+    }
+    if let Some(alarm) = versions.alarm() {
+        text += &format!("<div class=\"opened\"><p><b>!!! {}</b></p>\n", alarm);
+        for opened in &versions.opened {
+            text += &format!("<p>{}.</p>\n", escaped(&opened.sentence(|number| report.line_of(number))));
+            if let Some(policy) = opened.policy.and_then(|number| report.policy(number)) {
+                text += &format!("<pre>{}</pre>\n", escaped(&policy.text.lines.join("\n")));
+            }
+        }
+        text += "</div>\n";
     }
     text
 }
@@ -184,7 +214,7 @@ fn policies(report: &Report) -> String {
 fn holes(report: &Report) -> String {
     let mut text = String::new();
     for hole in &report.holes {
-        let sentence = hole.sentence(|number| report.policy(number).map_or(0, |policy| policy.text.line));
+        let sentence = hole.sentence(|number| report.line_of(number));
         text += &format!("<p><b>!!</b> {}.</p>\n", escaped(&sentence));
         if let Some(policy) = hole.policy.and_then(|number| report.policy(number)) {
             text += &format!("<pre>{}</pre>\n", escaped(&policy.text.lines.join("\n")));
@@ -204,30 +234,38 @@ fn table(report: &Report, rows: &[RowShown], title: &str) -> String {
     for column in &report.columns {
         text += &format!("<th>{}</th>", broken_at_dots(&column.name));
     }
-    let has_others = has_others(rows);
-    let also = if has_others { "<th class=\"also\">also</th>" } else { "" };
-    text += &format!("<th class=\"short\">outcome</th><th class=\"policy\">policy</th>{}</tr></thead>\n", also);
+    let last = LastColumns { other: report.other_version(rows), also: has_others(rows) };
+    let other = last.other.map_or(String::new(), |version| format!("<th class=\"short\">{}</th>", version));
+    let also = if last.also { "<th class=\"also\">also</th>" } else { "" };
+    text +=
+        &format!("<th class=\"short\">outcome</th>{}<th class=\"policy\">policy</th>{}</tr></thead>\n", other, also);
     for group in report.groups(rows) {
         text += "<tbody>\n";
-        text += &group_heading(report, group, has_others);
+        text += &group_heading(report, group, &last);
         for row in group {
-            text += &row_text(report, row, has_others);
+            text += &row_text(report, row, &last);
         }
         text += "</tbody>\n";
     }
-    let said = said_of_others(rows).map_or(String::new(), |said| format!("<p>{}</p>\n", said));
-    text + "</table>\n" + &said
+    let said = report.said_of_other_version(rows).into_iter().chain(said_of_others(rows).map(str::to_string));
+    text + "</table>\n" + &said.map(|said| format!("<p>{}</p>\n", said)).collect::<String>()
+}
+
+/// The columns that not every table has: whether the other version allows the row, and the other policies.
+struct LastColumns {
+    other: Option<&'static str>,
+    also: bool,
 }
 
 /// The first column's choice over the rows of a group.
-fn group_heading(report: &Report, group: &[RowShown], has_others: bool) -> String {
+fn group_heading(report: &Report, group: &[RowShown], last: &LastColumns) -> String {
     let (column, choice) = match (report.columns.first(), group.first().and_then(|row| row.choices.first())) {
         (Some(column), Some(choice)) => (column, *choice),
         _ => return String::new(),
     };
     format!(
         "<tr class=\"group\"><th colspan=\"{}\">{} = {}: {} of {} rows</th></tr>\n",
-        report.columns.len() + 4 + usize::from(has_others),
+        report.columns.len() + 4 + usize::from(last.also) + usize::from(last.other.is_some()),
         escaped(&column.name),
         value(&column.candidates[choice]),
         grouped(group.len()),
@@ -235,7 +273,7 @@ fn group_heading(report: &Report, group: &[RowShown], has_others: bool) -> Strin
     )
 }
 
-fn row_text(report: &Report, row: &RowShown, has_others: bool) -> String {
+fn row_text(report: &Report, row: &RowShown, last: &LastColumns) -> String {
     let absence = row.absence().text();
     let mut text = format!("<tr><td class=\"mark\">{}</td><td class=\"number\">{}</td>", absence, row.number);
     for ((column, choice), absence) in report.columns.iter().zip(&row.choices).zip(&row.absences) {
@@ -245,8 +283,16 @@ fn row_text(report: &Report, row: &RowShown, has_others: bool) -> String {
     let policy = report
         .policy(row.policy)
         .map_or(String::new(), |policy| format!("<b>{}</b> {}", policy.text.number, escaped(&policy.text.lines[0])));
-    let also = if has_others { format!("<td class=\"also\">{}</td>", ranges(&row.also)) } else { String::new() };
-    text + &format!("<td class=\"short\">{}</td><td class=\"policy\">{}</td>{}</tr>\n", row.outcome, policy, also)
+    let class = if row.is_opened(report.version) { "short opened" } else { "short" };
+    let other = last.other.map(|_| format!("<td class=\"{}\">{}</td>", class, row.other_text(report.version)));
+    let also = if last.also { format!("<td class=\"also\">{}</td>", ranges(&row.also)) } else { String::new() };
+    text + &format!(
+        "<td class=\"short\">{}</td>{}<td class=\"policy\">{}</td>{}</tr>\n",
+        row.outcome,
+        other.unwrap_or_default(),
+        policy,
+        also
+    )
 }
 
 /// The rules with their lines numbered: the lines of policies that decide, and of those that an absence disarms, are marked.
@@ -287,9 +333,13 @@ pub fn rules(report: &Report) -> String {
     text + "</tbody>\n</table>\n"
 }
 
-/// The day, the sums of the files, and a line to sign.
-pub fn recorded(record: &Record) -> String {
-    let mut text = format!("<div class=\"record\">\n<p>Made on {} from these files (SHA-256):</p>\n<dl>\n", record.day);
+/// The day, the version where it is not version 1, the sums of the files, and a line to sign.
+pub fn recorded(record: &Record, version: u64) -> String {
+    let mut text = format!(
+        "<div class=\"record\">\n<p>Made on {}{} from these files (SHA-256):</p>\n<dl>\n",
+        record.day,
+        under(version)
+    );
     for (name, sum) in &record.sums {
         text += &format!("<dt class=\"value\">{}</dt><dd class=\"value\">{}</dd>\n", escaped(name), sum);
     }

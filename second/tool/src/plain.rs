@@ -2,6 +2,7 @@
 
 use crate::report::{has_others, said_of_others, title_of, Absence, ColumnShown, Report, RowShown};
 use crate::tally_text::tally_lines;
+use crate::versions::said_of_version;
 use crate::words::{count_of, grouped, ranges, sentence};
 
 /// The width of the page.
@@ -16,13 +17,15 @@ pub const ROOM_FOR_POLICY: usize = 28;
 const ABSENT: &str = "absent";
 const HOLE: &str = "ABSENT !!";
 
-/// The title line, warnings, the sums, the tally, the base and the columns, the tables, the policies that decide, and the holes.
+/// The title line, warnings, the sums, what version 2 changes, the tally, the base and the columns, the tables, the policies that decide, and
+/// the holes.
 pub fn sheet_text(report: &Report) -> String {
     let mut lines = wrapped(&report.title, WIDTH);
     let whose = title_of(&report.request);
     if whose != report.title {
         lines.extend(wrapped(&whose, WIDTH));
     }
+    lines.extend(said_of_version(report.version));
     lines.push(String::new());
     for warning in &report.warnings {
         lines.extend(wrapped(&format!("Warning: {}", sentence(warning)), WIDTH));
@@ -31,6 +34,7 @@ pub fn sheet_text(report: &Report) -> String {
         lines.push(String::new());
     }
     lines.extend(sums(report).iter().flat_map(|line| wrapped(line, WIDTH)));
+    lines.extend(versions(report));
     lines.extend(tally_lines(&report.tally));
     lines.extend(base(report));
     if report.listed.is_empty() {
@@ -78,6 +82,27 @@ fn sums(report: &Report) -> Vec<String> {
     lines
 }
 
+/// What version 2 changes beside version 1: the rows that it opens, loudly, with the policies that it disarms.
+fn versions(report: &Report) -> Vec<String> {
+    let versions = match &report.versions {
+        Some(versions) => versions,
+        None => return Vec::new(),
+    };
+    let mut lines = vec![format!("{}:", versions.heading())];
+    let indented =
+        |said: &str| wrapped(said, WIDTH - 4).into_iter().map(|line| format!("    {}", line)).collect::<Vec<_>>();
+    lines.extend(versions.sentences().iter().flat_map(|sentence| indented(sentence)));
+    lines.extend(versions.alarm().map(|alarm| format!("!!! {}", alarm)));
+    for opened in &versions.opened {
+        lines.extend(indented(&opened.sentence(|number| report.line_of(number))));
+        if let Some(policy) = opened.policy.and_then(|number| report.policy(number)) {
+            lines.extend(policy_lines(&policy.text.lines));
+        }
+    }
+    lines.push(String::new());
+    lines
+}
+
 /// The attributes that are the same in all rows.
 fn base(report: &Report) -> Vec<String> {
     if report.base.is_empty() {
@@ -93,11 +118,13 @@ fn base(report: &Report) -> Vec<String> {
     lines
 }
 
-/// The widths of the table: rows' numbers, each column, outcome, the policy with its first line, and the other policies if there are any.
+/// The widths of the table: rows' numbers, each column, outcome, whether the other version allows the row, if it differs in one, the policy
+/// with its first line, and the other policies if there are any.
 struct Widths {
     row: usize,
     columns: Vec<usize>,
     outcome: usize,
+    other: Option<usize>,
     policy: usize,
     also: Option<usize>,
 }
@@ -112,8 +139,8 @@ const MARK: usize = 2;
 impl Widths {
     /// Of all columns of the table, from the left.
     fn all(&self) -> Vec<usize> {
-        let widths = [&[MARK, self.row][..], &self.columns, &[self.outcome, self.policy]].concat();
-        widths.into_iter().chain(self.also).collect()
+        let widths = [&[MARK, self.row][..], &self.columns, &[self.outcome]].concat();
+        widths.into_iter().chain(self.other).chain([self.policy]).chain(self.also).collect()
     }
 }
 
@@ -126,14 +153,16 @@ fn widths(report: &Report, rows: &[RowShown]) -> Widths {
         report.columns.iter().map(|column| longest_part(column).max(longest_cell(column))).collect();
     let also = rows.iter().map(|row| ranges(&row.also).len()).max().unwrap_or(0);
     let also = Some(also.clamp(ALSO.len(), MOST_ALSO)).filter(|_| has_others(rows));
-    let others = MARK + GAP + row + GAP + outcome + GAP + full.len() * GAP + also.map_or(0, |width| width + GAP);
+    let other = report.other_version(rows).map(str::len);
+    let maybe: usize = [also, other].iter().flatten().map(|width| width + GAP).sum();
+    let others = MARK + GAP + row + GAP + outcome + GAP + full.len() * GAP + maybe;
     let with_policies = fitted(&full, &unbroken, WIDTH.saturating_sub(others + ROOM_FOR_POLICY));
     let columns = with_policies.unwrap_or_else(|| {
         let narrowest: Vec<usize> = full.iter().map(|width| NARROWEST.min(*width)).collect();
         fitted(&full, &narrowest, WIDTH.saturating_sub(others + number)).unwrap_or(narrowest)
     });
     let left = WIDTH.saturating_sub(others + columns.iter().sum::<usize>());
-    Widths { row, columns, outcome, policy: left.max(number), also }
+    Widths { row, columns, outcome, other, policy: left.max(number), also }
 }
 
 /// The most characters of a column's values.
@@ -161,7 +190,9 @@ fn table(report: &Report, rows: &[RowShown]) -> Vec<String> {
     let widths = widths(report, rows);
     let mut names: Vec<String> = vec![String::new(), "row".to_string()];
     names.extend(report.columns.iter().map(|column| column.name.clone()));
-    names.extend(["outcome".to_string(), "policy".to_string(), ALSO.to_string()]);
+    names.push("outcome".to_string());
+    names.extend(report.other_version(rows).map(str::to_string));
+    names.extend(["policy".to_string(), ALSO.to_string()]);
     let mut lines = laid_out(&names, &widths);
     let mut rules: Vec<String> = widths.all().iter().map(|width| "-".repeat(*width)).collect();
     rules[0].clear();
@@ -171,26 +202,28 @@ fn table(report: &Report, rows: &[RowShown]) -> Vec<String> {
             lines.push(String::new());
         }
         for row in group {
-            lines.extend(laid_out(&cells(report, row, widths.policy), &widths));
+            lines.extend(laid_out(&cells(report, row, &widths), &widths));
         }
     }
+    lines.extend(report.said_of_other_version(rows));
     lines.extend(said_of_others(rows).map(str::to_string));
     lines.push(String::new());
     lines
 }
 
 /// The texts of a row of the table, the other policies last: where no row has any, there is no column for them.
-fn cells(report: &Report, row: &RowShown, policy_width: usize) -> Vec<String> {
+fn cells(report: &Report, row: &RowShown, widths: &Widths) -> Vec<String> {
     let mut cells = vec![row.absence().text().to_string(), row.number.to_string()];
     for ((column, choice), absence) in report.columns.iter().zip(&row.choices).zip(&row.absences) {
         let absent = if *absence == Absence::Hole { HOLE } else { ABSENT };
         cells.push(column.candidates[*choice].clone().unwrap_or_else(|| absent.to_string()));
     }
     cells.push(row.outcome.to_string());
+    cells.extend(widths.other.map(|_| row.other_text(report.version)));
     cells.push(match report.policy(row.policy) {
         None => String::new(),
-        Some(policy) if policy_width < ROOM_FOR_POLICY => policy.text.number.to_string(),
-        Some(policy) => cut(&format!("{} {}", policy.text.number, policy.text.lines[0]), policy_width),
+        Some(policy) if widths.policy < ROOM_FOR_POLICY => policy.text.number.to_string(),
+        Some(policy) => cut(&format!("{} {}", policy.text.number, policy.text.lines[0]), widths.policy),
     });
     cells.push(ranges(&row.also));
     cells
@@ -245,7 +278,7 @@ fn holes(report: &Report) -> Vec<String> {
         if lines.is_empty() {
             lines.push("The holes (!!):".to_string());
         }
-        let sentence = hole.sentence(|number| report.policy(number).map_or(0, |policy| policy.text.line));
+        let sentence = hole.sentence(|number| report.line_of(number));
         lines.extend(wrapped(&sentence, WIDTH - 4).into_iter().map(|line| format!("    {}", line)));
         if let Some(policy) = hole.policy.and_then(|number| report.policy(number)) {
             lines.extend(policy_lines(&policy.text.lines));

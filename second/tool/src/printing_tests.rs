@@ -25,13 +25,16 @@ use crate::tallies::tally;
 use crate::tally_page::tally_page;
 use crate::tally_text::tally_text;
 
-const FOLDERS: [&str; 5] = ["worked", "crew", "crew/night", "crew/records", "south"];
+const FOLDERS: [&str; 6] = ["worked", "crew", "crew/night", "crew/records", "south", VERSIONS];
+
+/// The folder whose rules are shown under both versions.
+const VERSIONS: &str = "versions";
 
 /// The folder with several requests.
 const SEVERAL: &str = "crew/shift";
 
-/// The folder whose page is stored, and the time it was made: examples/renew sets the same.
-const WITH_PAGE: &str = "crew";
+/// The folders whose pages are stored, and the time they were made: examples/renew sets the same.
+const WITH_PAGE: [&str; 2] = ["crew", VERSIONS];
 const MADE: u64 = 1_794_700_800;
 
 fn folder(name: &str) -> PathBuf {
@@ -58,15 +61,39 @@ fn the_examples_are_as_stored() {
     for name in FOLDERS {
         let directory = folder(name);
         let asked = asked_in(name);
-        let sheet = printed(&asked.rules, &asked.question_bytes(), &asked.request_bytes(), 600);
+        let sheet = printed(&asked.rules, &asked.question_bytes(), &asked.request_bytes(), 600, 1);
         assert_eq!(sheet.as_bytes(), file(&directory, "expected.txt"), "{}/expected.txt", name);
         let report = report_on(&asked, false);
         assert!(sheet_text(&report).as_bytes() == file(&directory, "table.txt"), "{}/table.txt", name);
-        if name == WITH_PAGE {
+        if WITH_PAGE.contains(&name) {
             let page = sheet_page(&report, &record_at(MADE, &recorded(&asked)));
             assert!(page.as_bytes() == file(&directory, "page.html"), "{}/page.html", name);
+            check_tags(&page);
         }
     }
+}
+
+// So is what version 2 makes of the example of versions; both.txt, whose rules ask with has first, is read alike under both.
+#[test]
+fn the_example_of_versions_is_as_stored() {
+    let directory = folder(VERSIONS);
+    let asked = Asked { version: 2, ..asked_in(VERSIONS) };
+    let sheet = |rules: &[u8], version| printed(rules, &asked.sent, &asked.request_bytes(), 600, version);
+    assert_eq!(sheet(&asked.rules, 2).as_bytes(), file(&directory, "expected2.txt"));
+    let report = report_on(&asked, false);
+    assert!(sheet_text(&report).as_bytes() == file(&directory, "table2.txt"), "table2.txt");
+    let page = sheet_page(&report, &record_at(MADE, &recorded(&asked)));
+    check_tags(&page);
+    for part in [
+        "Made on 2026-11-15. <b>Under version 2 of the rules.</b>",
+        "Made on 2026-11-15 under version 2 from these files",
+        "<td class=\"short opened\">NO</td>",
+    ] {
+        assert!(page.contains(part), "{}", part);
+    }
+    let both = file(&directory, "both.txt");
+    assert_eq!(sheet(&both, 1), "rows 27\n14 1 1 1\nallowed 1\n");
+    assert_eq!(sheet(&both, 2), sheet(&both, 1));
 }
 
 // So are the tally, its lines and its page.
@@ -123,8 +150,13 @@ fn random_sheets_keep_the_width_and_the_tags() {
     let mut random = Random::new(94);
     // One policy, one that not all rows satisfy, and 64, with many others in each row.
     let many = rules_satisfied(|_| "permit", |number| number % 3 > 0);
-    let texts =
-        ["permit(principal,action,resource);", "permit(principal,action,resource)when{!(env.a==env.b)};", &many];
+    let differ = "permit(principal,action,resource)when{!(env.a==env.b)};forbid(principal,action,resource)when{!(principal.a==1||resource.a==1)};";
+    let texts = [
+        "permit(principal,action,resource);",
+        "permit(principal,action,resource)when{!(env.a==env.b)};",
+        differ,
+        &many,
+    ];
     let mut shown = 0;
     while shown < 200 {
         let bytes = question(&mut random).bytes();
@@ -137,6 +169,7 @@ fn random_sheets_keep_the_width_and_the_tags() {
         asked.form = read_bytes(&bytes).unwrap();
         asked.sent = bytes;
         asked.title = Some("</title> \"';}".to_string()).filter(|_| random.one_in(3));
+        asked.version = if random.one_in(2) { 1 } else { 2 };
         asked.warnings = vec!["<b>".to_string()];
         let report = report_on(&asked, random.one_in(4));
         let table = sheet_text(&report);
@@ -151,13 +184,13 @@ fn random_sheets_keep_the_width_and_the_tags() {
 fn a_refusal_is_shown_with_its_line() {
     let text = b"permit(principal,action,resource)when{principal.a};";
     let request = definitions::sheets::read_request(b"tool:1\na\nshaft:1");
-    let files = Files { text, question: &[0, 0, 0, 0], request, requests: 1 };
+    let files = Files { text, version: 1, question: &[0, 0, 0, 0], request, requests: 1 };
     let refusal = RefusalShown::new(&files, Refused { number: 8, line: 1, column: 50, length: 1 }).unwrap();
     let said = refusal.text("policy.txt");
     let caret = format!("    {}^\n", " ".repeat(49));
     assert!(said.starts_with("Refused, number 8.\nThe attribute before this place stands alone"), "{}", said);
     assert!(said.ends_with(&format!("    {}\n{}", String::from_utf8_lossy(text), caret)), "{}", said);
-    let page = refusal_page(&refusal, "policy.txt", &["<".to_string()], &record_at(MADE, &[]));
+    let page = refusal_page(&refusal, "policy.txt", 1, &["<".to_string()], &record_at(MADE, &[]));
     assert!(page.contains("policy.txt, line 1, column 50:"));
     check_tags(&page);
 }

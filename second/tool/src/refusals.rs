@@ -10,6 +10,9 @@ use crate::plain::{wrapped, WIDTH};
 use crate::words::{count_of, grouped};
 use crate::writing::{first_character, quoted};
 
+/// The refusal of a version that is none (02, request 7).
+pub const NO_VERSION: usize = 30;
+
 /// A refusal as it is shown.
 #[derive(PartialEq, Debug)]
 pub struct RefusalShown {
@@ -23,6 +26,8 @@ pub struct RefusalShown {
 /// What was asked.
 pub struct Files<'a> {
     pub text: &'a [u8],
+    /// The version of the rules that is asked for.
+    pub version: u64,
     pub question: &'a [u8],
     /// The request that is refused, if one is, and how many are asked.
     pub request: Request<'a>,
@@ -80,9 +85,14 @@ fn meaning_of(files: &Files, number: usize, offset: usize) -> Option<String> {
             found(request.resource)
         ),
         24 => format!("The question's bytes are no question. {}", trouble_of_question(files.question)),
-        25 => "The sheet that was lent has less than 6 bytes from the named byte on.".to_string(),
+        25 => "The sheet that was lent has less than 14 bytes from the named byte on.".to_string(),
         26 => "The start row is above the number of rows.".to_string(),
         27 => format!("A tally takes one to eight requests, and here {}.", too_few_or_many(files.requests)),
+        NO_VERSION => format!(
+            "There is no version {} of the rules: there are versions 1 and 2. Say --version 1, under which an operator is false \
+             where it meets what is absent, or --version 2, under which its policy is then unsatisfied.",
+            files.version
+        ),
         _ => return None,
     };
     Some(meaning)
@@ -150,7 +160,7 @@ mod tests {
     use definitions::sheets::read_request;
 
     fn refusal(text: &[u8], request: &[u8], question: &[u8], said: [usize; 4]) -> Result<RefusalShown, String> {
-        let files = Files { text, question, request: read_request(request), requests: 9 };
+        let files = Files { text, version: 257, question, request: read_request(request), requests: 9 };
         RefusalShown::new(&files, Refused { number: said[0], line: said[1], column: said[2], length: said[3] })
     }
 
@@ -164,7 +174,7 @@ mod tests {
 
     #[test]
     fn every_number_has_a_meaning() {
-        for number in (1..=17).chain(20..=27) {
+        for number in (1..=17).chain(20..=27).chain([30]) {
             assert!(!refusal(b"x", b"a\nb", &[0, 0, 0], [number, 0, 0, 0]).unwrap().meaning.is_empty());
         }
         let meaning = |number: usize| refusal(b"x", b"dog:1\n\nshaft", &[0, 0, 0], [number, 0, 0, 0]).unwrap().meaning;
@@ -178,5 +188,7 @@ mod tests {
             .starts_with("This string is not UTF-8: its byte 2 is 0xFC, and no character. Save the rules as"));
         assert_eq!(not_utf8.place.unwrap().carets(), "       ^^^^^");
         assert!(meaning(27).ends_with("and here are 9: put 1 of them into another question."));
+        assert!(meaning(30)
+            .starts_with("There is no version 257 of the rules: there are versions 1 and 2. Say --version 1,"));
     }
 }

@@ -5,17 +5,20 @@ use std::collections::BTreeMap;
 use definitions::bags::Value;
 use definitions::compile::MOST_POLICIES;
 use definitions::deciding::is_marked;
+use definitions::policies::Version;
 use definitions::questions::Question;
 
-use crate::answers::{decide, Answer, Answers};
+use crate::answers::Answers;
 use crate::asked::{file_name, Asked};
-use crate::command::{not_asked, Done};
+use crate::command::Done;
 use crate::form::attribute;
 use crate::holes::{Grid, Hole};
+use crate::noes::{noes, No};
 use crate::printed::Listed;
 use crate::rules::{policy_texts, PolicyText};
 use crate::tallies::{Tally, TallyShown};
-use crate::words::grouped;
+use crate::versions::Versions;
+use crate::words::{count_of, grouped};
 use crate::writing::{shown, value_text};
 
 /// What is to be shown of a sheet.
@@ -24,6 +27,10 @@ pub struct Report {
     pub title: String,
     pub request: [String; 3],
     pub rules_name: String,
+    /// The version of the rules.
+    pub version: u64,
+    /// What version 2 changes beside version 1, where that is asked for.
+    pub versions: Option<Versions>,
     /// The base's attributes and values, which are the same for all rows.
     pub base: Vec<(String, String)>,
     pub columns: Vec<ColumnShown>,
@@ -67,12 +74,43 @@ pub struct RowShown {
     /// The other policies that are satisfied, by the row's mark.
     pub also: Vec<usize>,
     pub absences: Vec<Absence>,
+    /// Whether the other version allows the row, where that is asked for.
+    pub other: Option<bool>,
 }
 
 impl RowShown {
     /// What is absent in the row: the greatest of its attributes' absences.
     pub fn absence(&self) -> Absence {
         self.absences.iter().copied().max().unwrap_or(Absence::None)
+    }
+
+    /// Whether the answer is yes.
+    fn is_allowed(&self) -> bool {
+        [outcome_text(1), outcome_text(4)].contains(&self.outcome)
+    }
+
+    /// Whether the other version says otherwise than this one.
+    fn differs(&self) -> bool {
+        self.other.map_or(false, |allows| allows != self.is_allowed())
+    }
+
+    /// Whether version 2 opens the row, this one being the version that is shown.
+    pub fn is_opened(&self, version: u64) -> bool {
+        self.differs() && self.is_allowed() == (version == Version::Two.number())
+    }
+
+    /// Whether the other version allows the row, in a word; a row that version 2 opens is loud.
+    pub fn other_text(&self, version: u64) -> String {
+        let word = match self.other {
+            None => "",
+            Some(true) => "yes",
+            Some(false) => "no",
+        };
+        if self.is_opened(version) {
+            word.to_uppercase()
+        } else {
+            word.to_string()
+        }
     }
 }
 
@@ -105,16 +143,17 @@ pub struct PolicyShown {
     pub is_disarmed: bool,
 }
 
-/// Holes of one sort: which attributes are absent, what would take the yes away, how many rows, and one of them.
+/// Holes of one sort: which attributes are absent, what would take the yes away, and the rows.
 #[derive(PartialEq, Debug)]
 pub struct HoleShown {
     pub attributes: Vec<String>,
     /// The policy that would forbid; 0 if no permit would be satisfied; nothing if it is not known.
     pub policy: Option<usize>,
-    pub rows: usize,
-    pub example: usize,
-    /// The values that would take the yes away from the example.
+    pub rows: Vec<usize>,
+    /// The values that would take the yes away from the first of them.
     pub values: Vec<String>,
+    /// How many of the rows version 2 does not allow; nothing where they are not version 1's.
+    pub closed: Option<usize>,
 }
 
 /// The other policies that a mark says are satisfied, beside the one that decides.
@@ -132,21 +171,21 @@ pub fn outcome_text(outcome: usize) -> &'static str {
     }
 }
 
+/// The rows that a sheet lists, and those that it lists under the other version, where that is asked for.
+pub struct Sheets<'a> {
+    pub listed: &'a [Listed],
+    pub other: Option<&'a [Listed]>,
+}
+
 /// The report on a sheet, with the tally beside it. The other rows' decisions are asked for too, if they are wanted.
-pub fn report(
-    desk: &dyn Answers,
-    asked: &Asked,
-    listed: &[Listed],
-    tally: TallyShown,
-    with_others: bool,
-) -> Done<Report> {
+pub fn report(desk: &dyn Answers, asked: &Asked, sheets: Sheets, tally: TallyShown, with_others: bool) -> Done<Report> {
     let question = asked.question()?;
     let mut report = empty(asked, &question, tally);
-    let mut is_listed = vec![false; report.rows];
-    listed.iter().for_each(|listed| is_listed[listed.row] = true);
+    let is_listed = marked_rows(report.rows, sheets.listed);
+    let other = sheets.other.map(|listed| marked_rows(report.rows, listed));
     let grid = Grid::new(&question);
     let mut holes: Vec<(usize, Hole)> = Vec::new();
-    for listed in listed {
+    for listed in sheets.listed {
         let choices = question.choices_of(listed.row);
         let found = grid.holes(listed.row, &choices, &is_listed);
         report.add(listed, choices, &found);
@@ -158,12 +197,23 @@ pub fn report(
     }
     closed.sort_unstable();
     closed.dedup();
-    let decided = decisions(desk, asked, &question, &closed)?;
+    let decided = noes(desk, asked, &question, &closed)?;
     report.add_holes(&question, &holes, &decided);
     if with_others {
         report.others = Some(others(&question, &closed, &decided));
     }
+    if let Some(other) = other {
+        report.versions = Some(Versions::of(desk, asked, &question, [&is_listed, &other])?);
+        report.add_other(&other);
+    }
     Ok(report)
+}
+
+/// For each row whether it is listed.
+fn marked_rows(rows: usize, listed: &[Listed]) -> Vec<bool> {
+    let mut is_listed = vec![false; rows];
+    listed.iter().for_each(|listed| is_listed[listed.row] = true);
+    is_listed
 }
 
 /// The report on a tally alone, without rows.
@@ -185,6 +235,8 @@ fn empty(asked: &Asked, question: &Question, tally: TallyShown) -> Report {
         title: asked.title.clone().unwrap_or_else(|| title_of(&request)),
         request,
         rules_name: file_name(&asked.rules_name),
+        version: asked.version,
+        versions: None,
         base: base_of(question),
         columns: columns_of(question),
         rows: question.rows(),
@@ -215,47 +267,6 @@ pub fn has_others(rows: &[RowShown]) -> bool {
     rows.iter().any(|row| !row.also.is_empty())
 }
 
-/// What is decided of a row that is not allowed.
-#[derive(Clone, Copy)]
-struct No {
-    outcome: usize,
-    policy: usize,
-    mark: u64,
-}
-
-/// What is decided of rows that are not allowed; nothing where a row's attributes do not fit a bag.
-fn decisions(desk: &dyn Answers, asked: &Asked, question: &Question, rows: &[usize]) -> Done<BTreeMap<usize, No>> {
-    let mut cases = Vec::new();
-    let mut numbers = Vec::new();
-    for row in rows {
-        if let Some(case) = asked.case_of(&question.choices_of(*row)) {
-            cases.push(case);
-            numbers.push(*row);
-        }
-    }
-    let answers = match decide(desk, &asked.rules, &cases)? {
-        Ok(answers) => answers,
-        Err(_) => {
-            return not_asked("the sheet has rows, but the rules are refused: one of the proved programs is wrong")
-        }
-    };
-    let mut decided = BTreeMap::new();
-    for (row, answer) in numbers.into_iter().zip(answers) {
-        match answer {
-            Answer::Decided { outcome: outcome @ (2 | 3), policy, mark } => {
-                decided.insert(row, No { outcome, policy, mark })
-            }
-            _ => {
-                return not_asked(format!(
-                    "row {} is not on the sheet, but asked alone it is not a no: one of the proved programs is wrong",
-                    row
-                ))
-            }
-        };
-    }
-    Ok(decided)
-}
-
 fn others(question: &Question, rows: &[usize], decided: &BTreeMap<usize, No>) -> Vec<RowShown> {
     let row = |number: &usize| {
         let choices = question.choices_of(*number);
@@ -266,6 +277,7 @@ fn others(question: &Question, rows: &[usize], decided: &BTreeMap<usize, No>) ->
             policy: decided.map_or(0, |no| no.policy),
             also: decided.map_or(Vec::new(), |no| others_marked(no.mark, no.policy)),
             absences: vec![Absence::None; choices.len()],
+            other: None,
             choices,
         }
     };
@@ -294,6 +306,7 @@ impl Report {
             policy: listed.policy,
             also: others_marked(listed.mark, listed.policy),
             absences,
+            other: None,
         };
         if let Some(index) = listed.policy.checked_sub(1) {
             self.policies[index].sums.count(row.absence());
@@ -303,18 +316,18 @@ impl Report {
 
     /// Add the holes by their sorts: the same attributes, and the same policy that would forbid.
     fn add_holes(&mut self, question: &Question, holes: &[(usize, Hole)], decided: &BTreeMap<usize, No>) {
-        let mut sorts: BTreeMap<(Option<usize>, &[usize]), (usize, usize, usize)> = BTreeMap::new();
+        let mut sorts: BTreeMap<(Option<usize>, &[usize]), (Vec<usize>, usize)> = BTreeMap::new();
         for (row, hole) in holes {
             let mut seen = Vec::new();
             for closed in &hole.closed {
                 let policy = decided.get(closed).map(|no| no.policy);
                 if !seen.contains(&policy) {
                     seen.push(policy);
-                    sorts.entry((policy, &hole.columns)).or_insert((0, *row, *closed)).0 += 1;
+                    sorts.entry((policy, &hole.columns)).or_insert((Vec::new(), *closed)).0.push(*row);
                 }
             }
         }
-        for ((policy, columns), (rows, example, closed)) in sorts {
+        for ((policy, columns), (rows, closed)) in sorts {
             let choices = question.choices_of(closed);
             let value = |column: &usize| self.columns[*column].candidates[choices[*column]].clone().unwrap_or_default();
             let values = columns.iter().map(value).collect();
@@ -322,7 +335,19 @@ impl Report {
             if let Some(shown) = policy.and_then(|policy| policy.checked_sub(1)) {
                 self.policies[shown].is_disarmed = true;
             }
-            self.holes.push(HoleShown { attributes, policy, rows, example, values });
+            self.holes.push(HoleShown { attributes, policy, rows, values, closed: None });
+        }
+    }
+
+    /// Add what the other version allows, the rows being these: to the rows, and to the holes of version 1 how many version 2 closes.
+    fn add_other(&mut self, is_allowed: &[bool]) {
+        for row in self.listed.iter_mut().chain(self.others.iter_mut().flatten()) {
+            row.other = Some(is_allowed[row.number]);
+        }
+        if self.version == Version::One.number() {
+            for hole in &mut self.holes {
+                hole.closed = Some(hole.rows.iter().filter(|row| !is_allowed[**row]).count());
+            }
         }
     }
 
@@ -341,6 +366,25 @@ impl Report {
     /// The policies that decide some listed row.
     pub fn deciding(&self) -> impl Iterator<Item = &PolicyShown> {
         self.policies.iter().filter(|policy| policy.sums.listed > 0)
+    }
+
+    /// What stands over the column that says whether the other version allows the row; nothing where it allows these rows as this one does.
+    pub fn other_version(&self, rows: &[RowShown]) -> Option<&'static str> {
+        match self.version {
+            _ if !rows.iter().any(RowShown::differs) => None,
+            1 => Some("version 2"),
+            _ => Some("version 1"),
+        }
+    }
+
+    /// What the column of the other version is, below the rows; nothing where there is none.
+    pub fn said_of_other_version(&self, rows: &[RowShown]) -> Option<String> {
+        self.other_version(rows).map(|version| format!("{}: whether the row is allowed under it.", version))
+    }
+
+    /// The line in which the policy of this number begins.
+    pub fn line_of(&self, number: usize) -> usize {
+        self.policy(number).map_or(0, |policy| policy.text.line)
     }
 
     /// The policy of this number.
@@ -366,7 +410,7 @@ impl Report {
 impl HoleShown {
     /// How many rows, what is absent in them, and what would take the yes away.
     pub fn sentence(&self, line_of: impl Fn(usize) -> usize) -> String {
-        let (rows, are) = if self.rows == 1 { ("row", "is") } else { ("rows", "are") };
+        let rows = count_of(self.rows.len(), "row is", "rows are");
         let what = match self.policy {
             Some(0) => "no permit would be satisfied".to_string(),
             Some(policy) => format!("policy {} in line {} would forbid", policy, line_of(policy)),
@@ -375,15 +419,25 @@ impl HoleShown {
         let given: Vec<String> =
             self.attributes.iter().zip(&self.values).map(|(name, value)| format!("{} = {}", name, value)).collect();
         format!(
-            "{} {} {} allowed because of what is absent, {}: {}, as in row {} with {}",
-            grouped(self.rows),
+            "{} allowed because of what is absent, {}: {}, as in row {} with {}{}",
             rows,
-            are,
             self.attributes.join(" and "),
             what,
-            self.example,
-            given.join(" and ")
+            self.rows[0],
+            given.join(" and "),
+            self.said_of_version_2()
         )
+    }
+
+    /// Whether version 2 closes the hole, behind its sentence; nothing where it is not version 1's.
+    fn said_of_version_2(&self) -> String {
+        let it = if self.rows.len() == 1 { "it" } else { "them" };
+        match self.closed {
+            None => String::new(),
+            Some(0) => format!("; version 2 does not close {}", it),
+            Some(closed) if closed == self.rows.len() => format!("; version 2 closes {}", it),
+            Some(closed) => format!("; version 2 closes {} of {}", grouped(closed), it),
+        }
     }
 }
 
@@ -459,6 +513,7 @@ pub mod tests {
         Asked {
             rules_name: "policy.txt".to_string(),
             rules: text.as_bytes().to_vec(),
+            version: 1,
             name: "question.txt".to_string(),
             file: question.as_bytes().to_vec(),
             form: read_text(question.as_bytes()).unwrap(),
@@ -473,14 +528,17 @@ pub mod tests {
 
     /// The report on what is asked, by the stand-in.
     pub fn report_on(asked: &Asked, with_others: bool) -> Report {
-        let lines = printed(&asked.rules, &asked.question_bytes(), &asked.request_bytes(), 600);
-        match read_printed(lines.as_bytes()).unwrap() {
-            Printed::Sheet { listed, .. } => {
-                let tally = tally(&StandIn, asked).unwrap().1.unwrap();
-                report(&StandIn, asked, &listed, TallyShown::new(asked, tally, None).unwrap(), with_others).unwrap()
+        let listed = |version: u64| {
+            let lines = printed(&asked.rules, &asked.question_bytes(), &asked.request_bytes(), 600, version);
+            match read_printed(lines.as_bytes()).unwrap() {
+                Printed::Sheet { listed, .. } => listed,
+                Printed::Refused { .. } => panic!("{}", lines),
             }
-            Printed::Refused { .. } => panic!("{}", lines),
-        }
+        };
+        let tally = tally(&StandIn, asked).unwrap().1.unwrap();
+        let other = asked.other_version().map(|version| listed(version.number()));
+        let sheets = Sheets { listed: &listed(asked.version), other: other.as_deref() };
+        report(&StandIn, asked, sheets, TallyShown::new(asked, tally, None).unwrap(), with_others).unwrap()
     }
 
     fn of(text: &str, question: &str, request: &str) -> Report {
@@ -504,8 +562,41 @@ pub mod tests {
         assert_eq!(
             report.holes[0].sentence(|_| 3),
             "1 row is allowed because of what is absent, principal.hired: policy 2 in line 3 would forbid, as in row 3 with \
-             principal.hired = \"loan\""
+             principal.hired = \"loan\"; version 2 does not close it"
         );
+    }
+
+    // 02, request 7: a permit's hole is closed, a forbid's is not, and a forbid with `!` is disarmed. Rows: a absent or 1, b absent or 1.
+    #[test]
+    fn version_2_is_held_beside_version_1() {
+        let text =
+            "permit(principal,action,resource)when{!(env.a==2)};forbid(principal,action,resource)when{!(env.b==1)};";
+        let question = "column env.a = absent | 1 | 2\ncolumn env.b = absent | 1 | 2";
+        let one = of(text, question, REQUEST);
+        let of_row = |row: &RowShown| (row.number, row.outcome, row.other_text(1));
+        assert_eq!(
+            one.listed.iter().map(of_row).collect::<Vec<_>>(),
+            [(1, "allowed", "no".into()), (4, "allowed", "yes".into())]
+        );
+        assert_eq!(one.other_version(&one.listed), Some("version 2"));
+        assert_eq!(one.holes[0].closed, Some(1));
+        assert!(one.holes[0].sentence(|_| 1).ends_with("as in row 1 with env.a = 2; version 2 closes it"));
+        let two = report_on(&Asked { version: 2, ..asked(text, question, REQUEST) }, true);
+        let of_row = |row: &RowShown| (row.number, row.other_text(2), row.is_opened(2));
+        assert_eq!(
+            two.listed.iter().map(of_row).collect::<Vec<_>>(),
+            [(3, "NO".into(), true), (4, "yes".into(), false)]
+        );
+        assert_eq!(two.other_version(&two.listed), Some("version 1"));
+        assert_eq!(two.said_of_other_version(&two.listed).unwrap(), "version 1: whether the row is allowed under it.");
+        assert_eq!(two.holes[0].closed, None);
+        let others = two.others.as_ref().unwrap();
+        assert_eq!(others.iter().filter(|row| row.other == Some(true)).map(|row| row.number).collect::<Vec<_>>(), [1]);
+        // Where the versions allow the same rows there is no column for the other one.
+        let same = of("permit(principal,action,resource)when{env.a==1};", "column env.a = absent | 1", REQUEST);
+        assert_eq!(same.other_version(&same.listed), None);
+        let several = HoleShown { rows: vec![1, 2, 3], closed: Some(2), ..of(text, question, REQUEST).holes.remove(0) };
+        assert!(several.sentence(|_| 1).ends_with("; version 2 closes 2 of them"));
     }
 
     // An attribute that no candidate of which makes a difference is absent, and no hole.

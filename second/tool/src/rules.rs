@@ -3,8 +3,8 @@
 use definitions::bags::path_without_blanks;
 use definitions::numbers::Comparator;
 use definitions::policies::{
-    ActionPart, Attribute, Call, Condition, Disjunction, Effect, Literal, Operand, Policy, PrincipalPart, ResourcePart,
-    Root, Span,
+    ActionPart, Attribute, Call, Condition, Conjunction, Disjunction, Effect, Literal, Operand, Policy, PrincipalPart,
+    ResourcePart, Root, Span,
 };
 use definitions::tokens::{all_tokens, place_of};
 
@@ -159,16 +159,15 @@ pub fn condition_text(text: &[u8], condition: &Condition) -> String {
     }
 }
 
+/// Conditions joined by `&&`, written out in one line.
+pub fn conjunction_text(text: &[u8], conjunction: &Conjunction) -> String {
+    let conditions: Vec<String> = conjunction.conditions.iter().map(|one| condition_text(text, one)).collect();
+    conditions.join(" && ")
+}
+
 /// Conditions joined by `&&` and `||`, written out in one line.
 pub fn disjunction_text(text: &[u8], disjunction: &Disjunction) -> String {
-    let conjunctions: Vec<String> = disjunction
-        .conjunctions
-        .iter()
-        .map(|conjunction| {
-            let conditions: Vec<String> = conjunction.conditions.iter().map(|one| condition_text(text, one)).collect();
-            conditions.join(" && ")
-        })
-        .collect();
+    let conjunctions: Vec<String> = disjunction.conjunctions.iter().map(|one| conjunction_text(text, one)).collect();
     conjunctions.join(" || ")
 }
 

@@ -6,6 +6,7 @@ use std::str::Lines;
 
 use definitions::compile::{policies_of, table_of};
 use definitions::deciding::Request;
+use definitions::policies::Set;
 use definitions::sheets::decision_of_row;
 use definitions::tallies::{counts_of, decisions, satisfied_beside};
 
@@ -51,7 +52,7 @@ const OF_REQUESTS: std::ops::RangeInclusive<usize> = 20..=23;
 
 /// The tally of all requests, with what was printed; or its refusal.
 pub fn tally(desk: &dyn Answers, asked: &Asked) -> Done<(String, Result<Tally, RefusedTally>)> {
-    let printed = desk.tally(&asked.rules, &asked.sent, &asked.requests_bytes())?;
+    let printed = desk.tally(asked.version, &asked.rules, &asked.sent, &asked.requests_bytes())?;
     if let Some(refused) = read_refused(printed.trim_end()) {
         let request =
             if OF_REQUESTS.contains(&refused.number) { Some(refused_one(desk, asked, refused)?) } else { None };
@@ -69,7 +70,7 @@ pub fn tally(desk: &dyn Answers, asked: &Asked) -> Done<(String, Result<Tally, R
 /// Which request is refused so: the first that is refused alone, for the first refused request refuses the tally.
 fn refused_one(desk: &dyn Answers, asked: &Asked, refused: Refused) -> Done<usize> {
     for (index, request) in asked.requests.iter().enumerate() {
-        let alone = desk.tally(&asked.rules, &asked.sent, &bytes_of_requests(&[request.clone()]))?;
+        let alone = desk.tally(asked.version, &asked.rules, &asked.sent, &bytes_of_requests(&[request.clone()]))?;
         match read_refused(alone.trim_end()) {
             Some(other) if other == refused => return Ok(index + 1),
             Some(_) => break,
@@ -221,7 +222,7 @@ impl TallyShown {
 /// How many rows each policy is satisfied in though another decides, for each request: counted over all rows by the definitions, whose
 /// decisions must be what the proved program counted.
 fn also_satisfied(asked: &Asked, tally: &Tally) -> Done<Vec<Vec<usize>>> {
-    let table = table_of(&asked.rules);
+    let table = table_of(&asked.rules, asked.known_version());
     let mut also = Vec::new();
     for ([subject, action, resource], proved) in asked.requests.iter().zip(&tally.requests) {
         let decided = decisions(&asked.rules, &table, &asked.sent, Request { subject, action, resource });
@@ -241,9 +242,9 @@ fn also_satisfied(asked: &Asked, tally: &Tally) -> Done<Vec<Vec<usize>>> {
 /// The marks of the listed rows are what the definitions find there.
 pub fn check_marks(asked: &Asked, listed: &[Listed]) -> Done<()> {
     let question = asked.question()?;
-    let policies = policies_of(&asked.rules).unwrap_or_default();
+    let set = Set::of(policies_of(&asked.rules).unwrap_or_default(), asked.known_version());
     for row in listed {
-        let own = decision_of_row(&asked.rules, &policies, &question, asked.request(), row.row).mark;
+        let own = decision_of_row(&asked.rules, &set, &question, asked.request(), row.row).mark;
         if own != row.mark {
             return not_asked(format!(
                 "the proved program gives row {} the mark {}, and what explains it {}: one of them is wrong, so nothing is shown",
@@ -373,6 +374,22 @@ mod tests {
         assert_eq!(several.beside()[0].1, [1, 0, 0, 1, 2]);
         assert_eq!(of(&["tool:1"]).said_of_others().unwrap(), "No policy is satisfied in a row that another decides.");
         assert_eq!(of(&["system"]).said_of_others(), None);
+    }
+
+    // 02, request 7: under version 2 the forbid with `!` does not forbid rows 0, 3 and 6, in which hired is absent.
+    #[test]
+    fn a_tally_is_counted_under_its_version() {
+        let rules = EXAMPLE.replace("principal.hired != \"own\"", "!(principal.hired == \"own\")");
+        let of = |version: u64| {
+            let asked = Asked { version, ..asked(&rules, QUESTION, REQUEST) };
+            let counted = tally(&StandIn, &asked).unwrap().1.unwrap();
+            TallyShown::new(&asked, counted, None).unwrap()
+        };
+        assert_eq!(of(1).tally.sums, Counts { outcomes: [1, 6, 2, 0], policies: vec![1, 6] });
+        assert_eq!(of(2).tally.sums, Counts { outcomes: [2, 3, 4, 0], policies: vec![2, 3] });
+        assert_eq!((&of(1).also[0], &of(2).also[0]), (&vec![2, 0], &vec![1, 0]));
+        let none = tally(&StandIn, &Asked { version: 3, ..asked(&rules, QUESTION, REQUEST) }).unwrap().1.unwrap_err();
+        assert_eq!((none.refused.number, none.request), (30, None));
     }
 
     #[test]

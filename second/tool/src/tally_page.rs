@@ -1,7 +1,7 @@
 //! The tally on a page for paper: a table of the requests with their outcomes, one of the policies that decide, and one of those that are
 //! satisfied where another decides.
 
-use crate::page::{base, candidates, escaped, page, recorded, rules, warnings};
+use crate::page::{base, candidates, escaped, page, recorded, rules, version, warnings};
 use crate::record::Record;
 use crate::report::{outcome_text, Report};
 use crate::rules::PolicyText;
@@ -13,13 +13,14 @@ const MOST_REQUESTS_UPRIGHT: usize = 3;
 
 /// The page of a tally without a sheet: with the question, the rules, the day, the sums of the files and a line to sign.
 pub fn tally_page(report: &Report, record: &Record) -> String {
-    let mut body = format!("<h1>{}</h1>\n<p>Made on {}.</p>\n", escaped(&report.title), record.day);
+    let version = version(report.version);
+    let mut body = format!("<h1>{}</h1>\n<p>Made on {}.{}</p>\n", escaped(&report.title), record.day, version);
     body += &warnings(&report.warnings);
     body += &tally_section(report);
     body += &candidates(report);
     body += &base(report);
     body += &rules(report);
-    body += &recorded(record);
+    body += &recorded(record, report.version);
     page(&report.title, &body, lies_on_its_side(&report.tally))
 }
 

@@ -6,14 +6,16 @@ use crate::plain::{cut, fitted, length, wrapped, ROOM_FOR_POLICY, WIDTH};
 use crate::report::{outcome_text, Report};
 use crate::rules::PolicyText;
 use crate::tallies::{Counts, TallyShown};
+use crate::versions::said_of_version;
 use crate::words::{count_of, grouped};
 
 /// Between two columns.
 const GAP: &str = "  ";
 
-/// The title, warnings, the number of rows, and the tally.
+/// The title, the version where it is not version 1, warnings, the number of rows, and the tally.
 pub fn tally_text(report: &Report) -> String {
     let mut lines = wrapped(&report.title, WIDTH);
+    lines.extend(said_of_version(report.version));
     lines.push(String::new());
     for warning in &report.warnings {
         lines.extend(wrapped(&format!("Warning: {}.", warning), WIDTH));

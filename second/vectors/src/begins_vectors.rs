@@ -1,6 +1,8 @@
 //! The begins vectors: a text and a table, and whether the table begins with the text's compiled bytes.
 
-use definitions::compile::{policies_said_by, table_of};
+use definitions::compile::{set_said_by, table_of};
+
+use definitions::policies::Version;
 use generators::damaged_texts::{any_text, good_text};
 use generators::policy_texts::{policy_with_condition, text_of};
 use generators::random::Random;
@@ -8,7 +10,7 @@ use generators::random::Random;
 use crate::vector::Vector;
 
 /// Texts whose tables are cut and damaged at every byte.
-const GOOD_TEXTS: [&str; 4] = [
+pub const GOOD_TEXTS: [&str; 4] = [
     "",
     "permit(principal,action,resource);",
     "forbid(principal is tool,action in[\"a\"],resource==\"shaft:1\")when{principal.a . b==1||!true};",
@@ -16,7 +18,7 @@ const GOOD_TEXTS: [&str; 4] = [
 ];
 
 /// Texts that do not compile.
-const BAD_TEXTS: [&str; 6] = [
+pub const BAD_TEXTS: [&str; 6] = [
     "permit(principal,action,resource)",
     "permit(principal,action,resource)when{principal.a};",
     "permit(principal,action,resource);:",
@@ -25,13 +27,13 @@ const BAD_TEXTS: [&str; 6] = [
     ";",
 ];
 
-fn vector(text: &[u8], table: &[u8]) -> Vector {
+pub fn vector(text: &[u8], table: &[u8]) -> Vector {
     vec![text.to_vec(), table.to_vec()]
 }
 
 /// The answer: 1 if the text compiles and the table begins with its compiled bytes, else 0.
 pub fn answer(vector: &Vector) -> String {
-    let answer = if policies_said_by(&vector[0], &vector[1]).is_some() { "1" } else { "0" };
+    let answer = if set_said_by(&vector[0], &vector[1]).is_some() { "1" } else { "0" };
     answer.to_string()
 }
 
@@ -39,7 +41,7 @@ pub fn answer(vector: &Vector) -> String {
 pub fn fixed() -> Vec<Vector> {
     let mut vectors = Vec::new();
     for text in GOOD_TEXTS.map(str::as_bytes) {
-        let table = table_of(text);
+        let table = table_of(text, Version::One);
         for other in GOOD_TEXTS.iter().chain(&BAD_TEXTS) {
             vectors.push(vector(other.as_bytes(), &table));
         }
@@ -65,15 +67,15 @@ pub fn fixed() -> Vec<Vector> {
     vectors.push(vector(&[b' '; 8_192], &[]));
     vectors.push(vector(&[b' '; 8_193], &[]));
     let many = GOOD_TEXTS[1].repeat(64).into_bytes();
-    vectors.push(vector(&many, &table_of(&many)));
-    vectors.push(vector(&[many.as_slice(), b"permit"].concat(), &table_of(&many)));
+    vectors.push(vector(&many, &table_of(&many, Version::One)));
+    vectors.push(vector(&[many.as_slice(), b"permit"].concat(), &table_of(&many, Version::One)));
     vectors
 }
 
 /// A random vector.
 pub fn random(random: &mut Random) -> Vector {
     let text = short_text(random);
-    let mut table = table_of(&text);
+    let mut table = table_of(&text, Version::One);
     match random.below(16) {
         0..=3 => {}
         4..=6 => table.extend((0..random.between(1, 12)).map(|_| random.byte())),
@@ -89,7 +91,7 @@ pub fn random(random: &mut Random) -> Vector {
             let at = table.len() - 1 - random.below(table.len().min(5));
             table[at] = table[at].wrapping_add(1);
         }
-        12 => table = table_of(&short_text(random)),
+        12 => table = table_of(&short_text(random), Version::One),
         13 => return vector(&almost_the_same(text, random), &table),
         14 => table = (0..random.between(0, 60)).map(|_| random.byte()).collect(),
         _ => {}
@@ -98,7 +100,7 @@ pub fn random(random: &mut Random) -> Vector {
 }
 
 /// A text of at most 160 bytes, which mostly compiles.
-fn short_text(random: &mut Random) -> Vec<u8> {
+pub fn short_text(random: &mut Random) -> Vec<u8> {
     loop {
         let text = match random.below(8) {
             0 => any_text(random),
@@ -115,7 +117,7 @@ fn short_text(random: &mut Random) -> Vec<u8> {
 }
 
 /// The text with one byte more, or changed: often with another table, sometimes with the same, sometimes with none.
-fn almost_the_same(mut text: Vec<u8>, random: &mut Random) -> Vec<u8> {
+pub fn almost_the_same(mut text: Vec<u8>, random: &mut Random) -> Vec<u8> {
     let at = random.below(text.len() + 1);
     match random.below(3) {
         0 => text.push(random.pick(b" \n;:")),
@@ -141,8 +143,8 @@ mod tests {
     #[test]
     fn the_answer_is_one_digit() {
         let text = GOOD_TEXTS[1].as_bytes();
-        assert_eq!(answer(&vector(text, &table_of(text))), "1");
-        assert_eq!(answer(&vector(text, &table_of(text)[1..])), "0");
+        assert_eq!(answer(&vector(text, &table_of(text, Version::One))), "1");
+        assert_eq!(answer(&vector(text, &table_of(text, Version::One)[1..])), "0");
         assert_eq!(answer(&vector(b"", b"x")), "1");
         assert_eq!(answer(&vector(b";", b"x")), "0");
     }

@@ -1,4 +1,4 @@
-//! The compile vectors: a text and the room lent, and the table's size and sum or the refusal.
+//! The compile vectors: a text, the room lent and the version, and the table's size and sum or the refusal.
 
 use definitions::compile::{compile, ROOM_FOR_EACH_BYTE};
 use definitions::tokens::RESERVED_WORDS;
@@ -10,7 +10,7 @@ use generators::wide_strings;
 use crate::vector::{sum_of, Vector};
 
 /// A bare policy without its `;`, as in 01, "Checked examples".
-const P: &str = "permit(principal,action,resource)";
+pub const P: &str = "permit(principal,action,resource)";
 
 /// Conditions whose tokens, one by one, are replaced by every other token.
 const CONDITIONS: [&str; 16] = [
@@ -58,15 +58,26 @@ pub fn room_of(vector: &Vector) -> usize {
     room.max(0) as usize
 }
 
+/// The number by which a vector names the version.
+pub fn version_of(vector: &Vector) -> u64 {
+    vector[2].iter().rev().fold(0, |number, byte| number << 8 | u64::from(*byte))
+}
+
+/// A vector; the version has 8 bytes, little-endian.
+pub fn vector_under(text: &[u8], shift: i16, version: u64) -> Vector {
+    vec![text.to_vec(), shift.to_le_bytes().to_vec(), version.to_le_bytes().to_vec()]
+}
+
+/// A vector of version 1.
 fn vector(text: &[u8], shift: i16) -> Vector {
-    vec![text.to_vec(), shift.to_le_bytes().to_vec()]
+    vector_under(text, shift, 1)
 }
 
 /// The answer: policies, bytes used and the table's sum; or the refusal's number, line, column and length.
 pub fn answer(vector: &Vector) -> String {
-    match compile(&vector[0], room_of(vector)) {
+    match compile(&vector[0], room_of(vector), version_of(vector)) {
         Ok(compiled) => {
-            format!("P {} {} {}", compiled.policies.len(), compiled.table.len(), sum_of(&compiled.table))
+            format!("P {} {} {}", compiled.set.policies.len(), compiled.table.len(), sum_of(&compiled.table))
         }
         Err(refusal) => format!("R {} {} {} {}", refusal.number, refusal.line, refusal.column, refusal.length),
     }
@@ -92,7 +103,7 @@ pub fn fixed() -> Vec<Vector> {
 }
 
 /// A text with this condition after P.
-fn with_condition(condition: &str) -> Vec<u8> {
+pub fn with_condition(condition: &str) -> Vec<u8> {
     format!("{}when{{{}}};", P, condition).into_bytes()
 }
 

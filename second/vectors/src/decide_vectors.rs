@@ -1,8 +1,10 @@
 //! The decide vectors: text, table, bag, subject, action and resource, and the decision with its mark, or the refusal.
 
 use definitions::compile::table_of;
+
 use definitions::deciding::{decide, Decision, Request};
 use definitions::plans::{list_value, string_value, Plan};
+use definitions::policies::Version;
 use definitions::policies::{PRINCIPAL_TYPES, RESOURCE_TYPES};
 use generators::bag_bytes::{break_a_rule, damaged};
 use generators::condition_texts::{self, values_bag, P};
@@ -17,10 +19,10 @@ use generators::wide_strings::BROKEN;
 
 use crate::vector::{request_of, Vector};
 
-const EMPTY_BAG: &[u8] = &[0, 0, 0];
+pub const EMPTY_BAG: &[u8] = &[0, 0, 0];
 
 /// A text of several policies for cut and damaged tables.
-const RICH_TEXT: &str =
+pub const RICH_TEXT: &str =
     "permit(principal is person,action in[\"a\",\"teach\"],resource is shaft)when{if principal . s==\"own\"\
     then(!(principal.n in[1,3])||true)else false};forbid(principal,action,resource==\"shaft:A\")when{env has x.y&&\
     principal.l.containsAny([\"own\"])&&\"a\"like\"*\"&&\"a\"in principal.l};";
@@ -46,8 +48,8 @@ pub fn vector(text: &[u8], table: &[u8], bag: &[u8], request: Request) -> Vector
 }
 
 /// A vector with the text's own table.
-fn with_own_table(text: &str, bag: &[u8], request: Request) -> Vector {
-    vector(text.as_bytes(), &table_of(text.as_bytes()), bag, request)
+pub fn with_own_table(text: &str, bag: &[u8], request: Request) -> Vector {
+    vector(text.as_bytes(), &table_of(text.as_bytes(), Version::One), bag, request)
 }
 
 /// The answer: outcome, policy and mark, or `R` and the refusal's number.
@@ -203,7 +205,7 @@ fn add_marks(vectors: &mut Vec<Vector>) {
         add(&|number| if number <= place { "permit" } else { "forbid" }, &|number| number % 3 == 1);
     }
     let all = rules_satisfied(permits, |_| true);
-    let table = table_of(all.as_bytes());
+    let table = table_of(all.as_bytes(), Version::One);
     for request in [
         REQUEST,
         Request { subject: b"system", ..REQUEST },
@@ -324,7 +326,7 @@ fn add_wrong_bags(vectors: &mut Vec<Vector>) {
 fn add_wrong_tables(vectors: &mut Vec<Vector>) {
     let bag = values_bag();
     let text = RICH_TEXT.as_bytes();
-    let table = table_of(text);
+    let table = table_of(text, Version::One);
     let mut add = |text: &[u8], table: &[u8]| vectors.push(vector(text, table, &bag, REQUEST));
     add(text, &table);
     for at in 0..table.len() {
@@ -338,35 +340,35 @@ fn add_wrong_tables(vectors: &mut Vec<Vector>) {
     let bare = [P, ";"].concat().into_bytes();
     for more in [&[0][..], &[255], &[34, 0, 0, 3, 0], &[0; 300]] {
         add(text, &[&table, more].concat());
-        add(&bare, &[&table_of(&bare), more].concat());
+        add(&bare, &[&table_of(&bare, Version::One), more].concat());
         add(b"", more);
         add(b" \n", more);
     }
     add(&[text, text].concat(), &table);
     add(&bare, &table);
-    add(text, &table_of(&bare));
-    add(&[&bare[..], &bare].concat(), &table_of(&bare));
-    add(&bare, &table_of(&[&bare[..], &bare].concat()));
+    add(text, &table_of(&bare, Version::One));
+    add(&[&bare[..], &bare].concat(), &table_of(&bare, Version::One));
+    add(&bare, &table_of(&[&bare[..], &bare].concat(), Version::One));
     add(&[text, b" "].concat(), &table);
     add(&[b" ", text].concat(), &table);
-    add(&[b" ", &bare[..]].concat(), &table_of(&bare));
-    add(&[&bare[..], b"\n"].concat(), &table_of(&bare));
-    add(&bare, &[&[0], &table_of(&bare)[..]].concat());
+    add(&[b" ", &bare[..]].concat(), &table_of(&bare, Version::One));
+    add(&[&bare[..], b"\n"].concat(), &table_of(&bare, Version::One));
+    add(&bare, &[&[0], &table_of(&bare, Version::One)[..]].concat());
     for refused in REFUSED_TEXTS.map(str::as_bytes) {
-        for own in [&[][..], &table_of(&bare), &table, &[0; 40]] {
+        for own in [&[][..], &table_of(&bare, Version::One), &table, &[0; 40]] {
             add(refused, own);
         }
     }
     let longest = [&bare[..], &[b' '; 8_192 - 34]].concat();
     let too_long = [&bare[..], &[b' '; 8_193 - 34]].concat();
-    for own in [&[][..], &table_of(&bare), &[0; 40]] {
+    for own in [&[][..], &table_of(&bare, Version::One), &[0; 40]] {
         add(&longest, own);
         add(&too_long, own);
         add(&vec![b' '; 8_192], own);
         add(&vec![b' '; 8_193], own);
     }
     let policies_65 = bare.repeat(65);
-    add(&policies_65, &table_of(&bare.repeat(64)));
+    add(&policies_65, &table_of(&bare.repeat(64), Version::One));
     add(&policies_65, &[]);
 }
 
@@ -374,7 +376,7 @@ fn add_wrong_tables(vectors: &mut Vec<Vector>) {
 fn add_wrong_things(vectors: &mut Vec<Vector>) {
     let long = [b'x'; 101];
     let bare = [P, ";"].concat().into_bytes();
-    let table = table_of(&bare);
+    let table = table_of(&bare, Version::One);
     let subjects = [&b"person:1"[..], b"", b"system:1", b"shaft:1", b"system"];
     let actions = [&b"a"[..], b"", &long];
     let resources = [&b"shaft:1"[..], b"", b"person:1"];
@@ -397,7 +399,7 @@ fn add_wrong_things(vectors: &mut Vec<Vector>) {
 pub fn random(random: &mut Random) -> Vector {
     let wish = requests::wish(random);
     let text = requests::text(random, &wish);
-    let table = table_of(&text);
+    let table = table_of(&text, Version::One);
     let plan = requests::bag(random);
     let request = Request {
         subject: wish.subject.as_bytes(),
@@ -417,7 +419,7 @@ pub fn random(random: &mut Random) -> Vector {
 }
 
 /// Something of the vector goes wrong, or nearly.
-fn spoil(vector: &mut Vector, plan: &Plan, random: &mut Random) {
+pub fn spoil(vector: &mut Vector, plan: &Plan, random: &mut Random) {
     match random.below(10) {
         0 => vector[3] = random.pick(&WRONG_SUBJECTS).as_bytes().to_vec(),
         1 => vector[4] = vec![b'a'; random.pick(&[0, 0, 100, 101, 150])],
@@ -505,7 +507,7 @@ mod tests {
         let (mut several, mut overruled) = (0, 0);
         for vector in fixed().iter().chain(&some) {
             let request = request_of(vector);
-            let policies = definitions::compile::policies_said_by(&vector[0], &vector[1]).unwrap_or_default();
+            let policies = definitions::compile::set_said_by(&vector[0], &vector[1]).unwrap_or_default().policies;
             if let Ok(Decision { outcome, policy, mark }) = decide(&vector[0], &vector[1], &vector[2], request) {
                 let lowest = |effect: Effect| {
                     (0..policies.len()).find(|index| mark >> index & 1 == 1 && policies[*index].effect == effect)

@@ -2,20 +2,21 @@
 
 use definitions::bags::{path_without_blanks, read_bag, Bag, Content, Value};
 use definitions::characters::characters_of;
-use definitions::compile::{compile as compile_text, policies_of, policies_said_by};
-use definitions::deciding::{Facts, Request};
+use definitions::compile::{compile as compile_text, policies_of, set_said_by};
+use definitions::deciding::{Facts, LookUp, Missing, Request};
 use definitions::locks::permit_of;
 use definitions::numbers::value_of;
 use definitions::patterns::reached;
+use definitions::policies::{Attribute, Set, Version};
 use definitions::questions::{read_question, Question};
 use definitions::sheets::ROW_BYTES;
-use definitions::table::{bytes_of, entries_of, Entry, ENTRY_BYTES, KINDS};
+use definitions::table::{bytes_of, entries_of, recorded_version, Entry, ENTRY_BYTES, KINDS};
 use definitions::tallies::{read_requests, GROUP, MOST_REQUESTS, OUTCOMES};
 use definitions::tokens::{self, all_tokens, place_of, token_at, RESERVED_WORDS};
 
 use crate::bags_vectors;
 use crate::begins_vectors;
-use crate::compile_vectors::{self, room_of};
+use crate::compile_vectors::{self, room_of, vector_under, version_of};
 use crate::decide_vectors;
 use crate::lock_vectors::{self, lent_of};
 use crate::number_vectors;
@@ -125,17 +126,18 @@ pub fn like(vector: &Vector) -> String {
     lines
 }
 
-/// A typed rule text: all of it, with just the room it needs.
+/// A typed rule text: all of it, with just the room it needs, under version 1.
 pub fn read_rule_text(typed: &[u8]) -> Option<Vector> {
-    Some(vec![typed.to_vec(), vec![0, 0]])
+    Some(vector_under(typed, 0, 1))
 }
 
 /// Every entry of the table, or the refusal with its token.
 pub fn compile(vector: &Vector) -> String {
     let text = &vector[0];
-    let room = room_of(vector);
-    let mut lines = format!("text ({} bytes, room for {}):\n{}\n", text.len(), room, text.escape_ascii());
-    match compile_text(text, room) {
+    let (room, version) = (room_of(vector), version_of(vector));
+    let about = format!("{} bytes, room for {}, version {}", text.len(), room, version);
+    let mut lines = format!("text ({}):\n{}\n", about, text.escape_ascii());
+    match compile_text(text, room, version) {
         Ok(compiled) => lines.push_str(&table(text, &compiled.table)),
         Err(refusal) => {
             let found = all_tokens(text).into_iter().find(|token| {
@@ -162,13 +164,18 @@ pub fn read_text_and_table(typed: &[u8]) -> Option<Vector> {
     read_parts(typed, 2)
 }
 
-/// The entries of the text's own table, and the first byte at which the given table differs from it.
+/// The entries of the text's own table under the version that the given one records, and the first byte at which this differs from it.
 pub fn begins(vector: &Vector) -> String {
     let (text, given) = (&vector[0], &vector[1]);
     let mut lines = format!("text ({} bytes):\n{}\n", text.len(), text.escape_ascii());
     match policies_of(text) {
         Ok(policies) => {
-            let own = bytes_of(&entries_of(&policies));
+            let recorded = recorded_version(given);
+            lines.push_str(&match recorded {
+                Some(version) => format!("the given table records version {}\n", version.number()),
+                None => "the given table records no version; the text's own under version 1:\n".to_string(),
+            });
+            let own = bytes_of(&entries_of(&policies, recorded.unwrap_or(Version::One)));
             lines.push_str(&table(text, &own));
             lines.push_str(&format!("its table has {} bytes, the given one {}\n", own.len(), given.len()));
             match (0..own.len()).find(|at| given.get(*at) != Some(&own[*at])) {
@@ -265,7 +272,7 @@ pub fn decide(vector: &Vector) -> String {
         Some(bag) => {
             lines.push_str(&sections(&bag));
             let look_up = |root: u8, path: &[u8]| bag.look_up(root, path);
-            lines.push_str(&satisfied(&vector[0], request_of(vector), &look_up));
+            lines.push_str(&satisfied(&vector[0], &set_of(vector), request_of(vector), &look_up));
         }
         None => lines.push_str(&format!("not a bag: {}\n", vector[2].escape_ascii())),
     }
@@ -288,7 +295,7 @@ pub fn sheet(vector: &Vector) -> String {
         Some(question) => {
             lines.push_str(&base_and_columns(&question));
             let start = wanted.start.min(1 << 20) as usize;
-            lines.push_str(&first_rows(&vector[0], request_of(vector), &question, start, MOST_ROWS));
+            lines.push_str(&first_rows(vector, request_of(vector), &question, start, MOST_ROWS));
         }
         None => lines.push_str(&format!("not a question: {}\n", vector[2].escape_ascii())),
     }
@@ -321,7 +328,7 @@ pub fn tally(vector: &Vector) -> String {
     for (number, request) in read_requests(many.min(MOST_REQUESTS as u64) as usize, &vector[4]).iter().enumerate() {
         lines.push_str(&format!("request {}\n{}", number + 1, request_in_full(*request)));
         if let (Some(question), Ok(())) = (read_question(&vector[2]), answer) {
-            lines.push_str(&first_rows(&vector[0], *request, &question, 0, MOST_ROWS));
+            lines.push_str(&first_rows(vector, *request, &question, 0, MOST_ROWS));
             lines.push_str(&group(&counts, number));
         }
     }
@@ -377,17 +384,24 @@ fn text_and_request(vector: &Vector) -> String {
     text_and_table(vector) + &request_in_full(request_of(vector))
 }
 
-/// The text, and whether the table is its.
+/// The text, and whether the table is its, and under which version.
 fn text_and_table(vector: &Vector) -> String {
     let (text, given) = (&vector[0], &vector[1]);
-    let table = if policies_said_by(text, given).is_some() { "begins" } else { "does not begin" };
-    format!(
-        "text ({} bytes):\n{}\nthe table ({} bytes) {} with the text's compiled bytes\n",
-        text.len(),
-        text.escape_ascii(),
-        given.len(),
-        table
-    )
+    let table = match set_said_by(text, given).map(|set| set.version) {
+        None => "does not begin with the text's compiled bytes".to_string(),
+        Some(None) => "will do: the text has no policies, and no version".to_string(),
+        Some(Some(version)) => {
+            format!("begins with the text's compiled bytes under version {}", version.number())
+        }
+    };
+    let text = format!("text ({} bytes):\n{}", text.len(), text.escape_ascii());
+    format!("{}\nthe table ({} bytes) {}\n", text, given.len(), table)
+}
+
+/// A vector's policies under the version that its table records, or where that is not the text's under version 1.
+fn set_of(vector: &Vector) -> Set {
+    let (text, given) = (&vector[0], &vector[1]);
+    set_said_by(text, given).unwrap_or_else(|| Set::of(policies_of(text).unwrap_or_default(), Version::One))
 }
 
 fn request_in_full(request: Request) -> String {
@@ -399,25 +413,37 @@ fn request_in_full(request: Request) -> String {
 }
 
 /// Which policies are satisfied in some rows from one on, a line for each.
-fn first_rows(text: &[u8], request: Request, question: &Question, start: usize, most: usize) -> String {
+fn first_rows(vector: &Vector, request: Request, question: &Question, start: usize, most: usize) -> String {
+    let set = set_of(vector);
     let mut lines = String::new();
     for row in (0..question.rows()).skip(start).take(most) {
         let choices = question.choices_of(row);
         let look_up = |root: u8, path: &[u8]| question.look_up(&choices, root, path);
-        lines.push_str(&format!("row {} ({:?}): {}", row, choices, satisfied(text, request, &look_up)));
+        lines.push_str(&format!("row {} ({:?}): {}", row, choices, satisfied(&vector[0], &set, request, &look_up)));
     }
     lines
 }
 
-/// Which policies are satisfied, as a line.
-fn satisfied<'a>(text: &'a [u8], request: Request<'a>, look_up: &'a dyn Fn(u8, &[u8]) -> Option<&'a Value>) -> String {
-    let policies = policies_of(text).unwrap_or_default();
-    let facts = Facts { text, request, look_up };
-    let numbers: Vec<String> = (0..policies.len())
-        .filter(|index| facts.is_satisfied(&policies[*index]))
-        .map(|index| format!("{} {:?}", index + 1, policies[index].effect))
-        .collect();
-    format!("satisfied policies: [{}]\n", numbers.join(", "))
+/// Which policies are satisfied, as a line; and under version 2 which are missing, each with the absent attribute that its condition met.
+fn satisfied<'a>(text: &'a [u8], set: &Set, request: Request<'a>, look_up: &'a LookUp<'a>) -> String {
+    let (mut satisfied, mut missing) = (Vec::new(), Vec::new());
+    let version = set.version.unwrap_or(Version::One);
+    let facts = Facts { text, version, request, look_up };
+    for (index, policy) in set.policies.iter().enumerate() {
+        let named = format!("{} {:?}", index + 1, policy.effect);
+        match facts.policy(policy) {
+            Ok(true) => satisfied.push(named),
+            Ok(false) => {}
+            Err(Missing(Attribute { root, path })) => {
+                let root = format!("{:?}", root).to_lowercase();
+                missing.push(format!("{} by {}.{}", named, root, text[path.start..path.end].escape_ascii()));
+            }
+        }
+    }
+    match version {
+        Version::One => format!("satisfied policies: [{}]\n", satisfied.join(", ")),
+        Version::Two => format!("satisfied policies: [{}], missing: [{}]\n", satisfied.join(", "), missing.join(", ")),
+    }
 }
 
 fn base_and_columns(question: &Question) -> String {
@@ -459,6 +485,7 @@ fn value_in_full(value: &Value) -> String {
 #[cfg(test)]
 mod tests {
     use super::*;
+    use crate::vector::under_both;
 
     #[test]
     fn tokens_are_listed_with_their_places() {
@@ -507,9 +534,34 @@ mod tests {
         );
     }
 
+    // Case I under `!`, and a policy behind it that meets nothing absent.
+    #[test]
+    fn the_version_is_shown_and_what_is_missing() {
+        let text =
+            b"permit(principal,action,resource)when{!(principal . a!=\"x\")};forbid(principal is tool,action,resource);\
+            forbid(principal is tool,action,resource)when{env.b==1};permit(principal,action,resource);";
+        let explained = compile(&vector_under(text, 0, 2));
+        assert!(explained.contains(", version 2):\npermit("), "{}", explained);
+        assert!(explained.contains("  bare principal, version 2: \n"), "{}", explained);
+        assert!(compile(&vector_under(b"", 0, 257)).ends_with("version 257):\n\nanswer: R 30 0 0 0\n"));
+        let request = Request { subject: b"person:K7", action: b"teach", resource: b"shaft:A" };
+        let [one, two] = under_both(&decide_vectors::vector(text, b"", &[0, 0, 0], request)).map(|one| decide(&one));
+        assert!(one.contains("compiled bytes under version 1\n"), "{}", one);
+        assert!(one.ends_with("satisfied policies: [1 Permit, 4 Permit]\nanswer: 1 1 9\n"), "{}", one);
+        assert!(two.contains("compiled bytes under version 2\n"), "{}", two);
+        let satisfied = "satisfied policies: [4 Permit], missing: [1 Permit by principal.a]\nanswer: 1 4 8\n";
+        assert!(two.ends_with(satisfied), "{}", two);
+        let empty = decide(&decide_vectors::vector(b"", b"x", &[0, 0, 0], request));
+        assert!(empty.contains("the table (1 bytes) will do: the text has no policies, and no version\n"), "{}", empty);
+    }
+
     #[test]
     fn the_first_difference_of_a_table_is_shown() {
         let text = b"permit(principal,action,resource);".to_vec();
+        let explained = begins(&vec![text.clone(), vec![36, 0, 0, 0, 0, 32, 0]]);
+        assert!(explained.contains("\nthe given table records version 2\n"), "{}", explained);
+        assert!(explained.contains("first difference at byte 7 (entry 1)\nanswer: 0\n"), "{}", explained);
+        assert!(begins(&vec![text.clone(), vec![38]]).contains("\nthe given table records no version; the text's own "));
         let explained = begins(&vec![text.clone(), vec![29, 0, 0, 0, 0, 32, 1]]);
         assert!(explained.contains("has 20 bytes, the given one 7\nfirst difference at byte 6 (entry 1)\nanswer: 0\n"));
         assert!(begins(&vec![b"x".to_vec(), vec![]]).contains("refused: 10 at line 1, column 1\nanswer: 0\n"));
@@ -532,7 +584,7 @@ mod tests {
     fn decisions_and_pages_are_shown() {
         let vectors = decide_vectors::fixed();
         let explained = decide(vectors.iter().find(|vector| decide_vectors::answer(vector) == "2 3 7").unwrap());
-        assert!(explained.contains("begins with the text's compiled bytes\nsubject (9 bytes): person:K7\n"));
+        assert!(explained.contains("the text's compiled bytes under version 1\nsubject (9 bytes): person:K7\n"));
         assert!(explained.contains("satisfied policies: ["), "{}", explained);
         assert!(explained.contains("3 Forbid"), "{}", explained);
         assert!(explained.ends_with("\nanswer: 2 3 7\n"));

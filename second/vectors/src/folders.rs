@@ -42,7 +42,7 @@ impl Folder {
     /// What the sheet program has to print there.
     fn expected(&self) -> String {
         let bytes = |file: &Option<Vec<u8>>| file.clone().unwrap_or_default();
-        printed(&bytes(&self.policy), &bytes(&self.question), &bytes(&self.request), PAGE_BYTES)
+        printed(&bytes(&self.policy), &bytes(&self.question), &bytes(&self.request), PAGE_BYTES, 1)
     }
 
     fn write(&self, directory: &Path) -> io::Result<()> {

@@ -23,16 +23,20 @@ pub fn room_of(vector: &Vector) -> Vec<u8> {
     (0..usize::from(length)).map(|at| (at % 251) as u8).collect()
 }
 
-/// The answer: `R`, number and sum; or length, sum, and outcome and policy, or `R` and the number of deciding.
+/// The answer: `R`, number and sum; or length, sum, and outcome and policy, or `R` and the number of deciding, under version 1 and then
+/// under version 2.
 pub fn answer(vector: &Vector) -> String {
     let mut room = room_of(vector);
     match write_permit(lent_of(vector), &mut room) {
         Err(number) => format!("R {} {}", number, sum_of(&room)),
-        Ok(length) => format!("{} {} {}", length, sum_of(&room), decided(vector)),
+        Ok(length) => {
+            let decided = decided(vector);
+            format!("{} {} {} {}", length, sum_of(&room), decided, decided)
+        }
     }
 }
 
-/// What the lock means for the vector's request and bag.
+/// What the lock means for the vector's request and bag. It means the same under each version.
 fn decided(vector: &Vector) -> String {
     let permit = permit_of(lent_of(vector)).expect("a permit was written");
     match permit.decide(&vector[5], request_in(&vector[6..9])) {
@@ -307,7 +311,10 @@ pub fn random(random: &mut Random) -> Vector {
 #[cfg(test)]
 mod tests {
     use super::*;
+    use definitions::compile::table_of;
+    use definitions::deciding::decide;
     use definitions::locks::Reason;
+    use definitions::policies::Version;
 
     /// How many answers begin so.
     fn begin(answers: &[String], with: &str) -> usize {
@@ -323,9 +330,28 @@ mod tests {
             \"own\" && \"taught\" in principal.flags && principal.grade >= 3 };";
         assert_eq!(example[1], b"firm:own & flag:taught & grade>=3");
         assert_eq!(usize::from(u16::from_le_bytes([example[4][0], example[4][1]])), text.len());
-        assert_eq!(answer(example), format!("{} {} 1 1", text.len(), sum_of(text.as_bytes())));
+        assert_eq!(answer(example), format!("{} {} 1 1 1 1", text.len(), sum_of(text.as_bytes())));
         // One byte less of room.
         assert_eq!(answer(&all[1]), format!("R 29 {}", sum_of(&room_of(&all[1]))));
+    }
+
+    // 02, requests 2 and 7: the permit's text, compiled under either version, decides what the lock means.
+    #[test]
+    fn both_versions_decide_what_the_lock_means() {
+        let mut source = Random::new(5);
+        let some: Vec<Vector> = (0..2_000).map(|_| random(&mut source)).collect();
+        let mut permits = 0;
+        for vector in fixed().iter().chain(&some) {
+            if let Ok(permit) = permit_of(lent_of(vector)) {
+                let (text, request) = (permit.text(), request_in(&vector[6..9]));
+                for version in Version::ALL {
+                    let decided = decide(&text, &table_of(&text, version), &vector[5], request);
+                    assert_eq!(decided, permit.decide(&vector[5], request));
+                }
+                permits += 1;
+            }
+        }
+        assert!(permits > 2_500, "{}", permits);
     }
 
     #[test]

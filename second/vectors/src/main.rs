@@ -2,9 +2,12 @@
 
 mod bags_vectors;
 mod begins_vectors;
+mod begins_versions;
 mod command;
 mod compile_vectors;
+mod compile_versions;
 mod decide_vectors;
+mod decide_versions;
 mod explain;
 mod folders;
 mod lock_vectors;
@@ -13,7 +16,9 @@ mod packing;
 mod pattern_vectors;
 mod questions_vectors;
 mod sheet_vectors;
+mod sheet_versions;
 mod tally_vectors;
+mod tally_versions;
 mod token_vectors;
 mod vector;
 mod vectors;
@@ -35,11 +40,13 @@ const USAGE: &str = "usage:
   second explain SORT --vector N             explain vector N (from 1) of the vectors on standard input
   second folders DIR                         write folders for the sheet program, with what it has to print
   second sheet DIR                           print what the sheet program prints for the files in DIR
-  second decide DIR                          decide policy.txt, bag.bin and request.txt in DIR
-  second ask check DIR                       print what `ask check` prints for policy.txt in DIR
-  second ask decide DIR                      print what `ask decide` prints for policy.txt and cases.bin in DIR
-  second ask tally DIR                       print what `ask tally` prints for policy.txt, question.bin and requests.bin in DIR
+  second decide DIR [VERSION]                decide policy.txt, bag.bin and request.txt in DIR
+  second ask check DIR [VERSION]             print what `ask check` prints for policy.txt in DIR
+  second ask decide DIR [VERSION]            print what `ask decide` prints for policy.txt and cases.bin in DIR
+  second ask tally DIR [VERSION]             print what `ask tally` prints for policy.txt, question.bin and requests.bin in DIR
+  second ask sheet DIR [VERSION]             print what `ask sheet` prints for policy.txt, question.bin and request.txt in DIR
   second caretaker DIR                       print what `caretaker` prints for the files in DIR
+VERSION is the version of the rules, 1 where it is left out
 SORT is tokens, number, like, compile, begins, bag, question, view, decide, sheet, tally or lock; README.md says what
 the input of each is";
 
@@ -76,31 +83,38 @@ fn run(words: &[&str]) -> Result<(), Failure> {
         ["folders", directory] => folders::write_all(Path::new(directory)).map_err(|error| failed(directory, error)),
         ["sheet", directory] => {
             let [text, question, request] = files(directory, ["policy.txt", "question.bin", "request.txt"])?;
-            print(&sheets::printed(&text, &question, &request, PAGE_BYTES))
+            print(&sheets::printed(&text, &question, &request, PAGE_BYTES, 1))
         }
-        ["decide", directory] => {
+        ["decide", directory, version @ ..] if version.len() < 2 => {
             let [text, bag, request] = files(directory, ["policy.txt", "bag.bin", "request.txt"])?;
-            print(&decided(&text, &bag, &request))
+            print(&decided(&text, &bag, &request, version_in(version)))
         }
-        ["ask", word @ ("check" | "decide" | "tally"), directory] => ask(word, directory),
+        ["ask", word @ ("check" | "decide" | "tally" | "sheet"), directory, version @ ..] if version.len() < 2 => {
+            ask(word, directory, version_in(version))
+        }
         ["caretaker", directory] => caretaker(directory),
         _ => Err(Failure::Usage),
     }
 }
 
+/// The version that the last word names, if there is one.
+fn version_in(words: &[&str]) -> u64 {
+    asking::version_of_word(words.first().copied())
+}
+
 /// What the program `ask` prints for the files of a folder.
-fn ask(word: &str, directory: &str) -> Result<(), Failure> {
-    let [text, cases, _] = files(directory, ["policy.txt", "cases.bin", "request.txt"])?;
+fn ask(word: &str, directory: &str, version: u64) -> Result<(), Failure> {
+    let names = ["policy.txt", "cases.bin", "question.bin", "requests.bin", "request.txt"];
+    let [text, cases, question, requests, request] = files(directory, names)?;
     match word {
-        "check" => return print(&asking::printed_check(&text)),
-        "tally" => {
-            let [text, question, requests] = files(directory, ["policy.txt", "question.bin", "requests.bin"])?;
-            return print(&asking::printed_tally(&text, &question, &requests));
+        "check" => print(&asking::printed_check(&text, version)),
+        "tally" => print(&asking::printed_tally(&text, &question, &requests, version)),
+        "sheet" => print(&sheets::printed(&text, &question, &request, PAGE_BYTES, version)),
+        _ => {
+            let no_form = || Failure::Other("cases.bin has no such form".to_string());
+            print(&asking::printed_decide(&text, &asking::read_cases(&cases).ok_or_else(no_form)?, version))
         }
-        _ => {}
     }
-    let cases = asking::read_cases(&cases).ok_or_else(|| Failure::Other("cases.bin has no such form".to_string()))?;
-    print(&asking::printed_decide(&text, &cases))
 }
 
 /// What the program `caretaker` prints for the files of a folder.
@@ -126,8 +140,8 @@ fn files<const N: usize>(directory: &str, names: [&str; N]) -> Result<[Vec<u8>; 
 }
 
 /// The decision as a line: outcome, policy and mark; or `refused`, number, line, column, length.
-fn decided(text: &[u8], bag: &[u8], request: &[u8]) -> String {
-    match compile::compile(text, compile::ROOM_FOR_EACH_BYTE * text.len()) {
+fn decided(text: &[u8], bag: &[u8], request: &[u8], version: u64) -> String {
+    match compile::compile(text, compile::ROOM_FOR_EACH_BYTE * text.len(), version) {
         Err(refusal) => refusal.printed(),
         Ok(compiled) => match deciding::decide(text, &compiled.table, bag, sheets::read_request(request)) {
             Err(number) => compile::Refusal::without_place(number).printed(),

@@ -2,8 +2,10 @@
 //! and the page that the call answers, with the sum of the whole sheet after it.
 
 use definitions::compile::table_of;
+
 use definitions::deciding::Request;
 use definitions::plans::{list_value, string_value, Column};
+use definitions::policies::Version;
 use definitions::questions::read_question;
 use definitions::sheets::{write_page, Page, PageWanted, ROW_BYTES};
 use generators::bag_bytes::{break_a_rule, damaged};
@@ -16,7 +18,7 @@ use generators::rich_bags::{bag_of_length, cut_and_changed_questions};
 use crate::vector::{request_of, sum_of, Vector};
 
 /// The request of the same example.
-const EXAMPLE_REQUEST: Request = Request { subject: b"person:K7", action: b"teach", resource: b"shaft:A" };
+pub const EXAMPLE_REQUEST: Request = Request { subject: b"person:K7", action: b"teach", resource: b"shaft:A" };
 
 const ALL: &str = "permit(principal,action,resource);";
 
@@ -29,7 +31,7 @@ pub struct Wanted {
 }
 
 /// A vector; the start row and the named byte have 8 bytes, the length 2, little-endian.
-fn vector(text: &[u8], table: &[u8], question: &[u8], request: Request, wanted: Wanted) -> Vector {
+pub fn vector(text: &[u8], table: &[u8], question: &[u8], request: Request, wanted: Wanted) -> Vector {
     let Request { subject, action, resource } = request;
     let mut parts: Vector =
         [text, table, question, subject, action, resource].iter().map(|part| part.to_vec()).collect();
@@ -40,8 +42,8 @@ fn vector(text: &[u8], table: &[u8], question: &[u8], request: Request, wanted: 
 }
 
 /// A vector with the text's own table.
-fn with_own_table(text: &str, question: &[u8], request: Request, wanted: Wanted) -> Vector {
-    vector(text.as_bytes(), &table_of(text.as_bytes()), question, request, wanted)
+pub fn with_own_table(text: &str, question: &[u8], request: Request, wanted: Wanted) -> Vector {
+    vector(text.as_bytes(), &table_of(text.as_bytes(), Version::One), question, request, wanted)
 }
 
 /// What a vector wants.
@@ -416,7 +418,7 @@ fn add_wrong_questions(vectors: &mut Vec<Vector>) {
 /// Every set of wrong things among sheet, question, start row, subject, action, resource and table; and the system.
 fn add_wrong_things(vectors: &mut Vec<Vector>) {
     let good = example_question();
-    let table = table_of(EXAMPLE.as_bytes());
+    let table = table_of(EXAMPLE.as_bytes(), Version::One);
     for wrong in 0..256 {
         let is_wrong = |bit: u8| wrong >> bit & 1 == 1;
         let named = if is_wrong(0) { 7 } else { 6 };
@@ -457,7 +459,7 @@ fn add_wrong_things(vectors: &mut Vec<Vector>) {
 pub fn random(random: &mut Random) -> Vector {
     let wish = requests::wish(random);
     let text = requests::text(random, &wish);
-    let mut table = table_of(&text);
+    let mut table = table_of(&text, Version::One);
     let most = random.pick(&[4, 30, 100, 300]);
     let mut plan = requests::question(random, most);
     let mut question = plan.bytes();

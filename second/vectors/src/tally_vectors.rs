@@ -3,8 +3,10 @@
 use std::array::from_fn;
 
 use definitions::compile::table_of;
+
 use definitions::deciding::Request;
 use definitions::plans::string_value;
+use definitions::policies::Version;
 use definitions::tallies::{requests_lent, tally_into, LENT_COUNTS, MOST_REQUESTS};
 use generators::bag_bytes::{break_a_rule, damaged};
 use generators::examples::{column, example_question, number, question_of, question_of_rows, EXAMPLE, REFUSED_TEXTS};
@@ -16,30 +18,30 @@ use generators::tallies::{self, question_of_numbers, rules_with_rows_of_their_ow
 use crate::vector::Vector;
 
 /// The system's request, and the worked example's.
-const SYSTEM: Request = REQUESTS[0];
-const TEACH: Request = REQUESTS[1];
+pub const SYSTEM: Request = REQUESTS[0];
+pub const TEACH: Request = REQUESTS[1];
 
 /// Rules in which it matters who wants to do what with what, over the columns of `question_of_rows`.
-const BY_REQUEST: &str = "permit(principal is person,action,resource)when{env.c0==false||env has c1};\
+pub const BY_REQUEST: &str = "permit(principal is person,action,resource)when{env.c0==false||env has c1};\
     forbid(principal is tool,action in[\"teach\"],resource)when{env.c1==env.c0};\
     permit(principal,action in[\"read\",\"teach\"],resource is shaft)when{!env has c2};\
     forbid(principal,action,resource==\"record:1\")when{env.c0 in[3,4]||action.name==\"own\"};\
     permit(principal,action,resource is controller);";
 
 /// A vector; the number of requests has 8 bytes, little-endian.
-fn vector(text: &[u8], table: &[u8], question: &[u8], many: u64, requests: &[u8]) -> Vector {
+pub fn vector(text: &[u8], table: &[u8], question: &[u8], many: u64, requests: &[u8]) -> Vector {
     vec![text.to_vec(), table.to_vec(), question.to_vec(), many.to_le_bytes().to_vec(), requests.to_vec()]
 }
 
 /// A vector with the text's own table and rightly lent requests.
-fn with_own_table(text: &str, question: &[u8], requests: &[Request]) -> Vector {
+pub fn with_own_table(text: &str, question: &[u8], requests: &[Request]) -> Vector {
     let text = text.as_bytes();
-    vector(text, &table_of(text), question, requests.len() as u64, &requests_lent(requests))
+    vector(text, &table_of(text, Version::One), question, requests.len() as u64, &requests_lent(requests))
 }
 
 /// The worked example with these requests.
 fn example(many: u64, requests: &[u8]) -> Vector {
-    vector(EXAMPLE.as_bytes(), &table_of(EXAMPLE.as_bytes()), &example_question(), many, requests)
+    vector(EXAMPLE.as_bytes(), &table_of(EXAMPLE.as_bytes(), Version::One), &example_question(), many, requests)
 }
 
 /// The number of requests that a vector says.
@@ -112,7 +114,7 @@ fn add_example(vectors: &mut Vec<Vector>) {
 
 /// Each refusal at each request's turn: of one to eight requests one is refused, the ones before it are not, and those behind it may be.
 fn add_turns(vectors: &mut Vec<Vector>) {
-    let table = table_of(EXAMPLE.as_bytes());
+    let table = table_of(EXAMPLE.as_bytes(), Version::One);
     for count in 1..=MOST_REQUESTS {
         for turn in 0..count {
             let mut add = |table: &[u8], question: &[u8], requests: &[Request]| {
@@ -147,7 +149,7 @@ fn add_turns(vectors: &mut Vec<Vector>) {
 /// Three requests, each good, the system's, or refused by one of three numbers, over good and wrong tables and questions.
 fn add_wrong_things(vectors: &mut Vec<Vector>) {
     let kinds = [TEACH, SYSTEM, REFUSED[1].1, REFUSED[5].1, REFUSED[10].1];
-    let table = table_of(EXAMPLE.as_bytes());
+    let table = table_of(EXAMPLE.as_bytes(), Version::One);
     let good = example_question();
     for wrong in 0..4 * 125 {
         let table = if wrong % 2 == 1 { &table[..table.len() - 1] } else { &table };
@@ -357,7 +359,7 @@ fn add_wrong_questions(vectors: &mut Vec<Vector>) {
 
 /// 20: texts that are refused, tables that are cut, changed and longer.
 fn add_wrong_tables(vectors: &mut Vec<Vector>) {
-    let table = table_of(EXAMPLE.as_bytes());
+    let table = table_of(EXAMPLE.as_bytes(), Version::One);
     let question = example_question();
     for requests in [&[TEACH][..], &[SYSTEM], &[SYSTEM, TEACH], &[TEACH, SYSTEM, REFUSED[0].1], &REQUESTS] {
         let mut add = |text: &[u8], table: &[u8]| {
@@ -385,7 +387,7 @@ fn add_wrong_tables(vectors: &mut Vec<Vector>) {
 pub fn random(random: &mut Random) -> Vector {
     let wish = requests::wish(random);
     let text = requests::text(random, &wish);
-    let mut table = table_of(&text);
+    let mut table = table_of(&text, Version::One);
     let most = random.pick(&[4, 30, 100, 300]);
     let mut plan = requests::question(random, most);
     let mut question = plan.bytes();

@@ -1,6 +1,9 @@
 //! One vector: its parts, their bytes, and what the sorts of vectors share.
 
+use definitions::compile::table_of;
 use definitions::deciding::Request;
+use definitions::policies::Version;
+use definitions::table::{ENTRY_BYTES, FORBID, PERMIT};
 
 /// One vector: its parts, each a byte string.
 pub type Vector = Vec<Vec<u8>>;
@@ -8,6 +11,30 @@ pub type Vector = Vec<Vec<u8>>;
 /// A short sum of bytes, for lines that would else be long.
 pub fn sum_of(bytes: &[u8]) -> u64 {
     bytes.iter().fold(0, |sum, byte| (sum * 31 + u64::from(*byte)) % 1_000_003)
+}
+
+/// A vector with its text's own table under a version; text and table are its first parts.
+pub fn under(vector: &Vector, version: Version) -> Vector {
+    let mut own = vector.clone();
+    own[1] = table_of(&vector[0], version);
+    own
+}
+
+/// A vector under each version, in their order.
+pub fn under_both(vector: &Vector) -> [Vector; 2] {
+    Version::ALL.map(|version| under(vector, version))
+}
+
+/// The bytes of a text's own table at which the policies begin, each with the entry of its principal part.
+pub fn policy_starts(table: &[u8]) -> Vec<usize> {
+    let mut starts = vec![0];
+    for at in (0..table.len()).step_by(ENTRY_BYTES) {
+        if matches!(table[at], PERMIT | FORBID) {
+            starts.push(at + ENTRY_BYTES);
+        }
+    }
+    starts.pop();
+    starts
 }
 
 /// A vector's request; its parts are text, table, bag or question, and then these.

@@ -8,8 +8,11 @@ use generators::random::Random;
 
 use crate::bags_vectors;
 use crate::begins_vectors;
+use crate::begins_versions;
 use crate::compile_vectors;
+use crate::compile_versions;
 use crate::decide_vectors;
+use crate::decide_versions;
 use crate::explain;
 use crate::lock_vectors;
 use crate::number_vectors;
@@ -17,7 +20,9 @@ use crate::packing::{Packer, Unpacker};
 use crate::pattern_vectors;
 use crate::questions_vectors;
 use crate::sheet_vectors;
+use crate::sheet_versions;
 use crate::tally_vectors;
+use crate::tally_versions;
 use crate::token_vectors;
 use crate::vector::{add_part, read_parts, take_part, take_parts, Vector};
 use crate::views_vectors;
@@ -35,18 +40,30 @@ pub struct Sort {
     pub parts: usize,
     /// Whether they stand packed in `stdin`.
     pub packed: bool,
-    /// How many vectors there are at scale 1.
+    /// How many vectors there are at scale 1, but for those of the versions.
     pub count: usize,
     /// The vectors that are the same for every seed.
     pub fixed: fn() -> Vec<Vector>,
     /// A random vector.
     pub random: fn(&mut Random) -> Vector,
+    /// The vectors that ask what a version changes, where it can change something.
+    pub versions: Option<Versions>,
     /// The answer to a vector: one line, without its line feed.
     pub answer: fn(&Vector) -> String,
     /// A vector out of what a person typed.
     pub read_typed: fn(&[u8]) -> Option<Vector>,
     /// The answer to a vector in full.
     pub explain: fn(&Vector) -> String,
+}
+
+/// 02, request 7: vectors that follow the others of their sort. Those are of version 1, but where a table has another by chance.
+pub struct Versions {
+    /// How many there are at scale 1.
+    pub count: usize,
+    /// Those that are the same for every seed.
+    pub fixed: fn() -> Vec<Vector>,
+    /// Random ones that belong together.
+    pub random: fn(&mut Random) -> Vec<Vector>,
 }
 
 /// All sorts of vectors.
@@ -59,6 +76,7 @@ pub static SORTS: [Sort; 12] = [
         count: 21_000,
         fixed: token_vectors::fixed,
         random: token_vectors::random,
+        versions: None,
         answer: token_vectors::answer,
         read_typed: explain::read_text,
         explain: explain::tokens,
@@ -71,6 +89,7 @@ pub static SORTS: [Sort; 12] = [
         count: 6_000,
         fixed: number_vectors::fixed,
         random: number_vectors::random,
+        versions: None,
         answer: number_vectors::answer,
         read_typed: explain::read_number,
         explain: explain::number,
@@ -83,6 +102,7 @@ pub static SORTS: [Sort; 12] = [
         count: 36_000,
         fixed: pattern_vectors::fixed,
         random: pattern_vectors::random,
+        versions: None,
         answer: pattern_vectors::answer,
         read_typed: explain::read_two_lines,
         explain: explain::like,
@@ -90,11 +110,12 @@ pub static SORTS: [Sort; 12] = [
     Sort {
         name: "compile",
         explain_word: "compile",
-        parts: 2,
+        parts: 3,
         packed: true,
         count: 60_000,
         fixed: compile_vectors::fixed,
         random: compile_vectors::random,
+        versions: Some(Versions { count: 7_000, fixed: compile_versions::fixed, random: compile_versions::random }),
         answer: compile_vectors::answer,
         read_typed: explain::read_rule_text,
         explain: explain::compile,
@@ -107,6 +128,7 @@ pub static SORTS: [Sort; 12] = [
         count: 6_000,
         fixed: begins_vectors::fixed,
         random: begins_vectors::random,
+        versions: Some(Versions { count: 4_000, fixed: begins_versions::fixed, random: begins_versions::random }),
         answer: begins_vectors::answer,
         read_typed: explain::read_text_and_table,
         explain: explain::begins,
@@ -119,6 +141,7 @@ pub static SORTS: [Sort; 12] = [
         count: 10_000,
         fixed: bags_vectors::fixed,
         random: bags_vectors::random,
+        versions: None,
         answer: bags_vectors::answer,
         read_typed: explain::read_look_up,
         explain: explain::bag,
@@ -131,6 +154,7 @@ pub static SORTS: [Sort; 12] = [
         count: 7_000,
         fixed: questions_vectors::fixed,
         random: questions_vectors::random,
+        versions: None,
         answer: questions_vectors::answer,
         read_typed: explain::read_text,
         explain: explain::question,
@@ -143,6 +167,7 @@ pub static SORTS: [Sort; 12] = [
         count: 8_000,
         fixed: views_vectors::fixed,
         random: views_vectors::random,
+        versions: None,
         answer: views_vectors::answer,
         read_typed: explain::read_view,
         explain: explain::view,
@@ -155,6 +180,7 @@ pub static SORTS: [Sort; 12] = [
         count: 34_000,
         fixed: decide_vectors::fixed,
         random: decide_vectors::random,
+        versions: Some(Versions { count: 28_000, fixed: decide_versions::fixed, random: decide_versions::random }),
         answer: decide_vectors::answer,
         read_typed: explain::read_decide,
         explain: explain::decide,
@@ -167,6 +193,7 @@ pub static SORTS: [Sort; 12] = [
         count: 6_000,
         fixed: sheet_vectors::fixed,
         random: sheet_vectors::random,
+        versions: Some(Versions { count: 4_000, fixed: sheet_versions::fixed, random: sheet_versions::random }),
         answer: sheet_vectors::answer,
         read_typed: explain::read_sheet,
         explain: explain::sheet,
@@ -179,6 +206,7 @@ pub static SORTS: [Sort; 12] = [
         count: 8_000,
         fixed: tally_vectors::fixed,
         random: tally_vectors::random,
+        versions: Some(Versions { count: 2_600, fixed: tally_versions::fixed, random: tally_versions::random }),
         answer: tally_vectors::answer,
         read_typed: explain::read_tally,
         explain: explain::tally,
@@ -191,26 +219,36 @@ pub static SORTS: [Sort; 12] = [
         count: 20_000,
         fixed: lock_vectors::fixed,
         random: lock_vectors::random,
+        versions: None,
         answer: lock_vectors::answer,
         read_typed: explain::read_lock,
         explain: explain::lock,
     },
 ];
 
-/// The vectors of one sort: the fixed ones, then random ones up to the count.
+/// The vectors of one sort: the fixed ones, then random ones up to the count; and then those of the versions, likewise.
 pub fn make(sort: &Sort, seed: u64, scale: usize) -> Vec<Vector> {
     let mut vectors = (sort.fixed)();
-    let mut random = Random::new(seed_of(sort, seed));
+    let mut random = Random::new(seed_of(sort.name, seed));
     while vectors.len() < sort.count * scale {
         vectors.push((sort.random)(&mut random));
+    }
+    if let Some(versions) = &sort.versions {
+        let mut random = Random::new(seed_of(&[sort.name, " versions"].concat(), seed));
+        let mut more = (versions.fixed)();
+        while more.len() < versions.count * scale {
+            more.extend((versions.random)(&mut random));
+        }
+        more.truncate(versions.count * scale);
+        vectors.extend(more);
     }
     vectors
 }
 
 /// Each sort has a seed of its own, so that a new sort leaves the others as they are.
-fn seed_of(sort: &Sort, seed: u64) -> u64 {
+fn seed_of(name: &str, seed: u64) -> u64 {
     let mut own = seed;
-    for byte in sort.name.bytes() {
+    for byte in name.bytes() {
         own = Random::new(own ^ u64::from(byte)).bits();
     }
     own
@@ -280,6 +318,8 @@ pub fn write_all(directory: &Path, seed: u64, scale: usize) -> io::Result<()> {
 #[cfg(test)]
 mod tests {
     use super::*;
+    use definitions::compile::set_said_by;
+    use definitions::policies::Version;
 
     fn sort_named(name: &str) -> &'static Sort {
         SORTS.iter().find(|sort| sort.name == name).unwrap()
@@ -302,10 +342,11 @@ mod tests {
 
     #[test]
     fn the_packed_format_is_as_said() {
-        let vectors = vec![vec![b"permit".to_vec(), Vec::new()], vec![b"permit".to_vec(), b"x".to_vec()]];
+        let vectors =
+            vec![vec![b"permit".to_vec(), Vec::new(), Vec::new()], vec![b"permit".to_vec(), Vec::new(), b"x".to_vec()]];
         let sort = sort_named("compile");
         let bytes = encode(sort, &vectors);
-        assert_eq!(bytes, b"\x02\0\0\0\x0b\0\x09\x06\0permit\0\0\x07\0\x84\0\0\x02\x01\0x");
+        assert_eq!(bytes, b"\x02\0\0\0\x0d\0\x0b\x06\0permit\0\0\0\0\x07\0\x86\0\0\x02\x01\0x");
         assert_eq!(decode(sort, &bytes), Some(vectors));
         assert_eq!(decode(sort, &bytes[..bytes.len() - 1]), None);
     }
@@ -314,11 +355,32 @@ mod tests {
     fn the_counts_are_met_and_the_files_stay_small() {
         for sort in &SORTS {
             let vectors = make(sort, STANDARD_SEED, 1);
-            assert_eq!(vectors.len(), sort.count);
+            let count = sort.count + sort.versions.as_ref().map_or(0, |versions| versions.count);
+            assert_eq!(vectors.len(), count);
             let bytes = encode(sort, &vectors);
-            assert!(bytes.len() <= 2_200_000, "{}", bytes.len());
+            assert!(bytes.len() <= 4_000_000, "{}", bytes.len());
             assert!(decode(sort, &bytes) == Some(vectors.clone()));
-            assert_eq!(answers(sort, &vectors).lines().count(), sort.count);
+            assert_eq!(answers(sort, &vectors).lines().count(), count);
+        }
+    }
+
+    // 02, request 7: questions that stand once under version 1 and then under version 2, and otherwise alike; in a good share of them the
+    // answers differ.
+    #[test]
+    fn questions_are_asked_under_both_versions() {
+        for (name, wanted) in [("decide", 10_000), ("sheet", 1_800), ("tally", 1_100)] {
+            let sort = sort_named(name);
+            let vectors = make(sort, STANDARD_SEED, 1);
+            let (mut questions, mut differ) = (0, 0);
+            for pair in vectors[sort.count..].windows(2) {
+                let versions = [0, 1].map(|index: usize| set_said_by(&pair[index][0], &pair[index][1])?.version);
+                let is_alike = pair[0][0] == pair[1][0] && pair[0][2..] == pair[1][2..];
+                if is_alike && versions == Version::ALL.map(Some) {
+                    questions += 1;
+                    differ += usize::from((sort.answer)(&pair[0]) != (sort.answer)(&pair[1]));
+                }
+            }
+            assert!(questions >= wanted && 4 * differ >= questions, "{}: {} of {}", name, differ, questions);
         }
     }
 

@@ -6,7 +6,7 @@ use Rattle.ask.proofs.answer_case.Reads as reads
 use Rattle.ask.proofs.answer_case.Lts as lts
 use Rattle.ask.proofs.put_decided.Reads as put-decided-reads
 use Rattle.desk.proofs.desk_decide.Reads as desk-decide-reads
-use Rattle.folder.proofs.cases.part_at.Reads as part-at-reads
+use Rattle.cases.proofs.part_at.Reads as part-at-reads
 
 -- src/main.rt:57:9
 part-at-requires : tie.Need-part-at-requires

@@ -7,7 +7,7 @@ use Rattle.ask.proofs.print_counted.Lts as lts
 use Rattle.ask.proofs.print_compiled.Reads as print-compiled-reads
 use Rattle.ask.proofs.print_tally.Reads as print-tally-reads
 use Rattle.desk.proofs.desk_compile.Reads as desk-compile-reads
-use Rattle.folder.proofs.cases.wide.Reads as wide-reads
+use Rattle.cases.proofs.wide.Reads as wide-reads
 
 -- src/main.rt:223:9
 desk-compile-requires : tie.Need-desk-compile-requires
@@ -27,7 +27,7 @@ returns c = refused-counted (c .before .before .before .before .before .desk-com
 
 -- src/main.rt:230:9
 print-tally-requires : tie.Need-print-tally-requires
-print-tally-requires c κs = policies-few (c .before .before .before .before .before .before .desk-compile .ensures) (c .before .before .if1 .left)
+print-tally-requires c κs = policies-few (c .before .before .before .before .before .before .desk-compile .ensures)
 
 -- src/main.rt:230:9
 same-length-2 : tie.Need-same-length-2
@@ -55,7 +55,7 @@ part-print-tally-end c = search needs
 
 -- src/main.rt:232:5
 print-tally-requires-2 : tie.Need-print-tally-requires-2
-print-tally-requires-2 c κs = policies-few (c .before .before .before .before .before .before .before .before .before .desk-compile .ensures) (c .before .before .before .before .before .if1 .left)
+print-tally-requires-2 c κs = policies-few (c .before .before .before .before .before .before .before .before .before .desk-compile .ensures)
 
 -- src/main.rt:215:1
 same-length-3 : tie.Need-same-length-3

@@ -6,7 +6,7 @@ use Rattle.ask.proofs.print_counts.Statement.{statement}
 use Rattle.ask.proofs.print_counts.Tie as tie
 use Rattle.ask.proofs.print_counts.Reads as reads
 use Rattle.ask.proofs.print_counts.Lts as lts
-use Rattle.folder.proofs.counts.put_tally.Reads as put-tally-reads
+use Rattle.counts.proofs.put_tally.Reads as put-tally-reads
 use Rattle.io.proofs.write_all.Reads as write-all-reads
 
 -- src/main.rt:168:23

@@ -1,80 +1,49 @@
--- `compiling::compile` meets its contract: by what is found; the second pass writes what the first has counted. Assumes nothing.
-use Rattle.compiling.proofs.Outcomes.{accepts, clash, clash-unfit, place-inside, same-table, no-more, new-table}
-use Rattle.compiling.specs.Outcome.{said, toldOf, compiledOf}
-use lib.ListN.{length}
-use native.Mathlib.Omega.{arith}
-use mathlib.Core.Path.{_∙_, sym, ap}
+-- `compiling::compile` meets its contract: by the version that the number names. Assumes nothing.
 use borrow.Author.Needs.{needs}
+use borrow.Author.Tests.{eq-eqb, ne-eqb}
+use Rattle.grammar.specs.Versions.{ifVersion}
+use Rattle.compiling.specs.Outcome.{compiledOf, tableAfter}
 use Rattle.compiling.proofs.compile.Statement.{statement}
 use Rattle.compiling.proofs.compile.Tie as tie
 
-class-table-requires : tie.Need-class-table-requires
-class-table-requires c κs = search needs
-
-recognise-requires : tie.Need-recognise-requires
-recognise-requires c κs = search needs
-
-enum-known-found : tie.Need-enum-known-found
-enum-known-found c = search needs
-
-enum-known-found-2 : tie.Need-enum-known-found-2
-enum-known-found-2 c = search needs
-
-told-requires : tie.Need-told-requires
-told-requires c κs = place-inside (c .before .before .before .before .before .before .before .before .args .text .now) (length (c .before .before .before .before .before .before .before .before .args .table .now)) (sym (c .before .found2 .given .1) ∙ c .before .before .before .recognise .ensures)
-
-enum-known-found-3 : tie.Need-enum-known-found-3
-enum-known-found-3 c = search needs
-
-slice-aggregate-read-all : tie.Need-slice-aggregate-read-all
-slice-aggregate-read-all c = search needs
-
-read-all-requires : tie.Need-read-all-requires
-read-all-requires c κs = let a = c .before .before .before .before .before .before .before .before .before .before .before .args in
-    let h = accepts (a .text .now) (length (a .table .now)) _ _ (sym (c .before .before .before .before .found3 .given .1) ∙ c .before .before .before .before .before .before .recognise .ensures) in
-    (c .before .before .before .before .before .before .before .before .class-table .ensures, omega (arith, h .short))
-
-mul-t21 : tie.Need-mul-t21
-unfolding said
-mul-t21 c = let a = c .before .before .before .before .before .before .before .before .before .before .before .before .before .before .args in
-    let h = accepts (a .text .now) (length (a .table .now)) _ _ (sym (c .before .before .before .before .before .before .before .found3 .given .1) ∙ c .before .before .before .before .before .before .before .before .before .recognise .ensures) in
-    omega (arith, no-more h (c .before .before .read-all .ensures), h .short)
-
 returns : tie.Need-returns
-unfolding compiledOf toldOf
-returns c = let a = c .before .before .before .before .before .before .before .before .args in
-    let e = sym (c .before .found .given .1) ∙ c .before .before .before .recognise .ensures in
-    record { answered = ap (toldOf (a .text .now)) e; table = same-table (a .text .now) (a .table .now) (λ p n. clash-unfit) e }
+unfolding compiledOf tableAfter ifVersion
+returns c =
+    let at-if1 = c .before .before .before .before in
+    let number = at-if1 .before .before .before .args .number in
+    let e = eq-eqb number 1 (at-if1 .if1 .taken) in
+    let k = c .before .before .compile-under .ensures in
+    record { answered = rw e (k .0); table = rw e (k .1) }
 
 returns-2 : tie.Need-returns-2
-unfolding compiledOf
-returns-2 c = let a = c .before .before .before .before .before .before .before .before .before .args in
-    let e = sym (c .before .before .found2 .given .1) ∙ c .before .before .before .before .recognise .ensures in
-    record { answered = c .told .ensures ∙ ap (toldOf (a .text .now)) e; table = same-table (a .text .now) (a .table .now) (λ p n. clash) e }
-
-same-length : tie.Need-same-length
-same-length c = search needs
+unfolding compiledOf tableAfter ifVersion
+returns-2 c =
+    let at-if2 = c .before .before .before .before in
+    let at-if1 = at-if2 .before in
+    let number = at-if1 .before .before .before .args .number in
+    let n = ne-eqb number 1 (at-if1 .if1 .left) in
+    let e = eq-eqb number 2 (at-if2 .if2 .taken) in
+    let k = c .before .before .compile-under2 .ensures in
+    record { answered = rw (n, e) (k .0); table = rw (n, e) (k .1) }
 
 returns-3 : tie.Need-returns-3
-unfolding said compiledOf toldOf
-returns-3 c = let a = c .before .before .before .before .before .before .before .before .before .before .before .before .before .before .args in
-    let e = sym (c .before .before .before .before .before .before .before .found3 .given .1) ∙ c .before .before .before .before .before .before .before .before .before .recognise .ensures in
-    record { answered = ap (toldOf (a .text .now)) e; table = new-table (accepts (a .text .now) (length (a .table .now)) _ _ e) (c .before .before .read-all .ensures) }
+unfolding compiledOf tableAfter ifVersion
+returns-3 c =
+    let at-if1 = c .before .before in
+    let number = at-if1 .before .before .before .args .number in
+    let n = ne-eqb number 1 (at-if1 .if1 .left) in
+    let m = ne-eqb number 2 (c .before .if2 .left) in
+    record { answered = rw (n, m) (c .unplaced .ensures); table = rw (n, m) }
 
 pub compile-spec : {M : Type 1} → statement M
 compile-spec =
     tie.close
     (tie.spec
-    class-table-requires
-    recognise-requires
-    enum-known-found
-    enum-known-found-2
-    told-requires
-    enum-known-found-3
-    slice-aggregate-read-all
-    read-all-requires
-    mul-t21
+    (λ c κs. search needs)
+    (λ c. search needs)
     returns
+    (λ c κs. search needs)
+    (λ c. search needs)
     returns-2
-    same-length
+    (λ c κs. search needs)
     returns-3)

@@ -7,13 +7,13 @@ use Rattle.compiling.proofs.recognise.Statement.{statement}
 use Rattle.compiling.proofs.recognise.Tie as tie
 
 returns : tie.Need-returns
-returns c = sym (too-long _ _ (c .if1 .taken))
+returns c = sym (too-long _ _ _ (c .if1 .taken))
 
 mul-if2 : tie.Need-mul-if2
 mul-if2 c = search needs
 
 returns-2 : tie.Need-returns-2
-returns-2 c = sym (no-room _ _ (c .before .if1 .left) (c .if2 .taken))
+returns-2 c = sym (no-room _ _ _ (c .before .if1 .left) (c .if2 .taken))
 
 slice-aggregate-read-all : tie.Need-slice-aggregate-read-all
 slice-aggregate-read-all c = search needs
@@ -33,12 +33,12 @@ enum-known-whole-2 c = search needs
 returns-3 : tie.Need-returns-3
 unfolding said
 returns-3 c =
-    turned-found (as-lost (c .before .whole .given .1) (c .before .before .before .before .read-all .ensures)) ∙ sym (fitting _ _ (c .before .before .before .before .before .before .before .before .if1 .left) (c .before .before .before .before .before .before .before .if2 .left))
+    turned-found _ (as-lost (c .before .whole .given .1) (c .before .before .before .before .read-all .ensures)) ∙ sym (fitting _ _ _ (c .before .before .before .before .before .before .before .before .if1 .left) (c .before .before .before .before .before .before .before .if2 .left))
 
 returns-4 : tie.Need-returns-4
 unfolding said
 returns-4 c =
-    complete-found (as-complete (c .before .whole2 .given .1) (c .before .before .before .before .read-all .ensures)) ∙ sym (fitting _ _ (c .before .before .before .before .before .before .before .before .if1 .left) (c .before .before .before .before .before .before .before .if2 .left))
+    complete-found (as-complete (c .before .whole2 .given .1) (c .before .before .before .before .read-all .ensures)) ∙ sym (fitting _ _ _ (c .before .before .before .before .before .before .before .before .if1 .left) (c .before .before .before .before .before .before .before .if2 .left))
 
 pub recognise-spec : {M : Type 1} → statement M
 recognise-spec =

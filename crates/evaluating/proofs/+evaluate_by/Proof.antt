@@ -1,6 +1,6 @@
 -- `evaluating::evaluate_by` meets its contract: what is left to be met gives the verdict of the whole. It ends: each part ends before. Assumes nothing.
-use Rattle.evaluating.proofs.Verdicts.{joins}
-use Rattle.evaluating.proofs.Steps.{lengthOf, Going, Turn, turn-less, set-out, met, part-ready, part-falls, part-node, flat-part, after-turn, inside-turn, entering, entering-less, arrived, rest-ready, back-at, back-turn, back-less}
+use Rattle.evaluating.proofs.Verdicts.{joins, flat-counted}
+use Rattle.evaluating.proofs.Steps.{lengthOf, Going, turn-less, set-out, met, part-ready, part-falls, part-node, flat-part, after-turn, verdict-turn, inside-turn, entering, entering-less, arrived, rest-ready, back-at, back-turn, back-less}
 use Rattle.stored.proofs.Evaluating.{node-of}
 use Rattle.grammar.specs.Policies.{Tree}
 use Rattle.placing.specs.Said.{treeWords}
@@ -37,7 +37,7 @@ evaluate-by-below t = and 4 evaluate-by-kinds.ps (falls 4 evaluate-by-kinds.ps _
 
 abbrev evaluate-by-Inv-loop : evaluate-by-lts.InvT-loop
 evaluate-by-Inv-loop settles text table end s p n heads values action w₀ w =
-    Going text table (λ (c : Tree). verdict (withAction action (rowView s p n heads values)) (treeWords text c)) end w
+    Going text table (λ (c : Tree). verdict settles (withAction action (rowView s p n heads values)) (treeWords text c)) end w
 
 abbrev evaluate-by-μ-loop : evaluate-by-lts.MeasureT-loop
 evaluate-by-μ-loop settles text table end s p n heads values action w₀ w = lengthOf (w .rest) (w .at)
@@ -51,11 +51,11 @@ evaluate-by-loop-holds t c =
 
 evaluate-by-returns : (t : ℕ) → evaluate-by-lts.Need-returns (evaluate-by-claims t) (evaluate-by-at t) evaluate-by.Post evaluate-by-Inv-loop evaluate-by-μ-loop
 evaluate-by-returns t c =
-    arrived (joins _ _) (c .before .before .before .before .loop .inv) (c .before .before .if1 .taken) (c .if2 .taken)
+    arrived (joins _ _ _) (c .before .before .before .before .loop .inv) (c .before .before .if1 .taken) (c .if2 .taken)
 
 evaluate-by-entry-in-requires : (t : ℕ) → evaluate-by-lts.Need-entry-in-requires (evaluate-by-claims t) (evaluate-by-at t) evaluate-by.Post evaluate-by-Inv-loop evaluate-by-μ-loop
 evaluate-by-entry-in-requires t c κs =
-    let g = c .before .before .before .before .before .loop .inv in let none = c .before .before .before .if1 .taken in let z = c .before .if2 .left in let k = node-of (rest-ready (joins _ _) g none z) in omega (arith, k .here, k .some)
+    let g = c .before .before .before .before .before .loop .inv in let none = c .before .before .before .if1 .taken in let z = c .before .if2 .left in let k = node-of (rest-ready (joins _ _ _) g none z) in omega (arith, k .here, k .some)
 
 evaluate-by-come-back-requires : (t : ℕ) → evaluate-by-lts.Need-come-back-requires (evaluate-by-claims t) (evaluate-by-at t) evaluate-by.Post evaluate-by-Inv-loop evaluate-by-μ-loop
 evaluate-by-come-back-requires t c κs =
@@ -63,17 +63,17 @@ evaluate-by-come-back-requires t c κs =
 
 evaluate-by-after-part-requires : (t : ℕ) → evaluate-by-lts.Need-after-part-requires (evaluate-by-claims t) (evaluate-by-at t) evaluate-by.Post evaluate-by-Inv-loop evaluate-by-μ-loop
 evaluate-by-after-part-requires t c κs =
-    let g = c .before .before .before .before .before .before .before .loop .inv in let none = c .before .before .before .before .before .if1 .taken in let z = c .before .before .before .if2 .left in subst (λ (e : ℕ). 0 < e) (sym (back-at (joins _ _) g none (c .come-back .ensures))) (omega (arith, z))
+    let g = c .before .before .before .before .before .before .before .loop .inv in let none = c .before .before .before .before .before .if1 .taken in let z = c .before .before .before .if2 .left in subst (λ (e : ℕ). 0 < e) (sym (back-at (joins _ _ _) g none (c .come-back .ensures))) (omega (arith, z))
 
 evaluate-by-loop-less : (t : ℕ) → evaluate-by-lts.Need-loop-less (evaluate-by-claims t) (evaluate-by-at t) evaluate-by.Post evaluate-by-Inv-loop evaluate-by-μ-loop
 evaluate-by-loop-less t c =
     let g = c .before .before .before .before .before .before .before .before .loop .inv in let none = c .before .before .before .before .before .before .if1 .taken in let z = c .before .before .before .before .if2 .left in let d = c .before .come-back .ensures in
-    back-less (joins _ _) g none z d (back-turn (joins _ _) g none (c .before .before .before .before .before .before .before .before .before .before .before .before .before .pre .1 .1 .1 .clear) z (c .before .before .entry-in .ensures) d (c .after-part .ensures))
+    back-less (joins _ _ _) g none z d (back-turn (joins _ _ _) g none z (c .before .before .entry-in .ensures) d (c .after-part .ensures))
 
 evaluate-by-loop-again : (t : ℕ) → evaluate-by-lts.Need-loop-again (evaluate-by-claims t) (evaluate-by-at t) evaluate-by.Post evaluate-by-Inv-loop evaluate-by-μ-loop
 evaluate-by-loop-again t c =
     let g = c .before .before .before .before .before .before .before .before .loop .inv in let none = c .before .before .before .before .before .before .if1 .taken in let z = c .before .before .before .before .if2 .left in let d = c .before .come-back .ensures in
-    back-turn (joins _ _) g none (c .before .before .before .before .before .before .before .before .before .before .before .before .before .pre .1 .1 .1 .clear) z (c .before .before .entry-in .ensures) d (c .after-part .ensures) .going
+    back-turn (joins _ _ _) g none z (c .before .before .entry-in .ensures) d (c .after-part .ensures) .going
 
 evaluate-by-sub-entry-in : (t : ℕ) → evaluate-by-lts.Need-sub-entry-in (evaluate-by-claims t) (evaluate-by-at t) evaluate-by.Post evaluate-by-Inv-loop evaluate-by-μ-loop
 evaluate-by-sub-entry-in t c =
@@ -89,16 +89,16 @@ evaluate-by-part-met-requires t c κs =
 
 evaluate-by-sub-entry-in-2 : (t : ℕ) → evaluate-by-lts.Need-sub-entry-in-2 (evaluate-by-claims t) (evaluate-by-at t) evaluate-by.Post evaluate-by-Inv-loop evaluate-by-μ-loop
 evaluate-by-sub-entry-in-2 t c =
-    let g = c .before .before .before .before .loop .inv in let some = c .before .before .if1 .left in let n = met (joins _ _) g some (c .before .entry-in2 .ensures) in let q = c .part-met .ensures in let k = node-of (part-ready (joins _ _) g some n q) in omega (arith, k .some)
+    let g = c .before .before .before .before .loop .inv in let some = c .before .before .if1 .left in let n = met (joins _ _ _) g some (c .before .entry-in2 .ensures) in let q = c .part-met .ensures in let k = node-of (part-ready (joins _ _ _) g some n q) in omega (arith, k .some)
 
 evaluate-by-entry-in-requires-3 : (t : ℕ) → evaluate-by-lts.Need-entry-in-requires-3 (evaluate-by-claims t) (evaluate-by-at t) evaluate-by.Post evaluate-by-Inv-loop evaluate-by-μ-loop
 evaluate-by-entry-in-requires-3 t c κs =
-    let g = c .before .before .before .before .loop .inv in let some = c .before .before .if1 .left in let n = met (joins _ _) g some (c .before .entry-in2 .ensures) in let q = c .part-met .ensures in let k = node-of (part-ready (joins _ _) g some n q) in omega (arith, k .here, k .some)
+    let g = c .before .before .before .before .loop .inv in let some = c .before .before .if1 .left in let n = met (joins _ _ _) g some (c .before .entry-in2 .ensures) in let q = c .part-met .ensures in let k = node-of (part-ready (joins _ _ _) g some n q) in omega (arith, k .here, k .some)
 
 evaluate-by-flat-requires : (t : ℕ) → evaluate-by-lts.Need-flat-requires (evaluate-by-claims t) (evaluate-by-at t) evaluate-by.Post evaluate-by-Inv-loop evaluate-by-μ-loop
 evaluate-by-flat-requires t c κs =
-    let g = c .before .before .before .before .before .before .before .loop .inv in let some = c .before .before .before .before .before .if1 .left in let n = met (joins _ _) g some (c .before .before .before .before .entry-in2 .ensures) in let q = c .before .before .before .part-met .ensures in
-    (part-node (joins _ _) g some n q (c .before .before .entry-in3 .ensures), (c .if3 .taken, c .before .before .before .before .before .before .before .before .before .before .before .before .pre .1 .1 .0))
+    let g = c .before .before .before .before .before .before .before .loop .inv in let some = c .before .before .before .before .before .if1 .left in let n = met (joins _ _ _) g some (c .before .before .before .before .entry-in2 .ensures) in let q = c .before .before .before .part-met .ensures in
+    (part-node (joins _ _ _) g some n q (c .before .before .entry-in3 .ensures), (c .if3 .taken, c .before .before .before .before .before .before .before .before .before .before .before .before .pre .1 .1))
 
 evaluate-by-after-part-requires-2 : (t : ℕ) → evaluate-by-lts.Need-after-part-requires-2 (evaluate-by-claims t) (evaluate-by-at t) evaluate-by.Post evaluate-by-Inv-loop evaluate-by-μ-loop
 evaluate-by-after-part-requires-2 t c κs =
@@ -106,13 +106,13 @@ evaluate-by-after-part-requires-2 t c κs =
 
 evaluate-by-loop-less-2 : (t : ℕ) → evaluate-by-lts.Need-loop-less-2 (evaluate-by-claims t) (evaluate-by-at t) evaluate-by.Post evaluate-by-Inv-loop evaluate-by-μ-loop
 evaluate-by-loop-less-2 t c =
-    let g = c .before .before .before .before .before .before .before .before .before .loop .inv in let some = c .before .before .before .before .before .before .before .if1 .left in let n = met (joins _ _) g some (c .before .before .before .before .before .before .entry-in2 .ensures) in let q = c .before .before .before .before .before .part-met .ensures in
-    turn-less (after-turn (joins _ _) g some n q (c .before .before .before .before .before .before .before .before .before .before .before .before .before .before .pre .1 .1 .1 .clear) (flat-part (joins _ _) g some n q (c .before .before .before .before .entry-in3 .ensures) (c .before .flat .ensures)) (c .after-part2 .ensures))
+    let g = c .before .before .before .before .before .before .before .before .before .loop .inv in let some = c .before .before .before .before .before .before .before .if1 .left in let n = met (joins _ _ _) g some (c .before .before .before .before .before .before .entry-in2 .ensures) in let q = c .before .before .before .before .before .part-met .ensures in
+    turn-less (after-turn (joins _ _ _) g some n q _ (flat-part (joins _ _ _) g some n q (c .before .before .before .before .entry-in3 .ensures) (flat-counted _ _ _ _ _ _ (c .before .before .if3 .taken) (c .before .flat .ensures))) (c .after-part2 .ensures))
 
 evaluate-by-loop-again-2 : (t : ℕ) → evaluate-by-lts.Need-loop-again-2 (evaluate-by-claims t) (evaluate-by-at t) evaluate-by.Post evaluate-by-Inv-loop evaluate-by-μ-loop
 evaluate-by-loop-again-2 t c =
-    let g = c .before .before .before .before .before .before .before .before .before .loop .inv in let some = c .before .before .before .before .before .before .before .if1 .left in let n = met (joins _ _) g some (c .before .before .before .before .before .before .entry-in2 .ensures) in let q = c .before .before .before .before .before .part-met .ensures in
-    after-turn (joins _ _) g some n q (c .before .before .before .before .before .before .before .before .before .before .before .before .before .before .pre .1 .1 .1 .clear) (flat-part (joins _ _) g some n q (c .before .before .before .before .entry-in3 .ensures) (c .before .flat .ensures)) (c .after-part2 .ensures) .going
+    let g = c .before .before .before .before .before .before .before .before .before .loop .inv in let some = c .before .before .before .before .before .before .before .if1 .left in let n = met (joins _ _ _) g some (c .before .before .before .before .before .before .entry-in2 .ensures) in let q = c .before .before .before .before .before .part-met .ensures in
+    after-turn (joins _ _ _) g some n q _ (flat-part (joins _ _ _) g some n q (c .before .before .before .before .entry-in3 .ensures) (flat-counted _ _ _ _ _ _ (c .before .before .if3 .taken) (c .before .flat .ensures))) (c .after-part2 .ensures) .going
 
 evaluate-by-inside-part-requires : (t : ℕ) → evaluate-by-lts.Need-inside-part-requires (evaluate-by-claims t) (evaluate-by-at t) evaluate-by.Post evaluate-by-Inv-loop evaluate-by-μ-loop
 evaluate-by-inside-part-requires t c κs =
@@ -120,13 +120,13 @@ evaluate-by-inside-part-requires t c κs =
 
 evaluate-by-loop-less-3 : (t : ℕ) → evaluate-by-lts.Need-loop-less-3 (evaluate-by-claims t) (evaluate-by-at t) evaluate-by.Post evaluate-by-Inv-loop evaluate-by-μ-loop
 evaluate-by-loop-less-3 t c =
-    let g = c .before .before .before .before .before .before .before .before .before .before .loop .inv in let some = c .before .before .before .before .before .before .before .before .if1 .left in let n = met (joins _ _) g some (c .before .before .before .before .before .before .before .entry-in2 .ensures) in let q = c .before .before .before .before .before .before .part-met .ensures in
-    turn-less (inside-turn (joins _ _) g some n q (c .before .before .before .before .before .before .before .entry-in2 .ensures) (c .before .before .before .before .before .entry-in3 .ensures) (c .before .before .before .if3 .left) (c .before .if4 .taken) (c .inside-part .ensures))
+    let g = c .before .before .before .before .before .before .before .before .before .before .loop .inv in let some = c .before .before .before .before .before .before .before .before .if1 .left in let n = met (joins _ _ _) g some (c .before .before .before .before .before .before .before .entry-in2 .ensures) in let q = c .before .before .before .before .before .before .part-met .ensures in
+    turn-less (inside-turn (joins _ _ _) g some n q (c .before .before .before .before .before .before .before .entry-in2 .ensures) (c .before .before .before .before .before .entry-in3 .ensures) (c .before .before .before .if3 .left) (c .before .if4 .taken) (c .inside-part .ensures))
 
 evaluate-by-loop-again-3 : (t : ℕ) → evaluate-by-lts.Need-loop-again-3 (evaluate-by-claims t) (evaluate-by-at t) evaluate-by.Post evaluate-by-Inv-loop evaluate-by-μ-loop
 evaluate-by-loop-again-3 t c =
-    let g = c .before .before .before .before .before .before .before .before .before .before .loop .inv in let some = c .before .before .before .before .before .before .before .before .if1 .left in let n = met (joins _ _) g some (c .before .before .before .before .before .before .before .entry-in2 .ensures) in let q = c .before .before .before .before .before .before .part-met .ensures in
-    inside-turn (joins _ _) g some n q (c .before .before .before .before .before .before .before .entry-in2 .ensures) (c .before .before .before .before .before .entry-in3 .ensures) (c .before .before .before .if3 .left) (c .before .if4 .taken) (c .inside-part .ensures) .going
+    let g = c .before .before .before .before .before .before .before .before .before .before .loop .inv in let some = c .before .before .before .before .before .before .before .before .if1 .left in let n = met (joins _ _ _) g some (c .before .before .before .before .before .before .before .entry-in2 .ensures) in let q = c .before .before .before .before .before .before .part-met .ensures in
+    inside-turn (joins _ _ _) g some n q (c .before .before .before .before .before .before .before .entry-in2 .ensures) (c .before .before .before .before .before .entry-in3 .ensures) (c .before .before .before .if3 .left) (c .before .if4 .taken) (c .inside-part .ensures) .going
 
 evaluate-by-entered-requires : (t : ℕ) → evaluate-by-lts.Need-entered-requires (evaluate-by-claims t) (evaluate-by-at t) evaluate-by.Post evaluate-by-Inv-loop evaluate-by-μ-loop
 evaluate-by-entered-requires t c κs =
@@ -134,18 +134,18 @@ evaluate-by-entered-requires t c κs =
 
 evaluate-by-loop-less-4 : (t : ℕ) → evaluate-by-lts.Need-loop-less-4 (evaluate-by-claims t) (evaluate-by-at t) evaluate-by.Post evaluate-by-Inv-loop evaluate-by-μ-loop
 evaluate-by-loop-less-4 t c =
-    let g = c .before .before .before .before .before .before .before .before .before .before .before .before .loop .inv in let some = c .before .before .before .before .before .before .before .before .before .before .if1 .left in let n = met (joins _ _) g some (c .before .before .before .before .before .before .before .before .before .entry-in2 .ensures) in let q = c .before .before .before .before .before .before .before .before .part-met .ensures in
-    entering-less (joins _ _) g some n q (c .before .before .before .if4 .left) (c .before .if5 .taken) (c .entered .ensures)
+    let g = c .before .before .before .before .before .before .before .before .before .before .before .before .loop .inv in let some = c .before .before .before .before .before .before .before .before .before .before .if1 .left in let n = met (joins _ _ _) g some (c .before .before .before .before .before .before .before .before .before .entry-in2 .ensures) in let q = c .before .before .before .before .before .before .before .before .part-met .ensures in
+    entering-less (joins _ _ _) g some n q (c .before .before .before .if4 .left) (c .before .if5 .taken) (c .entered .ensures)
 
 evaluate-by-loop-again-4 : (t : ℕ) → evaluate-by-lts.Need-loop-again-4 (evaluate-by-claims t) (evaluate-by-at t) evaluate-by.Post evaluate-by-Inv-loop evaluate-by-μ-loop
 evaluate-by-loop-again-4 t c =
-    let g = c .before .before .before .before .before .before .before .before .before .before .before .before .loop .inv in let some = c .before .before .before .before .before .before .before .before .before .before .if1 .left in let n = met (joins _ _) g some (c .before .before .before .before .before .before .before .before .before .entry-in2 .ensures) in let q = c .before .before .before .before .before .before .before .before .part-met .ensures in
-    entering (joins _ _) g some n q (c .before .before .before .before .before .before .before .before .before .entry-in2 .ensures) (c .before .if5 .taken) (c .entered .ensures)
+    let g = c .before .before .before .before .before .before .before .before .before .before .before .before .loop .inv in let some = c .before .before .before .before .before .before .before .before .before .before .if1 .left in let n = met (joins _ _ _) g some (c .before .before .before .before .before .before .before .before .before .entry-in2 .ensures) in let q = c .before .before .before .before .before .before .before .before .part-met .ensures in
+    entering (joins _ _ _) g some n q (c .before .before .before .before .before .before .before .before .before .entry-in2 .ensures) (c .before .if5 .taken) (c .entered .ensures)
 
 evaluate-by-evaluate-by-requires : (t : ℕ) → evaluate-by-lts.Need-evaluate-by-requires (evaluate-by-claims t) (evaluate-by-at t) evaluate-by.Post evaluate-by-Inv-loop evaluate-by-μ-loop
 evaluate-by-evaluate-by-requires t c κs =
-    let g = c .before .before .before .before .before .before .before .before .before .before .before .loop .inv in let some = c .before .before .before .before .before .before .before .before .before .if1 .left in let n = met (joins _ _) g some (c .before .before .before .before .before .before .before .before .entry-in2 .ensures) in let q = c .before .before .before .before .before .before .before .part-met .ensures in
-    (omega (arith, part-falls (joins _ _) g some n q (c .before .before .if4 .left), c .before .before .before .before .before .before .before .before .before .before .before .before .before .before .before .before .pre .0), (part-ready (joins _ _) g some n q, (c .before .before .before .before .before .before .before .before .before .before .before .before .before .before .before .before .pre .1 .1 .0, c .before .before .before .before .before .before .before .before .before .before .before .before .before .before .before .before .pre .1 .1 .1)))
+    let g = c .before .before .before .before .before .before .before .before .before .before .before .loop .inv in let some = c .before .before .before .before .before .before .before .before .before .if1 .left in let n = met (joins _ _ _) g some (c .before .before .before .before .before .before .before .before .entry-in2 .ensures) in let q = c .before .before .before .before .before .before .before .part-met .ensures in
+    (omega (arith, part-falls (joins _ _ _) g some n q (c .before .before .if4 .left), c .before .before .before .before .before .before .before .before .before .before .before .before .before .before .before .before .pre .0), (part-ready (joins _ _ _) g some n q, c .before .before .before .before .before .before .before .before .before .before .before .before .before .before .before .before .pre .1 .1))
 
 evaluate-by-after-part-requires-3 : (t : ℕ) → evaluate-by-lts.Need-after-part-requires-3 (evaluate-by-claims t) (evaluate-by-at t) evaluate-by.Post evaluate-by-Inv-loop evaluate-by-μ-loop
 evaluate-by-after-part-requires-3 t c κs =
@@ -153,13 +153,13 @@ evaluate-by-after-part-requires-3 t c κs =
 
 evaluate-by-loop-less-5 : (t : ℕ) → evaluate-by-lts.Need-loop-less-5 (evaluate-by-claims t) (evaluate-by-at t) evaluate-by.Post evaluate-by-Inv-loop evaluate-by-μ-loop
 evaluate-by-loop-less-5 t c =
-    let g = c .before .before .before .before .before .before .before .before .before .before .before .before .before .loop .inv in let some = c .before .before .before .before .before .before .before .before .before .before .before .if1 .left in let n = met (joins _ _) g some (c .before .before .before .before .before .before .before .before .before .before .entry-in2 .ensures) in let q = c .before .before .before .before .before .before .before .before .before .part-met .ensures in
-    turn-less (after-turn (joins _ _) g some n q (c .before .before .before .before .before .before .before .before .before .before .before .before .before .before .before .before .before .before .pre .1 .1 .1 .clear) (c .before .evaluate-by .ensures) (c .after-part3 .ensures))
+    let g = c .before .before .before .before .before .before .before .before .before .before .before .before .before .loop .inv in let some = c .before .before .before .before .before .before .before .before .before .before .before .if1 .left in let n = met (joins _ _ _) g some (c .before .before .before .before .before .before .before .before .before .before .entry-in2 .ensures) in let q = c .before .before .before .before .before .before .before .before .before .part-met .ensures in
+    turn-less (verdict-turn (joins _ _ _) g some n q (c .before .evaluate-by .ensures) (c .after-part3 .ensures))
 
 evaluate-by-loop-again-5 : (t : ℕ) → evaluate-by-lts.Need-loop-again-5 (evaluate-by-claims t) (evaluate-by-at t) evaluate-by.Post evaluate-by-Inv-loop evaluate-by-μ-loop
 evaluate-by-loop-again-5 t c =
-    let g = c .before .before .before .before .before .before .before .before .before .before .before .before .before .loop .inv in let some = c .before .before .before .before .before .before .before .before .before .before .before .if1 .left in let n = met (joins _ _) g some (c .before .before .before .before .before .before .before .before .before .before .entry-in2 .ensures) in let q = c .before .before .before .before .before .before .before .before .before .part-met .ensures in
-    after-turn (joins _ _) g some n q (c .before .before .before .before .before .before .before .before .before .before .before .before .before .before .before .before .before .before .pre .1 .1 .1 .clear) (c .before .evaluate-by .ensures) (c .after-part3 .ensures) .going
+    let g = c .before .before .before .before .before .before .before .before .before .before .before .before .before .loop .inv in let some = c .before .before .before .before .before .before .before .before .before .before .before .if1 .left in let n = met (joins _ _ _) g some (c .before .before .before .before .before .before .before .before .before .before .entry-in2 .ensures) in let q = c .before .before .before .before .before .before .before .before .before .part-met .ensures in
+    verdict-turn (joins _ _ _) g some n q (c .before .evaluate-by .ensures) (c .after-part3 .ensures) .going
 
 pub +evaluate-by-spec : {M : Type 1} → statement M
 +evaluate-by-spec = close μ-evaluate-by

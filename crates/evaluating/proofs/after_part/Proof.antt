@@ -4,10 +4,10 @@ use Rattle.evaluating.proofs.after_part.Statement.{statement}
 use Rattle.evaluating.proofs.after_part.Tie as tie
 
 returns : tie.Need-returns
-returns c = rw (c .before .enum-told .given .1) (c .after-yes .ensures)
+returns c = rw (c .before .enum-told .given .1) (c .after-no .ensures)
 
 returns-2 : tie.Need-returns-2
-returns-2 c = rw (c .before .enum-told2 .given .1) (c .after-no .ensures)
+returns-2 c = rw (c .before .enum-told2 .given .1) (c .after-yes .ensures)
 
 returns-3 : tie.Need-returns-3
 returns-3 c = rw (c .before .enum-told3 .given .1) (c .after-missing .ensures)

@@ -1,6 +1,6 @@
 -- `heads::read_resource` meets its contract: what follows `is` or `==`, or nothing. Assumes nothing.
-use mathlib.Core.Path.{_≡_, refl, sym, _∙_}
-use mathlib.Core.List.{List}
+use mathlib.Core.Path.{_≡_, refl, sym, _∙_, ap}
+use mathlib.Core.List.{List, [], _∷_}
 use Prim.Native.Nat.{ℕ}
 use native.Mathlib.Omega.{arith}
 use borrow.Author.Needs.{needs}
@@ -13,10 +13,12 @@ use Rattle.grammar.specs.Parser.{noText, isTextOf, read-resource}
 use Rattle.grammar.proofs.Completeness.{text-of, no-text-of, no-sort-of}
 use Rattle.grammar.specs.Policies.{any, pinned}
 use Rattle.grammar.specs.Rules.{spanOf}
+use Rattle.table.specs.declared.Entry.{Entry}
 use Rattle.table.specs.Entries.{partEntry}
+use Rattle.table.proofs.Versions.{raised-none}
 use Rattle.parts.specs.Names.{typesOf}
 use Rattle.parts.proofs.Standing.{number-small, standing, lowered, past, ready-past, turned-as, turned-for, kind-on, kind-off}
-use Rattle.parts.proofs.Writing.{done-as, turned-done, weaker, one-done}
+use Rattle.parts.proofs.Writing.{done-as, done-alike, turned-done, weaker, one-done}
 use Rattle.heads.proofs.read_resource.Statement.{statement}
 use Rattle.heads.proofs.read_resource.Tie as tie
 
@@ -37,8 +39,11 @@ next-token-requires c κs =
 read-type-requires : tie.Need-read-type-requires
 read-type-requires c κs =
     let start = c .before .before .before .before .before .before .before in
-    let t = start .args .t in
-    ready-past t (start .pre) (λ (z : t .kind ≡ 0). let e = c .before .before .if1 .taken in omega arith) (c .before .next-token .ensures .1) (let l = start .pre .lies .low in omega arith)
+    let t = start .args .t in (
+      ready-past t (start .pre) (λ (z : t .kind ≡ 0). let e = c .before .before .if1 .taken in omega arith) (c .before .next-token .ensures .1)
+          (let l = start .pre .lies .low in omega arith),
+      omega arith,
+    )
 
 same-length : tie.Need-same-length
 same-length c = c .before .before .read-type .kept .1 .1 .0
@@ -53,7 +58,8 @@ returns c =
     let t = start .args .t in
     let some : t .kind ≡ 0 → ⊥ = λ (z : t .kind ≡ 0). (let k = at-if1 .if1 .taken in omega arith) in
     let l = past t (start .pre .lies) some (at-next-token .next-token .ensures .1) .low in
-    done-as (kind-on s t kinds.isWord _ _ _ (omega arith) (at-if1 .if1 .taken) (start .pre .lies .high) (at-next-token .next-token .ensures .0)) (weaker (omega (arith, l)) (c .before .before .read-type .ensures))
+    done-as (kind-on s t kinds.isWord _ _ _ (omega arith) (at-if1 .if1 .taken) (start .pre .lies .high) (at-next-token .next-token .ensures .0))
+    (done-alike (λ e p. ap (λ (x : Entry). x ∷ []) (raised-none (partEntry p))) (weaker (omega (arith, l)) (c .before .before .read-type .ensures)))
 
 next-token-requires-2 : tie.Need-next-token-requires-2
 next-token-requires-2 c κs =

@@ -7,12 +7,13 @@ use native.Mathlib.Omega.{arith}
 use borrow.Author.Needs.{needs}
 use lib.Dec.{eqb, ltb}
 use lib.ListN.{length, getD}
+use Rattle.table.specs.Recorded.{recorded}
 use Rattle.stored.specs.ReadBack.{policyAt, policiesAt}
 use Rattle.stored.specs.Ready.{Last}
 use Rattle.views.specs.Rows.{rowView}
 use Rattle.placing.specs.Said.{policyWords, wordsOf}
 use Rattle.meaning.specs.Targets.{Request}
-use Rattle.meaning.specs.Decisions.{satisfied, policiesDecide, markOf}
+use Rattle.meaning.specs.Decisions.{under, satisfied, policiesDecide, markOf}
 use Rattle.deciding.proofs.Lowest.{decidesFrom, marksFrom, none-known, none-marked, none-left, all-marked, met-one, mark-one, bit-there, bit-fits, no-bits, last-there}
 use Rattle.kept.specs.Notes.{ownOf, Aims, Carried, Noted, satBy}
 use Rattle.kept.proofs.Numbering.{Left, all-left, none-there, fewer-left, last-numbered, one-left}
@@ -22,14 +23,17 @@ use Rattle.kept.proofs.decision_from.Tie as tie
 
 abbrev Inv-loop : tie.InvT-loop
 Inv-loop looks notes₀ choices text table s heads values action p n from end₀ number₀ forbid₀ permit₀ mark₀ notes end number forbid permit mark =
+    let version = recorded table in
+    let terms = under version (rowView s p n heads values) in
+    let ps = policiesAt table end₀ in
     Left text table end₀ end number
     × (length notes ≡ 512)
     × (mark < 2 ^ (64 - number))
-    × ((q : Request) → q .action ≡ action → Aims text q (policiesAt table end₀) looks → Carried text s p n heads q (policiesAt table end₀) looks values from number₀ notes₀
-    → (decidesFrom text (rowView s p n heads values) q (policiesAt table end) forbid permit ≡ policiesDecide (rowView s p n heads values) q (wordsOf text (policiesAt table end₀)))
-    × Carried text s p n heads q (policiesAt table end₀) looks values from number notes
-    × Noted text s p n heads q (policiesAt table end₀) looks values number number₀ notes
-    × (marksFrom text (rowView s p n heads values) q (policiesAt table end) mark ≡ markOf (rowView s p n heads values) q (wordsOf text (policiesAt table end₀))))
+    × ((q : Request) → q .action ≡ action → Aims text q ps looks → Carried version text s p n heads q ps looks values from number₀ notes₀
+    → (decidesFrom text terms q (policiesAt table end) forbid permit ≡ policiesDecide terms q (wordsOf text ps))
+    × Carried version text s p n heads q ps looks values from number notes
+    × Noted version text s p n heads q ps looks values number number₀ notes
+    × (marksFrom text terms q (policiesAt table end) mark ≡ markOf terms q (wordsOf text ps)))
 
 abbrev μ-loop : tie.MeasureT-loop
 μ-loop looks notes₀ choices text table s heads values action p n from end₀ number₀ forbid₀ permit₀ mark₀ notes end number forbid permit mark = end
@@ -111,12 +115,14 @@ loop-again c =
     let pre = start met .pre in
     let loop = turn met .loop in
     let left = loop .inv .0 in
+    let version = recorded (args .table .now) in
     let t = args .text .now in
     let s = args .s .now in
     let p = args .walk .p in
     let n = args .walk .n in
     let heads = args .heads .now in
     let values = args .values .now in
+    let terms = under version (rowView s p n heads values) in
     let looks = args .looks .now in
     let from = args .walk .from in
     let ps = policiesAt (args .table .now) (args .walk .entries) in
@@ -129,18 +135,18 @@ loop-again c =
       rw (c .mark-with .ensures) (bit-there (c .before .before .before .before .met .result) (loop .mark) number (one met) (left .few) (loop .inv .2)),
       λ q e a k.
           let inv = loop .inv .3 q e a k in
-          let met-so = sat-where t s p n heads q values (args .action .now) policy e (a .aimed number policy there) in
-          let here : satBy t s p n heads q values (ownOf looks number) policy (getD (args .choices .now) (c .before .before .before .before .before .before .before .before .before .before .wide .result) 0)
-          ≡ satisfied (rowView s p n heads values) q (policyWords t policy) =
-          rw (c .before .before .before .before .before .before .before .before .before .before .wide .ensures) (sat-here t s p n heads q (args .choices .now) values (ownOf looks number) policy (own-small met) chosen) in
-          let is = c .before .before .before .before .met .ensures .0 (satBy t s p n heads q values (ownOf looks number) policy) (here ∙ met-so)
-          (λ f. note-holds t s p n heads q ps looks values from number policy (one met) there (loop .notes) (chosen .six) (own-small met) (pre .1 .1 .1 .1 .1 .0) (inv .1)
+          let met-so = sat-where version t s p n heads q values (args .action .now) policy e (a .aimed number policy there) in
+          let here : satBy version t s p n heads q values (ownOf looks number) policy (getD (args .choices .now) (c .before .before .before .before .before .before .before .before .before .before .wide .result) 0)
+          ≡ satisfied terms q (policyWords t policy) =
+          rw (c .before .before .before .before .before .before .before .before .before .before .wide .ensures) (sat-here version t s p n heads q (args .choices .now) values (ownOf looks number) policy (own-small met) chosen) in
+          let is = c .before .before .before .before .met .ensures .0 (satBy version t s p n heads q values (ownOf looks number) policy) (here ∙ met-so)
+          (λ f. note-holds version t s p n heads q ps looks values from number policy (one met) there (loop .notes) (chosen .six) (own-small met) (pre .1 .1 .1 .1 .1 .0) (inv .1)
           (rw (c .before .before .before .before .before .before .before .wide2 .ensures) at f)) in (
-            met-one (last met) (left .count) (rowView s p n heads values) q (loop .forbid) (loop .permit) (c .before .before .number-if .result) (c .before .number-if2 .result) _ (is .is ∙ here)
+            met-one (last met) (left .count) terms q (loop .forbid) (loop .permit) (c .before .before .number-if .result) (c .before .number-if2 .result) _ (is .is ∙ here)
                 (c .before .before .number-if .ensures) (c .before .number-if2 .ensures) ∙ inv .0,
-            left-carried t s p n heads q ps looks values from number policy (one met) there is (inv .1),
-            met-right t s p n heads q ps looks values from number policy (one met) there is (args .walk .policies) (inv .2),
-            mark-one (last met) (left .count) (rowView s p n heads values) q (loop .mark) (c .mark-with .result) _ (is .is ∙ here) (c .mark-with .ensures) ∙ inv .3,
+            left-carried version t s p n heads q ps looks values from number policy (one met) there is (inv .1),
+            met-right version t s p n heads q ps looks values from number policy (one met) there is (args .walk .policies) (inv .2),
+            mark-one (last met) (left .count) terms q (loop .mark) (c .mark-with .result) _ (is .is ∙ here) (c .mark-with .ensures) ∙ inv .3,
           ),
     )
 

@@ -1,10 +1,9 @@
 -- `operators::contains_literals` meets its contract. Assumes nothing.
-use Rattle.operators.proofs.OperatorLaws.{of-list, of-no-list}
+use borrow.Author.Needs.{needs}
+use Rattle.operators.proofs.VerdictLaws.{given-one}
+use Rattle.operators.proofs.OperatorLaws.{has-is, of-list, of-no-list}
 use Rattle.operators.proofs.OperandLaws.{attribute-list}
-use Rattle.operators.specs.Operands.{whichBy}
-use Rattle.placing.specs.Said.{literalWords}
-use Rattle.meaning.specs.Conditions.{asked, amongStrings}
-use Rattle.meaning.specs.Values.{literalValue, ifText}
+use Rattle.operators.specs.Operands.{literalsListed}
 use Rattle.stored.specs.ReadBack.{literalsAt}
 use Rattle.operators.proofs.contains_literals.Statement.{statement}
 use Rattle.operators.proofs.contains_literals.Tie as tie
@@ -13,14 +12,28 @@ attribute-value-requires : tie.Need-attribute-value-requires
 attribute-value-requires c κs = (c .before .before .before .pre .0 .lies, c .before .before .before .pre .1 .1 .1)
 
 returns : tie.Need-returns
-returns c = λ action. of-no-list _ _ _ _ _ _ (c .before .before .before .before .before .pre .1 .1 .1) action _ _ (c .before .before .before .before .before .pre .0) (c .before .attribute-value .ensures) (λ l. asked (whichBy (c .before .before .before .before .before .args .any)) (λ x. ifText (literalValue (literalWords (c .before .before .before .before .before .args .text .now) x)) (amongStrings l)) (literalsAt (c .before .before .before .before .before .args .count) (c .before .before .before .before .before .args .table .now) (c .before .before .before .before .before .args .at))) (c .if1 .taken)
+returns c = λ action.
+    given-one _ (has-is _ _ _ _ _ _ (c .before .before .before .before .before .before .before .pre .1 .1 .1) action _ _ (c .before .before .before .before .before .before .before .pre .0) (c .before .before .before .attribute-value .ensures) _ (c .before .before .is-present .ensures))
+    (of-no-list _ _ _ _ _ _ (c .before .before .before .before .before .before .before .pre .1 .1 .1) action _ _ (c .before .before .before .before .before .before .before .pre .0) (c .before .before .before .attribute-value .ensures) (λ l. literalsListed (c .before .before .before .before .before .before .before .args .text .now) (c .before .before .before .before .before .before .before .args .any) l (literalsAt (c .before .before .before .before .before .before .before .args .count) (c .before .before .before .before .before .before .before .args .table .now) (c .before .before .before .before .before .before .before .args .at))) (c .before .if1 .taken))
+    (c .given-of .ensures)
 
 literals-listed-requires : tie.Need-literals-listed-requires
-literals-listed-requires c κs = (c .before .before .before .before .before .pre .1 .0, (c .before .before .before .before .before .pre .1 .1 .0, attribute-list _ _ _ _ _ _ (c .before .before .before .before .before .pre .1 .1 .1) _ _ (c .before .attribute-value .ensures) (c .if1 .left)))
+literals-listed-requires c κs = (c .before .before .before .before .before .before .pre .1 .0, (c .before .before .before .before .before .before .pre .1 .1 .0, attribute-list _ _ _ _ _ _ (c .before .before .before .before .before .before .pre .1 .1 .1) _ _ (c .before .before .attribute-value .ensures) (c .if1 .left)))
 
 returns-2 : tie.Need-returns-2
-returns-2 c = λ action. of-list _ _ _ _ _ _ (c .before .before .before .before .before .before .pre .1 .1 .1) action _ _ (c .before .before .before .before .before .before .pre .0) (c .before .before .attribute-value .ensures) (λ l. asked (whichBy (c .before .before .before .before .before .before .args .any)) (λ x. ifText (literalValue (literalWords (c .before .before .before .before .before .before .args .text .now) x)) (amongStrings l)) (literalsAt (c .before .before .before .before .before .before .args .count) (c .before .before .before .before .before .before .args .table .now) (c .before .before .before .before .before .before .args .at))) _ (c .before .if1 .left) (c .literals-listed .ensures)
+returns-2 c = λ action.
+    given-one _ (has-is _ _ _ _ _ _ (c .before .before .before .before .before .before .before .before .pre .1 .1 .1) action _ _ (c .before .before .before .before .before .before .before .before .pre .0) (c .before .before .before .before .attribute-value .ensures) _ (c .before .before .before .is-present .ensures))
+    (of-list _ _ _ _ _ _ (c .before .before .before .before .before .before .before .before .pre .1 .1 .1) action _ _ (c .before .before .before .before .before .before .before .before .pre .0) (c .before .before .before .before .attribute-value .ensures) (λ l. literalsListed (c .before .before .before .before .before .before .before .before .args .text .now) (c .before .before .before .before .before .before .before .before .args .any) l (literalsAt (c .before .before .before .before .before .before .before .before .args .count) (c .before .before .before .before .before .before .before .before .args .table .now) (c .before .before .before .before .before .before .before .before .args .at))) _ (c .before .before .if1 .left) (c .before .literals-listed .ensures))
+    (c .given-of2 .ensures)
 
 pub contains-literals-spec : {M : Type 1} → statement M
 contains-literals-spec =
-    tie.close (tie.spec attribute-value-requires returns literals-listed-requires returns-2)
+    tie.close
+    (tie.spec
+    attribute-value-requires
+    (λ c κs. search needs)
+    (λ c κs. search needs)
+    returns
+    literals-listed-requires
+    (λ c κs. search needs)
+    returns-2)

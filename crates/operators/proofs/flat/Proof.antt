@@ -1,9 +1,10 @@
 -- `operators::flat` meets its contract, by the kind of the last entry. Assumes nothing.
 use Prim.Native.Nat.{ℕ, _<_, _≤_}
-use mathlib.Core.Path.{refl, _∙_, ap}
+use mathlib.Core.Path.{_∙_, ap}
 use native.Mathlib.Omega.{arith}
 use borrow.Author.Needs.{needs}
 use Rattle.table.specs.Layout.{entryAt}
+use Rattle.meaning.specs.Conditions.{told}
 use Rattle.operators.proofs.FlatLaws.{left-low, left-placed, has-placed, contains-placed, flat-has, flat-constant, flat-contains}
 use Rattle.operators.proofs.flat.Statement.{statement}
 use Rattle.operators.proofs.flat.Tie as tie
@@ -18,10 +19,10 @@ has-attribute-requires : tie.Need-has-attribute-requires
 has-attribute-requires c κs = (has-placed (c .before .before .before .before .before .pre .0) (c .if1 .taken), c .before .before .before .before .before .pre .1 .1)
 
 returns : tie.Need-returns
-returns c = flat-has _ _ _ _ (c .told-of .ensures) _ _ _ (c .before .before .if1 .taken) (c .before .has-attribute .ensures _)
+returns c = flat-has _ _ _ _ _ _ (c .before .before .if1 .taken) (c .told-of .ensures ∙ ap told (c .before .has-attribute .ensures _))
 
 returns-2 : tie.Need-returns-2
-returns-2 c = flat-constant _ _ _ _ (c .told-of2 .ensures) _ _ _ (c .before .before .if1 .left) (c .before .if2 .taken) refl
+returns-2 c = flat-constant _ _ _ _ _ _ (c .before .before .if1 .left) (c .before .if2 .taken) (c .told-of2 .ensures)
 
 sub-at : tie.Need-sub-at
 sub-at c = omega (arith, c .before .before .before .before .before .before .before .pre .0 .room .contains (c .if3 .taken) (c .before .before .before .before .before .before .before .pre .1 .0))
@@ -45,7 +46,7 @@ contains-literals-requires c κs =
 
 returns-3 : tie.Need-returns-3
 returns-3 c =
-    flat-contains _ _ _ _ (c .told-of3 .ensures) _ _ _ _ (c .before .before .before .if3 .taken) (c .before .before .before .before .before .before .before .before .before .before .pre .1 .0) (c .before .before .entry-in .ensures) (c .before .contains-literals .ensures _)
+    flat-contains _ _ _ _ _ _ _ (c .before .before .if3 .taken) (c .before .before .before .before .before .before .before .before .before .pre .1 .0) (c .before .entry-in .ensures) (c .contains-literals .ensures _)
 
 left-at-requires : tie.Need-left-at-requires
 left-at-requires c κs = (c .before .before .before .before .before .before .before .pre .0 .room, (c .before .if2 .left, below (c .if3 .left)))
@@ -58,12 +59,12 @@ operand-value-requires : tie.Need-operand-value-requires
 operand-value-requires c κs =
     (left-placed (c .before .before .before .before .before .before .before .before .before .pre .0) _ (c .before .before .before .if2 .left) (below (c .before .before .if3 .left)) (c .entry-in2 .ensures ∙ ap (entryAt (c .before .before .before .before .before .before .before .before .before .args .table .now)) (c .before .left-at .ensures)), c .before .before .before .before .before .before .before .before .before .pre .1 .1)
 
-left-holds-requires : tie.Need-left-holds-requires
-left-holds-requires c κs =
+left-verdict-requires : tie.Need-left-verdict-requires
+left-verdict-requires c κs =
     (c .before .before .before .before .before .before .before .before .before .before .pre .0, ((c .before .before .before .before .if2 .left, below (c .before .before .before .if3 .left)), (c .before .entry-in2 .ensures ∙ ap (entryAt (c .before .before .before .before .before .before .before .before .before .before .args .table .now)) (c .before .before .left-at .ensures), (c .before .before .before .before .before .before .before .before .before .before .pre .1 .1, c .operand-value .ensures))))
 
 returns-4 : tie.Need-returns-4
-returns-4 c = c .told-of4 .ensures ∙ c .before .left-holds .ensures
+returns-4 c = c .left-verdict .ensures
 
 pub flat-spec : {M : Type 1} → statement M
 flat-spec =
@@ -81,11 +82,9 @@ flat-spec =
     sub-entry-in-2
     entry-in-requires
     contains-literals-requires
-    (λ c κs. search needs)
     returns-3
     left-at-requires
     entry-in-requires-2
     operand-value-requires
-    left-holds-requires
-    (λ c κs. search needs)
+    left-verdict-requires
     returns-4)

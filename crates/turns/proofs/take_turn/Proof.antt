@@ -42,10 +42,10 @@ returns c =
     record {
       decided =
           ap (λ (m : Marked). m .d) marked ∙ of-system system _ .0 ∙ ap (λ (m : Marked). cond system System (m .d)) (decided .is)
-          ∙ decides-there (w .question) (w .laid) below (at .standing) system q _ (at .whose);
+          ∙ decides-there (w .question) (w .laid) below (at .standing) _ system q _ (at .whose);
       marked =
           ap (λ (m : Marked). m .mark) marked ∙ of-system system _ .1 ∙ ap (λ (m : Marked). cond system 0 (m .mark)) (decided .is)
-          ∙ marks-there (w .question) (w .laid) below (at .standing) system q _ (at .whose);
+          ∙ marks-there (w .question) (w .laid) below (at .standing) _ system q _ (at .whose);
       next = record {
         acts = at .acts;
         whose = at .whose;

@@ -1,5 +1,6 @@
 -- `bags::sections::bag_sections` meets its contract. Assumes nothing.
 use borrow.Author.Needs.{needs}
+use mathlib.Core.Path.{sym, _∙_}
 use native.Mathlib.Omega.{arith}
 use Rattle.bags.proofs.SectionLaws.{bag-long, bag-broken, bag-followed, bag-whole}
 use Rattle.bags.proofs.sections.bag_sections.Statement.{statement}
@@ -9,13 +10,13 @@ returns : tie.Need-returns
 returns c = bag-long _ (omega arith)
 
 returns-2 : tie.Need-returns-2
-returns-2 c = bag-broken _ (omega arith) (cc)
+returns-2 c = bag-broken _ (omega arith) (sym (c .before .before .sections-of .ensures) ∙ c .enum-told .given .1)
 
 returns-3 : tie.Need-returns-3
-returns-3 c = bag-whole _ _ (omega arith) (cc) (c .if2 .taken)
+returns-3 c = bag-whole _ _ (omega arith) (sym (c .before .before .before .before .before .sections-of .ensures) ∙ c .before .before .before .p .given .1) (c .if2 .taken)
 
 returns-4 : tie.Need-returns-4
-returns-4 c = bag-followed _ (c .before .before .before .p .given .0 .0) (omega arith) (cc) (c .if2 .left)
+returns-4 c = bag-followed _ (c .before .before .before .p .given .0 .0) (omega arith) (sym (c .before .before .before .before .before .sections-of .ensures) ∙ c .before .before .before .p .given .1) (c .if2 .left)
 
 pub bag-sections-spec : {M : Type 1} → statement M
 bag-sections-spec =

@@ -22,10 +22,10 @@ unfolding part
 loop-holds c = (entries-first _ _ _, omega arith, omega arith)
 
 returns : tie.Need-returns Inv-loop μ-loop
-returns c = sym (entries-stop _ _ _ _ (omega arith) (cc)) ∙ c .before .before .before .before .loop .inv .0
+returns c = sym (entries-stop _ _ _ _ (omega arith) (sym (c .before .before .entry-end .ensures) ∙ c .enum-told .given .1)) ∙ c .before .before .before .before .loop .inv .0
 
 whole : (c : tie.After-known-told Inv-loop μ-loop) → Entry (c .before .before .before .before .before .before .before .args .s .now) (c .before .before .before .before .before .loop .next) (c .before .e .given .0 .0)
-whole c = entry-at _ _ _ (cc)
+whole c = entry-at _ _ _ (sym (c .before .before .before .entry-end .ensures) ∙ c .before .e .given .1)
 
 add-start : tie.Need-add-start Inv-loop μ-loop
 add-start c = omega (arith, whole c .named)
@@ -45,11 +45,11 @@ part-before-end-2 c = omega (arith, whole (c .before .before) .named)
 loop-again : tie.Need-loop-again Inv-loop μ-loop
 unfolding part
 loop-again c =
-    (entries-on _ _ _ _ _ _ (omega arith) (cc) (c .before .before2 .ensures) (c .if1 .taken) ∙ c .before .before .before .before .before .before .before .before .before .before .loop .inv .0, omega arith, omega (arith, whole (c .before .before .before .before .before) .named))
+    (entries-on _ _ _ _ _ _ (omega arith) (sym (c .before .before .before .before .before .before .before .before .entry-end .ensures) ∙ c .before .before .before .before .before .before .e .given .1) (c .before .before2 .ensures) (c .if1 .taken) ∙ c .before .before .before .before .before .before .before .before .before .before .loop .inv .0, omega arith, omega (arith, whole (c .before .before .before .before .before) .named))
 
 returns-2 : tie.Need-returns-2 Inv-loop μ-loop
 unfolding part
-returns-2 c = entries-halt _ _ _ _ (c .before .before .before .before .before .before .e .given .0 .0) _ (omega arith) (cc) (c .before .before2 .ensures) (c .if1 .left) ∙ c .before .before .before .before .before .before .before .before .before .before .loop .inv .0
+returns-2 c = entries-halt _ _ _ _ (c .before .before .before .before .before .before .e .given .0 .0) _ (omega arith) (sym (c .before .before .before .before .before .before .before .before .entry-end .ensures) ∙ c .before .before .before .before .before .before .e .given .1) (c .before .before2 .ensures) (c .if1 .left) ∙ c .before .before .before .before .before .before .before .before .before .before .loop .inv .0
 
 returns-3 : tie.Need-returns-3 Inv-loop μ-loop
 returns-3 c = entries-done _ _ _ _ (omega arith) ∙ c .before .loop .inv .0

@@ -15,11 +15,11 @@ use Rattle.compiling.proofs.policies.read_all.Statement.{statement}
 use Rattle.compiling.proofs.policies.read_all.Tie as tie
 
 abbrev Inv-loop : tie.InvT-loop
-Inv-loop classes text table₀ seen t₀ policies₀ free₀ ok₀ table t policies free ok =
-    Underway text seen table₀ table (read-text (tokensOf text)) t policies free ok × (length table ≡ length table₀)
+Inv-loop classes text table₀ seen version t₀ policies₀ free₀ ok₀ table t policies free ok =
+    Underway version text seen table₀ table (read-text (tokensOf text)) t policies free ok × (length table ≡ length table₀)
 
 abbrev μ-loop : tie.MeasureT-loop
-μ-loop classes text table₀ seen t₀ policies₀ free₀ ok₀ table t policies free ok = length text - t .start
+μ-loop classes text table₀ seen version t₀ policies₀ free₀ ok₀ table t policies free ok = length text - t .start
 
 next-token-requires : tie.Need-next-token-requires Inv-loop μ-loop
 next-token-requires c κs = (c .before .before .before .pre .0, omega arith)

@@ -5,7 +5,8 @@ use borrow.Author.Needs.{needs}
 use Rattle.deciding.proofs.Lowest.{decidesFrom, marksFrom, none-known, none-marked, none-left, all-marked, some-left, number-falls, met-one, mark-one, bit-there, bit-fits, no-bits, last-there}
 use Rattle.targets.specs.Matching.{request}
 use Rattle.placing.specs.Said.{wordsOf}
-use Rattle.meaning.specs.Decisions.{policiesDecide, markOf}
+use Rattle.table.specs.Recorded.{recorded}
+use Rattle.meaning.specs.Decisions.{under, policiesDecide, markOf}
 use Rattle.views.specs.Meaning.{look}
 use Rattle.views.specs.Values.{baseBag}
 use Rattle.stored.specs.Ready.{ReadyPolicies, Last}
@@ -22,10 +23,10 @@ Inv-loop text table policies entries bag p subject action resource types none en
     × (number ≡ length (policiesAt table end))
     × (number ≤ 64)
     × (mark < 2 ^ (64 - number))
-    × (decidesFrom text (look (baseBag bag p)) (request subject action resource) (policiesAt table end) forbid permit
-    ≡ policiesDecide (look (baseBag bag p)) (request subject action resource) (wordsOf text (policiesAt table entries)))
-    × (marksFrom text (look (baseBag bag p)) (request subject action resource) (policiesAt table end) mark
-    ≡ markOf (look (baseBag bag p)) (request subject action resource) (wordsOf text (policiesAt table entries)))
+    × (decidesFrom text (under (recorded table) (look (baseBag bag p))) (request subject action resource) (policiesAt table end) forbid permit
+    ≡ policiesDecide (under (recorded table) (look (baseBag bag p))) (request subject action resource) (wordsOf text (policiesAt table entries)))
+    × (marksFrom text (under (recorded table) (look (baseBag bag p))) (request subject action resource) (policiesAt table end) mark
+    ≡ markOf (under (recorded table) (look (baseBag bag p))) (request subject action resource) (wordsOf text (policiesAt table entries)))
 
 abbrev μ-loop : tie.MeasureT-loop
 μ-loop text table policies entries bag p subject action resource types none end₀ number₀ forbid₀ permit₀ mark₀ end number forbid permit mark = end

@@ -15,10 +15,10 @@ abbrev μ-loop : tie.MeasureT-loop
 μ-loop classes n s at left₀ next₀ left next = left
 
 returns : tie.Need-returns Inv-loop μ-loop
-returns c = sym (many-stop _ _ _ (omega arith) (cc)) ∙ c .before .before .before .before .loop .inv
+returns c = sym (many-stop _ _ _ (omega arith) (sym (c .before .before .column-end .ensures) ∙ c .enum-told .given .1)) ∙ c .before .before .before .before .loop .inv
 
 loop-again : tie.Need-loop-again Inv-loop μ-loop
-loop-again c = sym (many-more _ _ _ _ (omega arith) (cc)) ∙ c .before .before .before .before .before .loop .inv
+loop-again c = sym (many-more _ _ _ _ (omega arith) (sym (c .before .before .before .column-end .ensures) ∙ c .before .e .given .1)) ∙ c .before .before .before .before .before .loop .inv
 
 returns-2 : tie.Need-returns-2 Inv-loop μ-loop
 returns-2 c = sym (many-done _ _ _ (omega arith)) ∙ c .before .loop .inv

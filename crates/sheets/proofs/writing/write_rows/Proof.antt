@@ -4,6 +4,7 @@ use Rattle.turns.specs.Turns.{AtRow}
 use Rattle.turns.proofs.RowLaws.{choices-small, stands-first, kept-first, ends-few, policy-fits, walked-gone, at-gone, at-back}
 use Rattle.placing.specs.Said.{wordsOf}
 use Rattle.sheets.specs.Asked.{Asked, WalkFor}
+use Rattle.table.specs.Recorded.{recorded}
 use Rattle.sheets.specs.Sheets.{rowsIn, decisionAt, rowMark}
 use Rattle.pages.proofs.Progress.{Progress, begun, turn-yes, turn-no, turn-full, turn-none}
 use Rattle.pages.specs.Listing.{rowSize, listed}
@@ -24,9 +25,9 @@ abbrev Inv-loop : tie.InvT-loop
 Inv-loop walk looks text table s starts ends action all start part₀ grid p choices₀ values₀ notes₀ from₀ written₀ at₀ row₀ part choices values notes from written at row =
     (all ≤ 262144) × (row ≤ all) × (start + written ≤ row) × (at ≡ rowSize * written) × (length part ≡ length part₀)
     × ((q : Request) → WalkFor text table walk looks action q
-    → Progress (decisionAt s (walk .p) q (wordsOf text (policiesAt table (walk .entries)))) (rowMark s (walk .p) q (wordsOf text (policiesAt table (walk .entries))))
-    (listed (decisionAt s (walk .p) q (wordsOf text (policiesAt table (walk .entries)))) all start)
-    part₀ written part (listed (decisionAt s (walk .p) q (wordsOf text (policiesAt table (walk .entries)))) all row)
+    → Progress (decisionAt (recorded table) s (walk .p) q (wordsOf text (policiesAt table (walk .entries)))) (rowMark (recorded table) s (walk .p) q (wordsOf text (policiesAt table (walk .entries))))
+    (listed (decisionAt (recorded table) s (walk .p) q (wordsOf text (policiesAt table (walk .entries)))) all start)
+    part₀ written part (listed (decisionAt (recorded table) s (walk .p) q (wordsOf text (policiesAt table (walk .entries)))) all row)
     × AtRow text table s walk starts grid ends looks action q row choices values from notes)
 
 abbrev μ-loop : tie.MeasureT-loop
@@ -103,7 +104,7 @@ put-row-requires c κs =
     let inv = l .loop .inv .5 (pre .1 .q) (pre .1 .walk-for) in
     let turned = call .take-turn .ensures (pre .1 .q) (l .loop .row) (there (pre .0 .asked) (call .before .before .before .before .before .loop-test .taken)) (at-gone (start l .args .walk) (l .loop .from) (inv .1)) in (
       simp (length-take, length-drop) (omega arith),
-      subst (λ (d : Decision). policyOf d < 256) (sym (turned .decided)) (policy-fits _ _ _ _ _ _ (fits (pre .0 .walked .many) (pre .0 .walked .few))),
+      subst (λ (d : Decision). policyOf d < 256) (sym (turned .decided)) (policy-fits _ _ _ _ _ _ _ (fits (pre .0 .walked .many) (pre .0 .walked .few))),
     )
 
 loop-again : tie.Need-loop-again Inv-loop μ-loop

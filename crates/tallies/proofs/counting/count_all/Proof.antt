@@ -2,6 +2,7 @@
 use Rattle.tallies.proofs.Groups.{groups-long, groups-small, sums-behind}
 use Rattle.tallies.specs.Tallies.{groupCount, groupsOf, sumsOf, withSums}
 use Rattle.tallies.specs.Lent.{requestsOf}
+use Rattle.table.specs.Recorded.{recorded}
 use Rattle.sheets.specs.Sheets.{decisionAt}
 use Rattle.pages.proofs.Tallying.{group-long, group-few}
 use Rattle.pages.specs.Tally.{tallyOf}
@@ -44,7 +45,7 @@ returns c =
     let entries = c .before .before .before .before .before .before .before .before .before .before .before .before .before .before .before .before .before .before .before .before .before .before .before .before .before .before .args .rules .entries in
     let qs = requestsOf (c .before .before .before .before .before .before .before .before .before .before .before .before .before .before .before .before .before .before .before .before .before .before .before .before .before .before .args .many) (now (c .before .before .before .before .before .before .before .before .before .before .before .before .before .before .before .before .before .before .before .before .before .before .before .before .before .before .args .requests)) in
     c .before .before .add-up .ensures ∙ ap (λ (l : List ℕ). take 544 l ++ sumsOf l) (c .before .before .before .before .before .before .count-requests .ensures) ∙ sums-behind _ (groups-long _ (λ q. group-long _ _) groupCount _)
-    ∙ ap (λ (n : ℕ). withSums (groupsOf groupCount (λ q. tallyOf (decisionAt s p q (wordsOf text (policiesAt table entries))) n) qs)) (c .before .before .before .before .before .before .before .before .before .before .before .before .before .before .before .rows .ensures .0)
+    ∙ ap (λ (n : ℕ). withSums (groupsOf groupCount (λ q. tallyOf (decisionAt (recorded table) s p q (wordsOf text (policiesAt table entries))) n) qs)) (c .before .before .before .before .before .before .before .before .before .before .before .before .before .before .before .rows .ensures .0)
 
 pub count-all-spec : {M : Type 1} → statement M
 count-all-spec =

@@ -1,6 +1,7 @@
 -- `tallies::counting::count_rows` meets its contract: the rows passed are counted, and the walk stands at the row. Assumes nothing.
 use Rattle.tallies.proofs.Deciders.{countable-there, counted-turn}
 use Rattle.sheets.specs.Asked.{Asked, WalkFor}
+use Rattle.table.specs.Recorded.{recorded}
 use Rattle.sheets.specs.Sheets.{rowsIn, decisionAt}
 use Rattle.turns.proofs.RowLaws.{choices-small, stands-first, kept-first, ends-few, walked-gone, at-gone, at-back}
 use Rattle.turns.specs.Turns.{AtRow}
@@ -24,7 +25,7 @@ abbrev Inv-loop : tie.InvT-loop
 Inv-loop walk looks text table s starts grid ends action all group₀ p choices₀ values₀ notes₀ from₀ row₀ group choices values notes from row =
     (all ≤ 262144) × (row ≤ all) × (length group ≡ groupSize)
     × ((q : Request) → WalkFor text table walk looks action q
-    → (group ≡ tallyOf (decisionAt s (walk .p) q (wordsOf text (policiesAt table (walk .entries)))) row)
+    → (group ≡ tallyOf (decisionAt (recorded table) s (walk .p) q (wordsOf text (policiesAt table (walk .entries)))) row)
     × AtRow text table s walk starts grid ends looks action q row choices values from notes)
 
 abbrev μ-loop : tie.MeasureT-loop
@@ -76,7 +77,7 @@ count-row-requires c κs =
     let pre = c .before .before .before .before .before .before .before .before .before .before .before .before .before .before .before .before .before .pre in
     let inv = l .loop .inv .3 (pre .1 .0 .q) (pre .1 .0 .walk-for) in
     let turned = c .before .take-turn .ensures (pre .1 .0 .q) (l .loop .row) (there (pre .0 .asked) (c .before .before .before .before .before .loop-test .taken)) (at-gone (c .before .before .before .before .before .before .before .before .before .before .before .before .before .before .before .before .before .args .walk) (l .loop .from) (inv .1)) in (
-      subst (λ (d : Decision). Countable d) (sym (turned .decided)) (countable-there _ _ _ _ _ _ (fits (pre .0 .walked .many) (pre .0 .walked .few))),
+      subst (λ (d : Decision). Countable d) (sym (turned .decided)) (countable-there _ _ _ _ _ _ _ (fits (pre .0 .walked .many) (pre .0 .walked .few))),
       (l .loop .inv .2, record { few = λ k h. rw (inv .0) (le-trans (group-few _ (l .loop .row) k) (omega arith)) }),
     )
 
@@ -92,7 +93,7 @@ loop-again c =
           let inv = l .loop .inv .3 q f in
           let turned = c .before .before .before .before .take-turn .ensures q (l .loop .row) (there (pre .0 .asked) below) (at-gone (c .before .before .before .before .before .before .before .before .before .before .before .before .before .before .before .before .before .before .before .before .args .walk) (l .loop .from) (inv .1)) in (
             counted-turn _ (l .loop .row) (inv .0) (turned .decided) (c .before .before .count-row .ensures)
-                (countable-there _ _ _ _ _ _ (fits (pre .0 .walked .many) (pre .0 .walked .few))),
+                (countable-there _ _ _ _ _ _ _ (fits (pre .0 .walked .many) (pre .0 .walked .few))),
             at-back (c .before .before .before .before .before .before .before .before .before .before .before .before .before .before .before .before .before .before .before .before .args .walk) (l .loop .from) (turned .next),
           ),
     )

@@ -1,0 +1,13 @@
+-- `token_reader::byte` meets its contract: past the end, `getD` gives its default. Assumes nothing.
+use mathlib.Core.Path.{sym}
+use denote.Ref.{now}
+use lib.ListN.{List·getD-eq-default}
+use borrow.Author.Needs.{needs}
+use Rattle.token_reader.proofs.byte.Statement.{statement}
+use Rattle.token_reader.proofs.byte.Tie as tie
+
+returns-2 : tie.Need-returns-2
+returns-2 c = sym (List·getD-eq-default (now (c .before .args .text)) 0 (c .if1 .left))
+
+pub byte-spec : {M : Type 1} → statement M
+byte-spec = tie.close (tie.spec (λ c. search needs) (λ c. search needs) returns-2)
