@@ -1,9 +1,9 @@
--- `lookups::finding::section_value` meets its contract. Assumes nothing.
+-- `lookups::finding::section_place` meets its contract. Assumes nothing.
 use native.Mathlib.Omega.{arith}
 use Rattle.bags.proofs.SectionLaws.{section-at}
 use Rattle.lookups.specs.Lookups.{sectionAt}
-use Rattle.lookups.proofs.finding.section_value.Statement.{statement}
-use Rattle.lookups.proofs.finding.section_value.Tie as tie
+use Rattle.lookups.proofs.finding.section_place.Statement.{statement}
+use Rattle.lookups.proofs.finding.section_place.Tie as tie
 
 shared-slice-read-find-in : tie.Need-shared-slice-read-find-in
 shared-slice-read-find-in c = section-at _ _ _ (c .before .before .before .pre .1) .counted
@@ -21,7 +21,7 @@ returns : tie.Need-returns
 unfolding sectionAt
 returns c = c .find-in .ensures
 
-pub section-value-spec : {M : Type 1} → statement M
-section-value-spec =
+pub section-place-spec : {M : Type 1} → statement M
+section-place-spec =
     tie.close
     (tie.spec shared-slice-read-find-in cast-find-in add-find-in find-in-requires returns)
