@@ -34,7 +34,7 @@ use Rattle.slices.specs.Parts.{Begins}
 use Rattle.table.proofs.Holding.{length-bytesOf, starts-decides, held-starts}
 use Rattle.parts.specs.Answers.{refusalAt}
 use Rattle.compiling.specs.Outcome.{compileSaid, roomFor, said, compiledBytes, nowhere, spotOf, foundBy, foundOf, toldOf, compiledUnder, compiledOf, tableBy, tableUnder, tableAfter, beginsBy, beginsOf, heldBy, heldOf}
-use Rattle.compiling.specs.Promise.{UnderItsNumber, NoVersion, OtherVersion, ZerosElsewhere, AcceptedExactly, UnfitExactly, tokenStart, firstLength, RefusedThere, RefusedExactly, bytesSaid, bytesFor, BytesOfPolicies, TextAndVersionAlone, NothingChanged, NoPoliciesNoBytes, AsManyBytes, RecordedExactly, CompiledRecords, NoPoliciesNoVersion, OneCompiled, Begun, BeginsExactly, CompiledBegins, EnoughRoom, TableHolds, HeldRightly}
+use Rattle.compiling.specs.Promise.{UnderItsNumber, NoVersion, OtherVersion, ZerosElsewhere, AcceptedExactly, UnfitExactly, tokenStart, firstLength, RefusedThere, RefusedExactly, bytesSaid, bytesFor, BytesOfPolicies, TextAndVersionAlone, NothingChanged, NoPoliciesNoBytes, AsManyBytes, VersionRecorded, CompiledRecords, NoPoliciesNoVersion, OneCompiled, Begun, BeginsExactly, CompiledBegins, EnoughRoom, TableHolds, HeldRightly}
 use Rattle.compiling.specs.declared.Found.{Found}
 use Rattle.compiling.specs.declared.Found.the-variants.{Accepted, Unfit, Turned}
 use Rattle.compiling.specs.declared.Spot.{Spot}
@@ -349,14 +349,14 @@ pub as-many-bytes : AsManyBytes
 unfolding AsManyBytes
 as-many-bytes version version′ ps = length-compiled version ps ∙ ap (λ (n : ℕ). entrySize * n) (as-many version version′ 0 ps) ∙ sym (length-compiled version′ ps)
 
-pub recorded-exactly : RecordedExactly
-unfolding RecordedExactly compiledBytes
-recorded-exactly version table p ps b =
+pub version-recorded : VersionRecorded
+unfolding VersionRecorded compiledBytes
+version-recorded version table p ps b =
     let es = policiesEntries version 0 (p ∷ ps) in
     held-records version table p ps (held-starts table 0 es ∙ starts-decides (bytesOf es) table .complete b)
 
 pub compiled-records : CompiledRecords
-unfolding CompiledRecords RecordedExactly
+unfolding CompiledRecords VersionRecorded
 compiled-records version text old policies bytes e some =
     let k = compiles version text (length old) policies bytes e in
     go (k .value) (λ z. some (k .many ∙ z)) (table-said version text old (k .value) (k .short) (k .roomy) (k .is))
@@ -364,7 +364,7 @@ compiled-records version text old policies bytes e some =
     go : (ps : List Policy) → (length ps ≡ 0 → ⊥) → tableUnder version text old ≡ compiledBytes version ps ++ drop (length (compiledBytes version ps)) old
         → recorded (tableUnder version text old) ≡ version
     go [] n t = absurd (n refl)
-    go (p ∷ ps) n t = recorded-exactly version (tableUnder version text old) p ps (record { rest = drop (length (compiledBytes version (p ∷ ps))) old; is = t })
+    go (p ∷ ps) n t = version-recorded version (tableUnder version text old) p ps (record { rest = drop (length (compiledBytes version (p ∷ ps))) old; is = t })
 
 pub no-policies-no-version : NoPoliciesNoVersion
 unfolding NoPoliciesNoVersion compiledBytes policiesEntries bytesOf
@@ -373,9 +373,9 @@ no-policies-no-version version = refl
 -- a table that begins with the bytes of policies under some version does so under the one that it records
 starts-recorded : (version : Version) (table : List ℕ) (ps : List Policy) → Begins (compiledBytes version ps) table
     → startsWith (compiledBytes (recorded table) ps) table ≡ true
-unfolding NoPoliciesNoVersion RecordedExactly
+unfolding NoPoliciesNoVersion VersionRecorded
 starts-recorded version table [] b = starts-decides _ table .complete (rw (no-policies-no-version (recorded table), ← no-policies-no-version version) b)
-starts-recorded version table (p ∷ ps) b = rw (recorded-exactly version table p ps b) (starts-decides _ table .complete b)
+starts-recorded version table (p ∷ ps) b = rw (version-recorded version table p ps b) (starts-decides _ table .complete b)
 
 -- ---- a table that begins right
 

@@ -147,8 +147,8 @@ AsManyBytes = (version version′ : Version) (ps : List Policy) → length (comp
 -- ---- the recorded version
 
 -- A table that begins with the bytes of one policy or more under a version records that version. So a table begins right under one version at most.
-unfoldable pub RecordedExactly : Type 0
-RecordedExactly = (version : Version) (table : List ℕ) (p : Policy) (ps : List Policy) → Begins (compiledBytes version (p ∷ ps)) table
+unfoldable pub VersionRecorded : Type 0
+VersionRecorded = (version : Version) (table : List ℕ) (p : Policy) (ps : List Policy) → Begins (compiledBytes version (p ∷ ps)) table
     → recorded table ≡ version
 
 -- So a table into which a text with a policy was compiled records the version that it was compiled under.

@@ -18,7 +18,7 @@ use Rattle.parts.specs.declared.answers.Refusal.{Refusal}
 use Rattle.parts.specs.declared.answers.Answer.{Answer}
 use Rattle.parts.specs.declared.answers.Answer.the-variants.{Read, Refused}
 use Rattle.parts.proofs.Writing.{Kept, closing, expected-done}
-use Rattle.conditions.proofs.Earlier.{told-as}
+use Rattle.parts.proofs.Writing.{told-as}
 
 -- a condition after its last part and the entry x: `a` are its entries before that part
 pub closing-read : {text seen : List ℕ} {from′ from first free n : ℕ} {same ok o all : Bool} {T₀ T T₁ T₂ : List ℕ} {p : reader.Answer Tree} {r : Answer} {next : Token} (a : List Entry) (f : Tree → Tree)

@@ -23,7 +23,7 @@ use Rattle.parts.specs.declared.answers.Answer.the-variants.{Read, Refused}
 use Rattle.parts.proofs.Standing.{turned-as, turned-bind}
 use Rattle.parts.proofs.Writing.{Kept, kept-none, kept-append, turned-done, done-as, as-read, as-refused, as-kept}
 use Rattle.conditions.specs.Joining.{wordAfter}
-use Rattle.conditions.proofs.Earlier.{told-as}
+use Rattle.parts.proofs.Writing.{told-as}
 use Rattle.conditions.proofs.Apart.{closing-read, follows, fails}
 use Rattle.conditions.proofs.Forms.{choice-second}
 

@@ -1,5 +1,5 @@
 -- What a reader may count on at another token or place, and what was read, told by an equal answer. Assumes nothing.
-use mathlib.Core.Path.{_≡_, sym, subst}
+use mathlib.Core.Path.{_≡_}
 use mathlib.Core.Bool.{Bool}
 use mathlib.Core.List.{List}
 use Prim.Native.Nat.{ℕ, _≤_}
@@ -23,6 +23,6 @@ at-place b l h = record { table = b .table; low = l; high = h; small = b .small 
 pub ready-from : {classes text : List ℕ} {from at : ℕ} {t : Token} → ReadyAt classes text from at → Reads text at t → ReadyToRead classes text from t
 ready-from b r = record { table = b .table; lies = lowered (b .low) r; small = let x = b .small in omega arith }
 
-pub told-as : {A : Type 0} {es : ℕ → A → List Entry} {text seen : List ℕ} {from first : ℕ} {same : Bool} {T T₁ : List ℕ} {p : reader.Answer A} {r r′ : Answer} → r ≡ r′
-    → Done es text seen from first same T T₁ p r′ → Done es text seen from first same T T₁ p r
-told-as {es = es} {text} {seen} {from} {first} {same} {T} {T₁} {p} e d = subst (Done es text seen from first same T T₁ p) (sym e) d
+pub counted-as : {A : Type 0} {es : ℕ → A → List Entry} {text seen : List ℕ} {from first first′ : ℕ} {same same′ : Bool} {T T₁ : List ℕ} {p : reader.Answer A} {r : Answer} → first ≡ first′
+    → same ≡ same′ → Done es text seen from first same T T₁ p r → Done es text seen from first′ same′ T T₁ p r
+counted-as e q d = rw (← e, ← q) d

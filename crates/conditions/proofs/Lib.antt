@@ -1,5 +1,4 @@
 pub mod Earlier
-pub mod Shorter
 pub mod Apart
 pub mod Chains
 pub mod Forms

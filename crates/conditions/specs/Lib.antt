@@ -1,2 +1,1 @@
-pub mod Shortened
 pub mod Joining

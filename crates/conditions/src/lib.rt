@@ -1,32 +1,42 @@
 // The readers of conditions. They call each other, at most `depth` levels deep: so many levels may still stand inside what is read. Chains of `&&`
-// and `||` are loops, and so are the three parts of a choice. Each gets the place from which the next token is read, puts the entries of what it
-// reads into one table and compares them with another. Their frames are what nested conditions cost on the stack, so they hold little: the text and
-// the table that is seen are lent by a reference to their slice, of which no level then needs a copy, answers are short, the entries so far are one
-// value of four bytes, and a token that is handed on is taken apart before.
+// and `||` are loops, and so are the three parts of a choice. Each gets the short answer of what was read before it, reads on from the end of its token,
+// puts the entries of what it reads into one table and compares them with another. Their frames are what nested conditions cost on the stack, so they
+// hold little: the text and the table that is seen are lent by a reference to their slice, of which no level then needs a copy, and what was read is one
+// number.
 ghost use mathlib.Core.Path.{_≡_};
 ghost use mathlib.Core.List.{[]};
 ghost use Prim.Native.Nat.{_+_, _-_, _<_, _≤_};
 ghost use lib.ListN.{length};
 ghost use Rattle.tokens.specs.Table.{classTable};
-ghost use Rattle.tokens.specs.Tokens.{token, tokenAt, Reads};
+ghost use Rattle.tokens.specs.Tokens.{tokenAt, Reads};
 ghost use Rattle.tokens.specs.Sizes.{mostTextBytes};
 ghost use Rattle.reading.specs.Lexemes.{lexeme, stream};
 ghost use Rattle.grammar.specs.Parser.{noLevel, read-condition, read-conjunction, read-disjunction, read-negated, read-bracketed, read-conditional};
 ghost use Rattle.table.specs.Entries.{treeEntries};
 ghost use Rattle.table.specs.Layout.{fieldNumbers};
-ghost use Rattle.parts.specs.Answers.{ReadyToRead, Done, freeOf, turnedAway};
-ghost use Rattle.conditions.specs.Joining.{ReadyAt, Closes, Joins, wordAfter, DoneFrom};
-ghost use Rattle.conditions.specs.Shortened.{wide, shortOf, tokenOf, withEntries};
+ghost use Rattle.parts.specs.declared.answers.Answer.the-variants.{Refused};
+ghost use Rattle.parts.specs.Answers.{ReadyToRead, Done, turnedAway};
+ghost use Rattle.parts.specs.Shortened.{kindIn, startIn, endIn, freeIn, sameIn, tokenOf, wide, shortOf, ShortFor};
+ghost use Rattle.conditions.specs.Joining.{ReadyAt, GoesOn, Closes, Joins, wordAfter, DoneFrom};
 use leaves::read_operator;
 use leaves::read_rooted;
 use parts::answers::Answer;
-use parts::answers::Refusal;
 use parts::answers::turned_away;
 use parts::lists::is_text_literal;
 use parts::lists::literal_entry;
 use parts::lists::no_text;
 use parts::paths::is_root;
 use parts::refusals;
+use parts::short::end_of;
+use parts::short::free_of;
+use parts::short::is_refused;
+use parts::short::kind_of;
+use parts::short::same_of;
+use parts::short::short_read;
+use parts::short::short_refused;
+use parts::short::token_of;
+use parts::short::widened;
+use parts::short::with_entries;
 use table::Entry;
 use table::append;
 use table::entries;
@@ -34,101 +44,22 @@ use token_reader::next_token;
 use tokens::kinds;
 use tokens::reader::Token;
 
-// An answer in half the bytes. Where something was read: whether the table that is seen has the entries so far, the kind of the token after what was
-// read, the next free entry, and where that token starts and ends. Where nothing was, a refusal: `kind` is its number, `start` the place and `end`
-// the size of the token.
-pub struct Short {
-    pub read: bool,
-    pub same: bool,
-    pub kind: u8,
-    pub free: u16,
-    pub start: usize,
-    pub end: usize,
-}
-
-// The entries so far: the next free one, and whether the table that is seen has all before it.
-pub struct Count {
-    pub free: u16,
-    pub same: bool,
-}
-
-// An answer as a short one.
-fn shortened(a: Answer) -> Short
-    requires { ⌜ freeOf a < fieldNumbers ⌝ }
-    ensures { λ r. ⌜ r ≡ shortOf a ⌝ }
-{
-    match a {
-        Answer::Read(t, free, same) => Short {
-            read: true,
-            same,
-            kind: t.kind,
-            free: free as u16,
-            start: t.start,
-            end: t.end,
-        },
-        Answer::Refused(f) => Short {
-            read: false,
-            same: false,
-            kind: f.number,
-            free: 0,
-            start: f.start,
-            end: f.size,
-        },
-    }
-}
-
-// The answer that a short one stands for.
-fn widened(a: Short) -> Answer
-    ensures { λ r. ⌜ r ≡ wide a ⌝ }
-{
-    if a.read {
-        let t = Token {
-            kind: a.kind,
-            start: a.start,
-            end: a.end,
-        };
-        return Answer::Read(t, a.free as usize, a.same);
-    }
-    Answer::Refused(Refusal {
-        number: a.kind,
-        start: a.start,
-        size: a.end,
-    })
-}
-
-// The same token after what was read, and other entries.
-fn with_entries(a: Short, free: u16, same: bool) -> Short
-    ensures { λ r. ⌜ r ≡ withEntries a free same ⌝ }
-{
-    Short {
-        read: true,
-        same,
-        kind: a.kind,
-        free,
-        start: a.start,
-        end: a.end,
-    }
-}
-
 // The refusal by 10 of the token after what was read.
-fn stopped(text: &[u8], a: Short) -> Short
-    requires { ⌜ a .start ≤ a .end ⌝ }
-    ensures { λ r. ⌜ r ≡ shortOf (Answer.Refused (turnedAway (length (now (text .entry))) 10 (tokenOf a))) ⌝ }
+fn stopped(text: &[u8], a: u64) -> u64
+    requires { ⌜ (startIn a ≤ endIn a) × (endIn a ≤ length (now text)) × (length (now text) ≤ mostTextBytes) ⌝ }
+    ensures { λ r. ⌜ ShortFor (Refused (turnedAway (length (now (text .entry))) 10 (tokenOf a))) r ⌝ }
 {
-    let t = Token {
-        kind: a.kind,
-        start: a.start,
-        end: a.end,
-    };
-    shortened(Answer::Refused(turned_away(text, t, refusals::NOT_ADMITTED)))
+    let f = turned_away(text, token_of(a), refusals::NOT_ADMITTED);
+    short_refused(f.number, f.start, f.size)
 }
 
-// The token that is read from a place on.
-fn token_at(classes: &[u8; 256], text: &&[u8], from: usize) -> Token
-    requires { ⌜ (now classes ≡ classTable) × (from ≤ length (now (now text))) ⌝ }
-    ensures { λ r. ⌜ (r ≡ tokenAt (now (now (text .entry))) from) × Reads (now (now (text .entry))) from r ⌝ }
+// On to the token that is read from the end of the one before; the entries stay.
+fn on(classes: &[u8; 256], text: &&[u8], a: u64) -> u64
+    requires { ⌜ (now classes ≡ classTable) × (endIn a ≤ length (now (now text))) × (length (now (now text)) ≤ mostTextBytes) ⌝ }
+    ensures { λ r. ⌜ GoesOn (now (now (text .entry))) a r ⌝ }
 {
-    next_token(classes, *text, from)
+    let t = next_token(classes, *text, end_of(a));
+    short_read(t.kind, t.start, t.end, free_of(a), same_of(a))
 }
 
 // The number by which a token is refused where a condition must stand and no level is left.
@@ -151,28 +82,21 @@ fn word_after(word: u8) -> u8
 }
 
 // One entry more after what was read.
-fn closed(table: &mut [u8], seen: &[u8], a: Short, x: Entry) -> Short
-    requires { ⌜ a .free < fieldNumbers - 1 ⌝ }
+fn closed(table: &mut [u8], seen: &[u8], a: u64, x: Entry) -> u64
+    requires { ⌜ freeIn a < fieldNumbers - 1 ⌝ }
     ensures { λ r. ⌜ Closes (now (seen .entry)) a x (now (table .entry)) (now (table .exit)) r ⌝ }
 {
-    let ok = append(table, seen, a.free as usize, a.same, x);
-    with_entries(a, a.free + 1, ok)
+    let free = free_of(a);
+    let ok = append(table, seen, free, same_of(a), x);
+    with_entries(a, free + 1, ok)
 }
 
-// The entries after a part of a chain: where it is not the first, one more joins it to those before.
-fn joined(table: &mut [u8], seen: &[u8], free: u16, same: bool, more: bool, x: Entry) -> Count
-    requires { ⌜ free < fieldNumbers - 1 ⌝ }
-    ensures { λ r. ⌜ Joins (now (seen .entry)) more x free same (now (table .entry)) (now (table .exit)) r ⌝ }
+// What was read with a part of a chain: where it is not the first, one entry more joins it to those before.
+fn joined(table: &mut [u8], seen: &[u8], a: u64, more: bool, x: Entry) -> u64
+    requires { ⌜ freeIn a < fieldNumbers - 1 ⌝ }
+    ensures { λ r. ⌜ Joins (now (seen .entry)) more a x (now (table .entry)) (now (table .exit)) r ⌝ }
 {
-    if more {
-        let ok = append(table, seen, free as usize, same, x);
-        Count {
-            free: free + 1,
-            same: ok,
-        }
-    } else {
-        Count { free, same }
-    }
+    if more { closed(table, seen, a, x) } else { a }
 }
 
 // A condition that holds no other, from its first token on.
@@ -184,12 +108,16 @@ fn read_flat(
     t: Token,
     number: usize,
     same: bool,
-) -> Answer
-    requires { ⌜ ReadyToRead (now classes) (now text) number t ⌝ }
-    ensures { λ r. ⌜ Done treeEntries (now (text .entry)) (now (seen .entry)) (t .start) number same (now (table .entry)) (now (table .exit))
-        (read-condition 0 (stream (now (text .entry)) t)) r ⌝ }
+) -> u64
+    requires { ⌜ ReadyToRead (now classes) (now text) number t × (length (now text) ≤ mostTextBytes) ⌝ }
+    ensures done { λ r. ⌜ Done treeEntries (now (text .entry)) (now (seen .entry)) (t .start) number same (now (table .entry)) (now (table .exit))
+        (read-condition 0 (stream (now (text .entry)) t)) (wide r) ⌝ }
+    ensures plain { λ r. ⌜ r ≡ shortOf (wide r) ⌝ }
 {
     let next = next_token(classes, text, t.end);
+    if is_root(t) {
+        return read_rooted(classes, text, table, seen, t.kind, next, number, same);
+    }
     if is_text_literal(text, t) {
         return read_operator(
             classes,
@@ -202,32 +130,26 @@ fn read_flat(
             same,
         );
     }
-    if is_root(t) {
-        return read_rooted(classes, text, table, seen, t.kind, next, number, same);
-    }
-    Answer::Refused(turned_away(text, t, no_level(t)))
+    let f = turned_away(text, t, no_level(t));
+    short_refused(f.number, f.start, f.size)
 }
 
-// The same with a short answer, from the parts of the first token: a token that is handed on whole would stay on the stack at every level.
-fn read_plain(
-    classes: &[u8; 256],
-    text: &&[u8],
-    table: &mut [u8],
-    seen: &&[u8],
-    kind: u8,
-    start: usize,
-    end: usize,
-    number: usize,
-    same: bool,
-) -> Short
-    requires { ⌜ ReadyToRead (now classes) (now (now text)) number (token kind start end) × (length (now (now text)) ≤ mostTextBytes) ⌝ }
-    ensures done { λ r. ⌜ Done treeEntries (now (now (text .entry))) (now (now (seen .entry))) start number same (now (table .entry)) (now (table .exit))
-        (read-condition 0 (stream (now (now (text .entry))) (token kind start end))) (wide r) ⌝ }
+// The same from the short answer of what was read before, which ends in that token.
+fn read_plain(classes: &[u8; 256], text: &&[u8], table: &mut [u8], seen: &&[u8], a: u64) -> u64
+    requires { ⌜ ReadyToRead (now classes) (now (now text)) (freeIn a) (tokenOf a) × (length (now (now text)) ≤ mostTextBytes) ⌝ }
+    ensures done { λ r. ⌜ Done treeEntries (now (now (text .entry))) (now (now (seen .entry))) (startIn a) (freeIn a) (sameIn a)
+        (now (table .entry)) (now (table .exit)) (read-condition 0 (stream (now (now (text .entry))) (tokenOf a))) (wide r) ⌝ }
     ensures plain { λ r. ⌜ r ≡ shortOf (wide r) ⌝ }
 {
-    let t = Token { kind, start, end };
-    let a = read_flat(classes, *text, table, *seen, t, number, same);
-    shortened(a)
+    read_flat(
+        classes,
+        *text,
+        table,
+        *seen,
+        token_of(a),
+        free_of(a),
+        same_of(a),
+    )
 }
 
 // The disjunction from a place on, for callers outside: it takes slices, and its answer is no short one.
@@ -245,11 +167,8 @@ pub fn read_whole(
     ensures { λ r. ⌜ Done treeEntries (now (text .entry)) (now (seen .entry)) from number same (now (table .entry)) (now (table .exit))
         (read-disjunction (read-condition depth) (stream (now (text .entry)) (tokenAt (now (text .entry)) from))) r ⌝ }
 {
-    let count = Count {
-        free: number as u16,
-        same,
-    };
-    let all = read_disjunction(classes, &text, table, &seen, from, depth, count);
+    let start = short_read(0, 0, from, number, same);
+    let all = read_disjunction(classes, &text, table, &seen, start, depth);
     widened(all)
 }
 
@@ -259,39 +178,35 @@ fn read_disjunction(
     text: &&[u8],
     table: &mut [u8],
     seen: &&[u8],
-    from: usize,
+    from: u64,
     depth: usize,
-    count: Count,
-) -> Short
-    requires { ⌜ ReadyAt (now classes) (now (now text)) (count .free) from ⌝ }
-    ensures done { λ r. ⌜ DoneFrom (now (now (text .entry))) (now (now (seen .entry))) from from count (now (table .entry)) (now (table .exit))
+) -> u64
+    requires { ⌜ ReadyAt (now classes) (now (now text)) (freeIn from) (endIn from) ⌝ }
+    ensures done { λ r. ⌜ DoneFrom (now (now (text .entry))) (now (now (seen .entry))) (endIn from) from (now (table .entry)) (now (table .exit))
         (read-disjunction (read-condition depth)) r ⌝ }
     ensures plain { λ r. ⌜ r ≡ shortOf (wide r) ⌝ }
 {
-    let mut at = from;
-    let mut so_far = count;
+    let mut so_far = from;
     let mut more = false;
     loop {
-        let part = read_conjunction(classes, text, table, seen, at, depth, so_far);
-        if !part.read {
+        let part = read_conjunction(classes, text, table, seen, so_far, depth);
+        if is_refused(part) {
             return part;
         }
         let all = joined(
             table,
             *seen,
-            part.free,
-            part.same,
+            part,
             more,
             Entry {
                 kind: entries::OR,
-                first: so_far.free as usize,
+                first: free_of(so_far),
                 second: 0,
             },
         );
-        if part.kind != kinds::OR {
-            return with_entries(part, all.free, all.same);
+        if kind_of(all) != kinds::OR {
+            return all;
         }
-        at = part.end;
         so_far = all;
         more = true;
     }
@@ -303,39 +218,35 @@ fn read_conjunction(
     text: &&[u8],
     table: &mut [u8],
     seen: &&[u8],
-    from: usize,
+    from: u64,
     depth: usize,
-    count: Count,
-) -> Short
-    requires { ⌜ ReadyAt (now classes) (now (now text)) (count .free) from ⌝ }
-    ensures done { λ r. ⌜ DoneFrom (now (now (text .entry))) (now (now (seen .entry))) from from count (now (table .entry)) (now (table .exit))
+) -> u64
+    requires { ⌜ ReadyAt (now classes) (now (now text)) (freeIn from) (endIn from) ⌝ }
+    ensures done { λ r. ⌜ DoneFrom (now (now (text .entry))) (now (now (seen .entry))) (endIn from) from (now (table .entry)) (now (table .exit))
         (read-conjunction (read-condition depth)) r ⌝ }
     ensures plain { λ r. ⌜ r ≡ shortOf (wide r) ⌝ }
 {
-    let mut at = from;
-    let mut so_far = count;
+    let mut so_far = from;
     let mut more = false;
     loop {
-        let part = read_condition(classes, text, table, seen, at, depth, so_far);
-        if !part.read {
+        let part = read_condition(classes, text, table, seen, so_far, depth);
+        if is_refused(part) {
             return part;
         }
         let all = joined(
             table,
             *seen,
-            part.free,
-            part.same,
+            part,
             more,
             Entry {
                 kind: entries::AND,
-                first: so_far.free as usize,
+                first: free_of(so_far),
                 second: 0,
             },
         );
-        if part.kind != kinds::AND {
-            return with_entries(part, all.free, all.same);
+        if kind_of(all) != kinds::AND {
+            return all;
         }
-        at = part.end;
         so_far = all;
         more = true;
     }
@@ -348,49 +259,29 @@ fn read_condition(
     text: &&[u8],
     table: &mut [u8],
     seen: &&[u8],
-    from: usize,
+    from: u64,
     depth: usize,
-    count: Count,
-) -> Short
-    requires { ⌜ ReadyAt (now classes) (now (now text)) (count .free) from ⌝ }
-    ensures done { λ r. ⌜ DoneFrom (now (now (text .entry))) (now (now (seen .entry))) from from count (now (table .entry)) (now (table .exit))
+) -> u64
+    requires { ⌜ ReadyAt (now classes) (now (now text)) (freeIn from) (endIn from) ⌝ }
+    ensures done { λ r. ⌜ DoneFrom (now (now (text .entry))) (now (now (seen .entry))) (endIn from) from (now (table .entry)) (now (table .exit))
         (read-condition depth) r ⌝ }
     ensures plain { λ r. ⌜ r ≡ shortOf (wide r) ⌝ }
 {
-    let t = token_at(classes, text, from);
+    let first = on(classes, text, from);
     if depth == 0 {
-        return read_plain(
-            classes,
-            text,
-            table,
-            seen,
-            t.kind,
-            t.start,
-            t.end,
-            count.free as usize,
-            count.same,
-        );
+        return read_plain(classes, text, table, seen, first);
     }
-    if t.kind == b'!' {
-        return read_negation(classes, text, table, seen, t.end, depth - 1, count);
+    let kind = kind_of(first);
+    if kind == b'!' {
+        return read_negation(classes, text, table, seen, first, depth - 1);
     }
-    if t.kind == b'(' {
-        return read_group(classes, text, table, seen, t.end, depth - 1, count);
+    if kind == b'(' {
+        return read_group(classes, text, table, seen, first, depth - 1);
     }
-    if t.kind == kinds::IF {
-        return read_choice(classes, text, table, seen, t.end, depth - 1, count);
+    if kind == kinds::IF {
+        return read_choice(classes, text, table, seen, first, depth - 1);
     }
-    read_plain(
-        classes,
-        text,
-        table,
-        seen,
-        t.kind,
-        t.start,
-        t.end,
-        count.free as usize,
-        count.same,
-    )
+    read_plain(classes, text, table, seen, first)
 }
 
 // After `!`.
@@ -399,17 +290,16 @@ fn read_negation(
     text: &&[u8],
     table: &mut [u8],
     seen: &&[u8],
-    from: usize,
+    from: u64,
     depth: usize,
-    count: Count,
-) -> Short
-    requires { ⌜ ReadyAt (now classes) (now (now text)) (count .free + 1) from ⌝ }
-    ensures done { λ r. ⌜ DoneFrom (now (now (text .entry))) (now (now (seen .entry))) from (from - 1) count (now (table .entry)) (now (table .exit))
+) -> u64
+    requires { ⌜ ReadyAt (now classes) (now (now text)) (freeIn from + 1) (endIn from) ⌝ }
+    ensures done { λ r. ⌜ DoneFrom (now (now (text .entry))) (now (now (seen .entry))) (endIn from - 1) from (now (table .entry)) (now (table .exit))
         (read-negated (read-condition depth)) r ⌝ }
     ensures plain { λ r. ⌜ r ≡ shortOf (wide r) ⌝ }
 {
-    let inside = read_condition(classes, text, table, seen, from, depth, count);
-    if !inside.read {
+    let inside = read_condition(classes, text, table, seen, from, depth);
+    if is_refused(inside) {
         return inside;
     }
     closed(
@@ -430,35 +320,26 @@ fn read_group(
     text: &&[u8],
     table: &mut [u8],
     seen: &&[u8],
-    from: usize,
+    from: u64,
     depth: usize,
-    count: Count,
-) -> Short
-    requires { ⌜ ReadyAt (now classes) (now (now text)) (count .free + 1) from ⌝ }
-    ensures done { λ r. ⌜ DoneFrom (now (now (text .entry))) (now (now (seen .entry))) from (from - 1) count (now (table .entry)) (now (table .exit))
+) -> u64
+    requires { ⌜ ReadyAt (now classes) (now (now text)) (freeIn from + 1) (endIn from) ⌝ }
+    ensures done { λ r. ⌜ DoneFrom (now (now (text .entry))) (now (now (seen .entry))) (endIn from - 1) from (now (table .entry)) (now (table .exit))
         (read-bracketed (read-condition depth)) r ⌝ }
     ensures plain { λ r. ⌜ r ≡ shortOf (wide r) ⌝ }
 {
-    let inside = read_disjunction(classes, text, table, seen, from, depth, count);
-    if !inside.read {
+    let inside = read_disjunction(classes, text, table, seen, from, depth);
+    if is_refused(inside) {
         return inside;
     }
-    if inside.kind != b')' {
+    if kind_of(inside) != b')' {
         return stopped(*text, inside);
     }
-    let next = token_at(classes, text, inside.end);
-    let after = Short {
-        read: true,
-        same: inside.same,
-        kind: next.kind,
-        free: inside.free,
-        start: next.start,
-        end: next.end,
-    };
+    let next = on(classes, text, inside);
     closed(
         table,
         *seen,
-        after,
+        next,
         Entry {
             kind: entries::BRACKETS,
             first: 0,
@@ -473,24 +354,23 @@ fn read_choice(
     text: &&[u8],
     table: &mut [u8],
     seen: &&[u8],
-    from: usize,
+    from: u64,
     depth: usize,
-    count: Count,
-) -> Short
-    requires { ⌜ ReadyAt (now classes) (now (now text)) (count .free + 1) from ⌝ }
-    ensures done { λ r. ⌜ DoneFrom (now (now (text .entry))) (now (now (seen .entry))) from (from - 1) count (now (table .entry)) (now (table .exit))
+) -> u64
+    requires { ⌜ ReadyAt (now classes) (now (now text)) (freeIn from + 1) (endIn from) ⌝ }
+    ensures done { λ r. ⌜ DoneFrom (now (now (text .entry))) (now (now (seen .entry))) (endIn from - 1) from (now (table .entry)) (now (table .exit))
         (read-conditional (read-condition depth)) r ⌝ }
     ensures plain { λ r. ⌜ r ≡ shortOf (wide r) ⌝ }
 {
-    let mut at = from;
-    let mut last = count.free;
-    let mut so_far = count;
+    let mut so_far = from;
+    let mut last = free_of(from);
     let mut word = kinds::THEN;
     loop {
-        let part = read_condition(classes, text, table, seen, at, depth, so_far);
-        if !part.read {
+        let part = read_condition(classes, text, table, seen, so_far, depth);
+        if is_refused(part) {
             return part;
         }
+        let first = free_of(so_far);
         if word == 0 {
             return closed(
                 table,
@@ -498,20 +378,16 @@ fn read_choice(
                 part,
                 Entry {
                     kind: entries::IF,
-                    first: last as usize,
-                    second: so_far.free as usize,
+                    first: last,
+                    second: first,
                 },
             );
         }
-        if part.kind != word {
+        if kind_of(part) != word {
             return stopped(*text, part);
         }
-        at = part.end;
-        last = so_far.free;
-        so_far = Count {
-            free: part.free,
-            same: part.same,
-        };
+        so_far = part;
+        last = first;
         word = word_after(word);
     }
 }

@@ -1,91 +1,52 @@
--- The lowest-numbered satisfied policies and the mark, met from the last policy to the first. Assumes nothing.
-use mathlib.Core.Path.{_≡_, refl, sym, _∙_, ap}
-use mathlib.Core.Bool.{Bool, true, false, cond, not, _&&_}
-use mathlib.Core.List.{List, [], _∷_, _++_}
+-- The mark of policies that are met from the last to the first, and what is decided by marks. Assumes nothing.
+use mathlib.Core.Path.{_≡_, refl, sym, _∙_, ap, ap₂}
+use mathlib.Core.Bool.{Bool, true, false, cond}
+use mathlib.Core.List.{List, [], _∷_}
 use Prim.Native.Nat.{ℕ, zero, suc, _+_, _-_, _*_, _%_, _^_, _≤_, _<_}
 use native.Mathlib.Nat.{lt-of-lt-of-le, mod-eq-of-lt, one-le-pow, pow-le-pow-right}
 use native.Mathlib.Omega.{arith}
-use lib.Bits.{bitOr, or-shifted}
+use lib.Bits.{bitAnd, bitOr, or-shifted}
 use lib.Dec.{eqb}
 use lib.ListN.{length, length-append}
-use Rattle.grammar.specs.Policies.{Policy}
-use Rattle.placing.specs.Said.{policyWords, wordsOf}
+use Rattle.grammar.specs.Policies.{PolicyOf, Policy}
+use Rattle.placing.specs.Said.{Word, policyWords, wordsOf}
 use Rattle.meaning.specs.Targets.{Request}
-use Rattle.meaning.specs.Decisions.{Terms, satisfied, firstOf, byNumbers, forbids, permits, policiesDecide, markOf}
-use Rattle.meaning.specs.declared.Decision.{Decision}
+use Rattle.meaning.specs.Decisions.{Terms, satisfied, byNumbers, forbids, permits, policiesDecide, markBy, markOf}
 use Rattle.meaning.proofs.Marking.{markAfter, none-met, met-more}
-use Rattle.meaning.proofs.WordLaws.{first-words, mark-words}
+use Rattle.meaning.proofs.WordLaws.{mark-words}
+use Rattle.table.specs.Kinds.{permitKind}
 use Rattle.table.specs.declared.Entry.{Entry}
-use Rattle.stored.specs.ReadBack.{policyBy, policiesUpTo, policiesBy, policyAt, policiesAt}
-use Rattle.stored.specs.Ready.{PoliciesReadyBy, LastBy, Last}
+use Rattle.stored.specs.ReadBack.{policyBy, policiesUpTo, policiesBy, policiesAt}
+use Rattle.stored.specs.Ready.{PoliciesReadyBy, LastBy}
 use Rattle.stored.proofs.Evaluating.{last-of}
+use Rattle.deciding.specs.Marks.{lowestOf, permitsOf}
+use Rattle.deciding.proofs.Bits.{and-marks, sum-marks, lowest-first}
 
--- the first number, or the second where the first is 0
-unfoldable pub orElse : ℕ → ℕ → ℕ
-orElse zero b = b
-orElse (suc a) b = suc a
+-- ---- the mark of the policies left, where `mark` is that of those behind them
 
-or-else-assoc : (a b c : ℕ) → orElse (orElse a b) c ≡ orElse a (orElse b c)
-unfolding orElse
-or-else-assoc zero b c = refl
-or-else-assoc (suc a) b c = refl
-
--- one policy more after the others
-first-after : {A : Type 0} (test : A → Bool) (n : ℕ) (ps : List A) (p : A)
-    → firstOf test (suc n) (ps ++ p ∷ []) ≡ orElse (firstOf test (suc n) ps) (cond (test p) (suc n + length ps) 0)
-unfolding firstOf orElse
-first-after test n [] p = let e : suc n + 0 ≡ suc n = omega arith in rw e
-first-after test n (q ∷ qs) p = go (test q) (first-after test (suc n) qs p)
-  where
-    go : (b : Bool) → firstOf test (suc (suc n)) (qs ++ p ∷ []) ≡ orElse (firstOf test (suc (suc n)) qs) (cond (test p) (suc (suc n) + length qs) 0)
-        → cond b (suc n) (firstOf test (suc (suc n)) (qs ++ p ∷ [])) ≡ orElse (cond b (suc n) (firstOf test (suc (suc n)) qs)) (cond (test p) (suc n + suc (length qs)) 0)
-    go true h = refl
-    go false h = let e : suc n + suc (length qs) ≡ suc (suc n) + length qs = omega arith in rw e h
-
--- ---- a policy met, of effect `allows`, satisfied where `sat`
-
-met : (allows sat : Bool) (a c k forbid permit : ℕ)
-    → byNumbers (orElse (orElse a (cond (not allows && sat) (suc k) 0)) forbid) (orElse (orElse c (cond (allows && sat) (suc k) 0)) permit)
-    ≡ byNumbers (orElse a (cond (sat && not allows) (suc k) forbid)) (orElse c (cond (sat && allows) (suc k) permit))
-unfolding orElse
-met true true a c k forbid permit = rw (or-else-assoc a 0 forbid, or-else-assoc c (suc k) permit)
-met true false a c k forbid permit = rw (or-else-assoc a 0 forbid, or-else-assoc c 0 permit)
-met false true a c k forbid permit = rw (or-else-assoc a (suc k) forbid, or-else-assoc c 0 permit)
-met false false a c k forbid permit = rw (or-else-assoc a 0 forbid, or-else-assoc c 0 permit)
-
--- ---- the policies left, and the lowest numbers known so far of those behind them
-
-unfoldable pub decidesFrom : List ℕ → Terms → Request → List Policy → ℕ → ℕ → Decision
-decidesFrom t terms q ps forbid permit =
-    byNumbers (orElse (firstOf (λ p. forbids terms q (policyWords t p)) 1 ps) forbid) (orElse (firstOf (λ p. permits terms q (policyWords t p)) 1 ps) permit)
-
--- and the mark, where `mark` is that of those behind them
-abbrev pub marksFrom : List ℕ → Terms → Request → List Policy → ℕ → ℕ
-marksFrom t terms q ps mark = markAfter (λ p. satisfied terms q (policyWords t p)) ps mark
-
-module _ (t : List ℕ) (terms : Terms) (q : Request) where
-  or-none : (a : ℕ) → orElse a 0 ≡ a
-  unfolding orElse
-  or-none zero = refl
-  or-none (suc a) = refl
-
-  pub none-known : (ps : List Policy) → decidesFrom t terms q ps 0 0 ≡ policiesDecide terms q (wordsOf t ps)
-  unfolding decidesFrom policiesDecide
-  none-known ps =
-      rw (first-words t (forbids terms q) 1 ps, first-words t (permits terms q) 1 ps, or-none (firstOf (λ p. forbids terms q (policyWords t p)) 1 ps), or-none (firstOf (λ p. permits terms q (policyWords t p)) 1 ps))
-
-  pub none-left : (table : List ℕ) (end forbid permit : ℕ) → end ≤ 0 → byNumbers forbid permit ≡ decidesFrom t terms q (policiesAt table end) forbid permit
-  unfolding decidesFrom policiesUpTo firstOf orElse
-  none-left table zero forbid permit l = refl
-  none-left table (suc end) forbid permit l = absurd (omega arith)
-
-  pub none-marked : (ps : List Policy) → marksFrom t terms q ps 0 ≡ markOf terms q (wordsOf t ps)
-  none-marked ps = none-met (λ p. satisfied terms q (policyWords t p)) ps ∙ sym (mark-words t (satisfied terms q) ps)
-
-  pub all-marked : (table : List ℕ) (end mark : ℕ) → end ≤ 0 → mark ≡ marksFrom t terms q (policiesAt table end) mark
+module _ (test : Policy → Bool) where
+  pub all-marked : (table : List ℕ) (end mark : ℕ) → end ≤ 0 → mark ≡ markAfter test (policiesAt table end) mark
   unfolding policiesUpTo markAfter
   all-marked table zero mark l = refl
   all-marked table (suc end) mark l = absurd (omega arith)
+
+  -- the last of the policies left is met: its bit is the lowest of the mark
+  pub mark-one : {t : List ℕ} {at : ℕ → Entry} {many end : ℕ} {x : Entry} → LastBy t at many end x → (mark m : ℕ) (hit : Bool) → hit ≡ test (policyBy at end x) → m ≡ cond hit 1 0 + 2 * mark
+      → markAfter test (policiesBy at (x .first)) m ≡ markAfter test (policiesBy at end) mark
+  mark-one {at = at} {end = end} {x = x} last mark m hit h e = rw (e, h, last .is) (sym (met-more test (policiesBy at (x .first)) (policyBy at end x) mark))
+
+-- by what they say
+module _ (t : List ℕ) where
+  pub none-marked : (terms : Terms) (q : Request) (ps : List Policy) → markAfter (λ p. satisfied terms q (policyWords t p)) ps 0 ≡ markOf terms q (wordsOf t ps)
+  none-marked terms q ps = none-met (λ p. satisfied terms q (policyWords t p)) ps ∙ sym (mark-words t (satisfied terms q) ps)
+
+  pub permits-words : (ps : List Policy) → permitsOf ps ≡ permitsOf (wordsOf t ps)
+  permits-words ps = sym (mark-words t (λ p. p .permits) ps)
+
+-- its effect is in its entry
+pub effect-there : (at : ℕ → Entry) (end : ℕ) (x : Entry) → eqb (x .kind) permitKind ≡ policyBy at end x .permits
+unfolding policyBy
+effect-there at end x = refl
 
 module _ {t : List ℕ} {at : ℕ → Entry} {many end number : ℕ} {x : Entry} (last : LastBy t at many end x) (count : number ≡ length (policiesBy at end)) where
   count-is : number ≡ suc (length (policiesBy at (x .first)))
@@ -100,29 +61,16 @@ module _ {t : List ℕ} {at : ℕ → Entry} {many end number : ℕ} {x : Entry}
   pub number-falls : number - 1 ≡ length (policiesBy at (x .first))
   number-falls = let e = count-is in omega arith
 
-  -- the last of the policies left, and those before it
-  met-last : (terms : Terms) (q : Request) (forbid permit f g : ℕ)
-      → ((a c : ℕ) → byNumbers (orElse (orElse a (cond (not (eqb (x .kind) 34) && satisfied terms q (policyWords t (policyBy at end x))) number 0)) forbid)
-      (orElse (orElse c (cond (eqb (x .kind) 34 && satisfied terms q (policyWords t (policyBy at end x))) number 0)) permit) ≡ byNumbers (orElse a f) (orElse c g))
-      → decidesFrom t terms q (policiesBy at (x .first)) f g ≡ decidesFrom t terms q (policiesBy at end) forbid permit
-  unfolding decidesFrom policyBy
-  met-last terms q forbid permit f g h =
-      let ps = policiesBy at (x .first) in
-      let one : 1 + length ps ≡ number = let e = count-is in omega arith in
-      rw (last .is, first-after (λ p. forbids terms q (policyWords t p)) 0 ps (policyBy at end x), first-after (λ p. permits terms q (policyWords t p)) 0 ps (policyBy at end x), one)
-      (sym (h _ _))
+-- ---- the decision by the marks of the satisfied policies and of the permits
 
-  -- it is met: its number is known where it is satisfied
-  pub met-one : (terms : Terms) (q : Request) (forbid permit f g : ℕ) (hit : Bool) → hit ≡ satisfied terms q (policyWords t (policyBy at end x))
-      → f ≡ cond (hit && not (eqb (x .kind) 34)) number forbid → g ≡ cond (hit && eqb (x .kind) 34) number permit
-      → decidesFrom t terms q (policiesBy at (x .first)) f g ≡ decidesFrom t terms q (policiesBy at end) forbid permit
-  met-one terms q forbid permit f g hit h d e =
-      met-last terms q forbid permit f g (λ a c. rw (d, e, h, count-is) (met (eqb (x .kind) 34) (satisfied terms q (policyWords t (policyBy at end x))) a c _ forbid permit))
-
-  -- and its bit is the lowest of the mark
-  pub mark-one : (terms : Terms) (q : Request) (mark m : ℕ) (hit : Bool) → hit ≡ satisfied terms q (policyWords t (policyBy at end x)) → m ≡ cond hit 1 0 + 2 * mark
-      → marksFrom t terms q (policiesBy at (x .first)) m ≡ marksFrom t terms q (policiesBy at end) mark
-  mark-one terms q mark m hit h e = rw (e, h, last .is) (sym (met-more (λ p. satisfied terms q (policyWords t p)) (policiesBy at (x .first)) (policyBy at end x) mark))
+pub marks-decide : (terms : Terms) (q : Request) (ps : List (PolicyOf Word)) {mark allowed f g : ℕ} → length ps ≤ 64 → mark ≡ markOf terms q ps → allowed ≡ permitsOf ps
+    → f ≡ lowestOf (mark - bitAnd mark allowed) → g ≡ lowestOf (bitAnd mark allowed) → byNumbers f g ≡ policiesDecide terms q ps
+unfolding policiesDecide
+marks-decide terms q ps {mark} {allowed} {f} {g} few m a e h =
+    let meet : bitAnd mark allowed ≡ markBy (permits terms q) ps = ap₂ (λ (x y : ℕ). bitAnd x y) m a ∙ and-marks (satisfied terms q) (λ p. p .permits) ps in
+    let rest : mark - bitAnd mark allowed ≡ markBy (forbids terms q) ps =
+    ap₂ (λ (x y : ℕ). x - y) m meet ∙ (let s = sum-marks (satisfied terms q) (λ p. p .permits) ps in omega arith) in
+    ap₂ byNumbers (e ∙ ap lowestOf rest ∙ lowest-first (forbids terms q) ps few) (h ∙ ap lowestOf meet ∙ lowest-first (permits terms q) ps few)
 
 -- ---- the mark's size: where `number` of 64 policies are left it has a bit for each of the others, and there is room for one more
 

@@ -3,7 +3,10 @@ pub mod row;
 
 ghost use mathlib.Core.Path.{_≡_};
 ghost use Rattle.tokens.specs.Table.{classTable};
+ghost use Prim.Native.Nat.{_≤_};
+ghost use lib.ListN.{length};
 ghost use Rattle.bags.specs.Sections.{Sectioned};
+ghost use Rattle.bags.specs.Sizes.{mostBagBytes};
 ghost use Rattle.views.specs.Meaning.{look};
 ghost use Rattle.views.specs.Values.{baseBag};
 ghost use Rattle.targets.specs.Matching.{request, TypesOf};
@@ -42,22 +45,21 @@ fn held<'a>(
     types: Types,
 ) -> Answer
     requires { ⌜ now classes ≡ classTable ⌝ }
-    requires { ⌜ Sectioned (now bag) p ⌝ }
+    requires { ⌜ Sectioned (now bag) p × (length (now bag) ≤ mostBagBytes) ⌝ }
     requires { ⌜ TypesOf types (now subject) (now resource) ⌝ }
     ensures { λ r. ⌜ r ≡ heldDecide (now (text .entry)) (now (table .entry)) (look (baseBag (now (bag .entry)) p))
         (request (now (subject .entry)) (now (action .entry)) (now (resource .entry))) ⌝ }
 {
     match held_policies(classes, text, table) {
         Held::Wrong => Answer::Refused(20),
-        Held::Right(policies, entries) => Answer::Decided(decision(
-            text,
-            table,
-            policies,
+        Held::Right(_, entries) => Answer::Decided(decision(
+            &text,
+            &table,
             entries,
-            bag,
+            &bag,
             p,
             subject,
-            action,
+            &action,
             resource,
             types,
         )),

@@ -1,7 +1,8 @@
-// What the policies of a table decide over a bag, with their mark, and whether a policy's condition holds in a row of attributes: the sections p of the bytes s, and n columns,
-// whose places are `heads`, with what is chosen for them at `values`.
+// What the policies of a table decide over a bag, with their mark, and whether a policy's condition holds in a row of attributes: the bytes s with their
+// places, and what is chosen for the columns at `values`.
 ghost use mathlib.Core.Path.{_≡_};
 ghost use mathlib.Core.Bool.{cond};
+ghost use mathlib.Core.List.{List};
 ghost use Prim.Native.Nat.{_+_, _*_, _^_, _≤_, _<_};
 ghost use lib.ListN.{length};
 ghost use Rattle.tokens.specs.Sizes.{mostPolicies};
@@ -11,14 +12,21 @@ ghost use Rattle.stored.specs.ReadBack.{policyAt, policiesAt};
 ghost use Rattle.stored.specs.Ready.{ReadyPolicies, Last};
 ghost use Rattle.views.specs.Meaning.{look};
 ghost use Rattle.views.specs.Values.{baseBag};
-ghost use Rattle.views.specs.Rows.{rowView, RowStands};
-ghost use Rattle.placing.specs.Said.{policyWords, wordsOf};
+ghost use Rattle.bags.specs.Sizes.{mostBagBytes};
+ghost use Rattle.lookups.specs.Index.{keptSections};
+ghost use Rattle.views.specs.Places.{placedView, RowAt, BagPlaced};
+ghost use Rattle.grammar.specs.Policies.{PolicyOf};
+ghost use Rattle.placing.specs.Said.{Word, policyWords, wordsOf};
 ghost use Rattle.meaning.specs.Values.{withAction};
 ghost use Rattle.meaning.specs.Conditions.{isYes};
-ghost use Rattle.meaning.specs.Decisions.{under, conditionHolds, satisfied, byNumbers, policiesMarked};
+ghost use Rattle.meaning.specs.Targets.{Request};
+ghost use Rattle.meaning.specs.Decisions.{Terms, under, conditionHolds, satisfied, byNumbers, policiesDecide, markOf, policiesMarked};
 ghost use Rattle.targets.specs.Matching.{request, TypesOf};
+ghost use Rattle.deciding.specs.Marks.{lowestOf, permitsOf};
 use bags::sections::Sections;
 use evaluating::evaluate;
+use lookups::index::PLACES;
+use lookups::index::index_of;
 use meaning::Decision;
 use meaning::Marked;
 use meaning::Verdict;
@@ -42,63 +50,55 @@ fn is_yes(v: Verdict) -> bool
 
 // Whether the condition, if any, is true in the row of the policy of which x is the last entry, number end - 1.
 pub fn condition_holds<'a>(
-    text: &'a [u8],
-    table: &[u8],
+    text: &&'a [u8],
+    table: &&[u8],
     end: usize,
     x: Entry,
-    s: &'a [u8],
-    p: Sections,
-    n: usize,
-    heads: &[usize; MOST_COLUMNS],
+    s: &&'a [u8],
+    places: &[u16; PLACES],
     values: &[usize; MOST_COLUMNS],
-    action: &'a [u8],
+    action: &&'a [u8],
 ) -> bool
-    requires { ⌜ Last (now text) (now table) end x ⌝ }
-    requires { ⌜ RowStands (now s) p n (now heads) (now values) ⌝ }
+    requires { ⌜ Last (now (now text)) (now (now table)) end x ⌝ }
+    requires { ⌜ RowAt (now (now s)) (now places) (now values) ⌝ }
     ensures { λ r. ⌜ r ≡ conditionHolds
-        (under (recorded (now (table .entry))) (withAction (now (action .entry)) (rowView (now (s .entry)) p n (now (heads .entry)) (now (values .entry)))))
-        (policyWords (now (text .entry)) (policyAt (now (table .entry)) end x) .condition) ⌝ }
+        (under (recorded (now (now (table .entry))))
+        (withAction (now (now (action .entry))) (placedView (now (now (s .entry))) (now (places .entry)) (now (values .entry)))))
+        (policyWords (now (now (text .entry))) (policyAt (now (now (table .entry))) end x) .condition) ⌝ }
 {
     // a condition would begin before the policy's own entry
     if x.second == end - 1 {
         return true;
     }
-    is_yes(evaluate(text, table, end - 1, s, p, n, heads, values, action))
+    is_yes(evaluate(text, table, end - 1, s, places, values, action))
 }
 
 // Whether the policy of which x is the last entry, number end - 1, is satisfied over the bag: its target is met first, then its condition.
 fn is_satisfied<'a>(
-    text: &'a [u8],
-    table: &[u8],
+    text: &&'a [u8],
+    table: &&[u8],
     end: usize,
     x: Entry,
-    bag: &'a [u8],
-    p: Sections,
+    bag: &&'a [u8],
+    places: &[u16; PLACES],
     none: &[usize; MOST_COLUMNS],
     subject: &[u8],
-    action: &'a [u8],
+    action: &&'a [u8],
     resource: &[u8],
     types: Types,
 ) -> bool
-    requires { ⌜ Last (now text) (now table) end x ⌝ }
-    requires { ⌜ Sectioned (now bag) p ⌝ }
+    requires { ⌜ Last (now (now text)) (now (now table)) end x ⌝ }
+    requires { ⌜ BagPlaced (now (now bag)) (now places) ⌝ }
     requires { ⌜ TypesOf types (now subject) (now resource) ⌝ }
-    ensures { λ r. ⌜ r ≡ satisfied (under (recorded (now (table .entry))) (look (baseBag (now (bag .entry)) p)))
-        (request (now (subject .entry)) (now (action .entry)) (now (resource .entry)))
-        (policyWords (now (text .entry)) (policyAt (now (table .entry)) end x)) ⌝ }
+    ensures { λ r. ⌜ r ≡ satisfied (under (recorded (now (now (table .entry)))) (look (baseBag (now (now (bag .entry))) (keptSections (now (places .entry))))))
+        (request (now (subject .entry)) (now (now (action .entry))) (now (resource .entry)))
+        (policyWords (now (now (text .entry))) (policyAt (now (now (table .entry))) end x)) ⌝ }
 {
-    if !target_matches(text, table, end, x, subject, action, resource, types) {
+    if !target_matches(*text, *table, end, x, subject, *action, resource, types) {
         return false;
     }
     // a bag is a row without columns
-    condition_holds(text, table, end, x, bag, p, 0, none, none, action)
-}
-
-// One number or another.
-pub fn number_if(b: bool, number: usize, other: usize) -> usize
-    ensures { λ r. ⌜ r ≡ cond b number other ⌝ }
-{
-    if b { number } else { other }
+    condition_holds(text, table, end, x, bag, places, none, action)
 }
 
 // The decision by the lowest-numbered satisfied forbid and permit, 0 where there is none.
@@ -130,57 +130,75 @@ pub fn mark_with(hit: bool, mark: u64) -> u64
     (mark << 1) | bit
 }
 
-// What the policies decide whose entries end before number `entries`, over the bag, with their mark. They are met from the last to the first; `end` and `number` are
-// those of the policies left. Each is met, for the mark has them all.
+// The number of a mark's lowest bit that is set, from 1 on; 0 where none is.
+pub fn lowest(mark: u64) -> usize
+    ensures { λ r. ⌜ r ≡ lowestOf mark ⌝ }
+{
+    if mark == 0 {
+        return 0;
+    }
+    u64::trailing_zeros(mark) as usize + 1
+}
+
+// The decision by the marks of the satisfied policies and of the permits: the lowest-numbered satisfied forbid decides, else the lowest-numbered satisfied
+// permit.
+pub fn by_marks(mark: u64, permits: u64) -> Decision
+    ensures { λ r. ⌜ ((terms : Terms) (q : Request) (ps : List (PolicyOf Word)) → length ps ≤ mostPolicies → mark ≡ markOf terms q ps
+        → permits ≡ permitsOf ps → r ≡ policiesDecide terms q ps) ⌝ }
+{
+    let allowing = mark & permits;
+    let forbidding = mark - allowing;
+    let forbid = lowest(forbidding);
+    let permit = lowest(allowing);
+    by_numbers(forbid, permit)
+}
+
+// What the policies decide whose entries end before number `entries`, over the bag, with their mark. They are met from the last to the first; those left end
+// before number `end`. Each is met, for the mark has them all.
 pub fn decision<'a>(
-    text: &'a [u8],
-    table: &[u8],
-    policies: usize,
+    text: &&'a [u8],
+    table: &&[u8],
     entries: usize,
-    bag: &'a [u8],
+    bag: &&'a [u8],
     p: Sections,
     subject: &[u8],
-    action: &'a [u8],
+    action: &&'a [u8],
     resource: &[u8],
     types: Types,
 ) -> Marked
-    requires { ⌜ ReadyPolicies (now text) (now table) entries ⌝ }
-    requires { ⌜ policies ≡ length (policiesAt (now table) entries) ⌝ }
-    requires { ⌜ policies ≤ mostPolicies ⌝ }
-    requires { ⌜ Sectioned (now bag) p ⌝ }
+    requires { ⌜ ReadyPolicies (now (now text)) (now (now table)) entries ⌝ }
+    requires { ⌜ length (policiesAt (now (now table)) entries) ≤ mostPolicies ⌝ }
+    requires { ⌜ Sectioned (now (now bag)) p × (length (now (now bag)) ≤ mostBagBytes) ⌝ }
     requires { ⌜ TypesOf types (now subject) (now resource) ⌝ }
-    ensures { λ r. ⌜ r ≡ policiesMarked (under (recorded (now (table .entry))) (look (baseBag (now (bag .entry)) p)))
-        (request (now (subject .entry)) (now (action .entry)) (now (resource .entry)))
-        (wordsOf (now (text .entry)) (policiesAt (now (table .entry)) entries)) ⌝ }
+    ensures { λ r. ⌜ r ≡ policiesMarked (under (recorded (now (now (table .entry)))) (look (baseBag (now (now (bag .entry))) p)))
+        (request (now (subject .entry)) (now (now (action .entry))) (now (resource .entry)))
+        (wordsOf (now (now (text .entry))) (policiesAt (now (now (table .entry))) entries)) ⌝ }
 {
     let none = [0usize; MOST_COLUMNS];
+    let places = index_of(*bag, p);
     let mut end = entries;
-    let mut number = policies;
-    let mut forbid = 0;
-    let mut permit = 0;
+    let mut permits = 0;
     let mut mark = 0;
     while 0 < end {
-        let x = entry_at(table, end - 1);
+        let x = entry_at(*table, end - 1);
         let hit = is_satisfied(
             text,
             table,
             end,
             x,
             bag,
-            p,
+            &places,
             &none,
             subject,
             action,
             resource,
             types,
         );
-        let permits = x.kind == entries::PERMIT;
-        forbid = number_if(hit & !permits, number, forbid);
-        permit = number_if(hit & permits, number, permit);
+        let allows = x.kind == entries::PERMIT;
+        permits = mark_with(allows, permits);
         mark = mark_with(hit, mark);
         end = x.first;
-        number -= 1;
     }
-    let d = by_numbers(forbid, permit);
+    let d = by_marks(mark, permits);
     Marked { d: d, mark: mark }
 }

@@ -10,38 +10,35 @@ use lib.Ieee.{Float, ofBits, eq}
 use lib.ListN.{length}
 use denote.Ref.{RefT, now}
 use Rattle.slices.specs.Same.{same}
-use Rattle.slices.specs.Order.{SortsBefore}
-use Rattle.slices.proofs.Decided.{one-answer, no-to}
-use Rattle.slices.proofs.Order.{before-trans, not-before-itself}
 use Rattle.slices.specs.Parts.{part, IsPart}
 use Rattle.slices.proofs.Equal.{same-decides}
 use Rattle.bags.specs.Reading.{byte, each, following}
-use Rattle.bags.specs.Sections.{pathAt, kindAt, entryEnd, pathsOf, Ascending, none, one, more, sectionEnd, sectionsOf, Sectioned, isBag}
+use Rattle.bags.specs.Sections.{pathAt, kindAt, entryEnd, sectionsOf, Sectioned, isBag}
 use Rattle.bags.specs.declared.After.{After}
 use Rattle.bags.specs.declared.After.the-variants.{At, Bad}
 use Rattle.bags.specs.declared.sections.Sections.{Sections}
 use Rattle.bags.specs.declared.sections.Divided.{Divided}
 use Rattle.bags.specs.declared.sections.Divided.the-variants.{In, Broken}
-use Rattle.bags.proofs.SectionLaws.{entry-at, section-at, sections-at}
-use Rattle.bags.proofs.Ascent.{ascending-decides}
+use Rattle.bags.proofs.SectionLaws.{entry-at, sections-at}
 use Rattle.bags.proofs.ValueLaws.{Ended, string, number, flag, list, value-at}
 use Rattle.lookups.specs.Values.{nought, unit, valueNumber, valueAt, ValueWhole}
 use Rattle.lookups.specs.Values as values
 use Rattle.lookups.specs.Lookups as lookups
-use Rattle.lookups.specs.Lookups.{lookIn, bagEntryAt, sectionAt, baseOf, bagOf, divided, lookupOf, startOf, lengthOf}
+use Rattle.lookups.specs.Lookups.{lookIn, bagEntryAt, sectionAt, baseOf, bagOf, divided, lookupOf, startOf, lengthOf, EntryOf, the-first, a-later}
 use Rattle.lookups.specs.declared.values.Value.{Value}
 use Rattle.lookups.specs.declared.Answer.{Answer}
 use Rattle.lookups.specs.declared.Answer.the-variants.{Found, Refused}
 use Rattle.lookups.proofs.Answers.{refused, found, string-inside}
 use Rattle.lookups.proofs.BagLaws.{bag-whole}
 use Rattle.lookups.proofs.FindLaws.{bag-is-base}
+use Rattle.lookups.proofs.IndexLaws.{found-section}
 use Rattle.views.specs.Meaning.{text}
 use Rattle.views.specs.Values.{datumOf, datumIn, stringAt, baseBag}
 use Rattle.views.proofs.ReadLaws.{look-means}
 use Rattle.deciding.specs.Answers.{viewIn, viewOf}
 use Rattle.desk.specs.Answers.{foundAs, lookupSays, stringSays}
 use Rattle.desk.specs.declared.DeskString.{DeskString}
-use Rattle.desk.specs.Promises.{StringAllows, Means, a-string, a-number, flag-off, flag-on, a-list, none-found, SectionOf, principal, resource, env, EntryOf, the-first, a-later, StandsIn}
+use Rattle.desk.specs.Promises.{StringAllows, Means, a-string, a-number, flag-off, flag-on, a-list, none-found, SectionOf, principal, resource, env, StandsIn}
 
 -- ---- the number and the place of what is read
 
@@ -86,16 +83,6 @@ module _ (bag : List ℕ) where
       some (list j w) z = omega arith
 
 -- ---- what is found is the value of an entry with the path, or nothing
-
-apart : {p q : List ℕ} {ps : List (List ℕ)} → Ascending (p ∷ q ∷ ps) → SortsBefore p q × Ascending (q ∷ ps)
-apart (more b r) = (b, r)
-
-another : {p q path : List ℕ} → SortsBefore p q → q ≡ path → p ≡ path → ⊥
-another {p} {q} b k s = let z : q ≡ p = k ∙ sym s in not-before-itself (rw z at b)
-
-behind : {p : List ℕ} {ps : List (List ℕ)} → Ascending (p ∷ ps) → Ascending ps
-behind one = none
-behind (more b r) = r
 
 module _ (bag path : List ℕ) where
   -- of the n entries from a place on
@@ -161,34 +148,12 @@ module _ (bag path : List ℕ) where
       let w = value-there bag (kindAt bag entry) n in
       record { sections = p; divided = d; start = start; section = s; entry = entry; among = m; path-is = k; kind-is = w .0; place-is = w .1 }
 
-  -- an entry behind a path stands after it
-  later-after : {p : List ℕ} {n at entry : ℕ} → EntryOf bag n at entry → Ascending (p ∷ pathsOf n bag at) → SortsBefore p (pathAt bag entry)
-  unfolding each
-  later-after (the-first q) a = apart (rw q at a) .0
-  later-after (a-later q m) a = let w = apart (rw q at a) in before-trans (w .0) (later-after m (w .1))
-
-  -- where an entry with the path stands, its value is found: no other entry of the section has this path
-  found-among : {n at entry : ℕ} → EntryOf bag n at entry → pathAt bag entry ≡ path → Ascending (pathsOf n bag at)
-      → lookIn values.absent (each n (entryEnd bag) (bagEntryAt bag) at) path ≡ valueAt bag (kindAt bag entry)
-  unfolding each lookIn
-  found-among {at = at} (the-first {next = e} q) k a = rw (q, same-decides (pathAt bag at) path .complete k)
-  found-among {at = at} (a-later {n = n} {next = e} q m) k a =
-      let w : Ascending (pathAt bag at ∷ pathsOf n bag e) = rw q at a in
-      let b = later-after m w in
-      let other = one-answer (same (pathAt bag at) path) false (same-decides (pathAt bag at) path) (no-to (another b k)) in
-      rw (q, other) (found-among m k (behind w))
-
-  found-section : (b e : ℕ) {entry : ℕ} → sectionEnd bag b ≡ At e → EntryOf bag (byte bag b) (b + 1) entry → pathAt bag entry ≡ path
-      → lookIn values.absent (sectionAt bag b) path ≡ valueAt bag (kindAt bag entry)
-  unfolding sectionAt
-  found-section b e h m k = found-among m k (ascending-decides (pathsOf (byte bag b) bag (b + 1)) .sound (section-at bag b e h .ascend))
-
   found-base : {p : Sections} {root start entry : ℕ} → Sectioned bag p → SectionOf p root start → EntryOf bag (byte bag start) (start + 1) entry
       → pathAt bag entry ≡ path → lookIn values.absent (baseOf bag p root) path ≡ valueAt bag (kindAt bag entry)
   unfolding baseOf
-  found-base {p} w principal = found-section 0 (p .resource) (w .principal)
-  found-base {p} w resource = found-section (p .resource) (p .env) (w .resource)
-  found-base {p} w env = found-section (p .env) (p .end) (w .env)
+  found-base {p} w principal = found-section bag path 0 (p .resource) (w .principal)
+  found-base {p} w resource = found-section bag path (p .resource) (p .env) (w .resource)
+  found-base {p} w env = found-section bag path (p .env) (p .end) (w .env)
 
   -- an entry's value is there
   stands-there : {n at entry : ℕ} → EntryOf bag n at entry → valueAt bag (kindAt bag entry) .kind ≡ 0 → ⊥

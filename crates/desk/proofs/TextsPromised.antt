@@ -22,12 +22,12 @@ use Rattle.table.specs.Recorded.{recorded}
 use Rattle.grammar.proofs.Exactly.{says-exactly, says-once}
 use Rattle.placing.proofs.Theorems.{policies-placed}
 use Rattle.compiling.specs.Outcome.{spot, nowhere, roomFor, compiledBytes, said, compiledUnder, compiledOf, compileSaid, tableBy, tableUnder, tableAfter}
-use Rattle.compiling.specs.Promise.{UnderItsNumber, NoVersion, OtherVersion, RecordedExactly, AcceptedExactly, UnfitExactly, RefusedThere, RefusedExactly, NothingChanged, ZerosElsewhere, CompiledBegins, BeginsExactly, EnoughRoom, NoPoliciesNoBytes}
+use Rattle.compiling.specs.Promise.{UnderItsNumber, NoVersion, OtherVersion, VersionRecorded, AcceptedExactly, UnfitExactly, RefusedThere, RefusedExactly, NothingChanged, ZerosElsewhere, CompiledBegins, BeginsExactly, EnoughRoom, NoPoliciesNoBytes}
 use Rattle.compiling.specs.declared.Spot.{Spot}
 use Rattle.compiling.specs.declared.Compiled.{Compiled}
 use Rattle.compiling.specs.declared.Compiled.the-variants.{Policies, Refused}
 use Rattle.compiling.proofs.Promised as compiling-proofs
-use Rattle.compiling.proofs.Promised.{under-its-number, other-version, recorded-exactly, accepted, unfit, refused-there, nothing-changed, zeros-elsewhere}
+use Rattle.compiling.proofs.Promised.{under-its-number, other-version, version-recorded, accepted, unfit, refused-there, nothing-changed, zeros-elsewhere}
 use Rattle.desk.specs.Answers.{compiledAs, spotSaid, compileSays, compileLeaves, saysUnder, leavesUnder, beginsSays}
 use Rattle.desk.specs.Promises.{Says, Belongs}
 use Rattle.desk.proofs.RefusalNumbers.{token-number}
@@ -42,9 +42,9 @@ read-as text ps s = says-exactly text ps .1 (s .belongs)
 
 -- a table that begins right under a version records it, where there are policies
 pub one-version : (version : Version) (table : List ℕ) (ps : List Policy) → (ps ≡ [] → ⊥) → Begins (compiledBytes version ps) table → recorded table ≡ version
-unfolding RecordedExactly
+unfolding VersionRecorded
 one-version version table [] some b = absurd (some refl)
-one-version version table (p ∷ ps) some b = recorded-exactly version table p ps b
+one-version version table (p ∷ ps) some b = version-recorded version table p ps b
 
 module _ (version : Version) (text table : List ℕ) where
   -- what compiling answers under the version's number is what it answers under the version

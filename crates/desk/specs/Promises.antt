@@ -26,8 +26,7 @@ use Rattle.compiling.specs.Promise.{RefusedThere, Lengths, NoVersion, Begun}
 use Rattle.compiling.specs.declared.Spot.{Spot}
 use Rattle.bags.specs.Forms.{Contents, BagBytes, NoBag}
 use Rattle.bags.specs.Reading.{byte}
-use Rattle.bags.specs.Sections.{pathAt, kindAt, entryEnd, sectionsOf}
-use Rattle.bags.specs.declared.After.the-variants.{At}
+use Rattle.bags.specs.Sections.{pathAt, kindAt, sectionsOf}
 use Rattle.bags.specs.declared.sections.Sections.{Sections}
 use Rattle.bags.specs.declared.sections.Divided.the-variants.{In}
 use Rattle.questions.specs.Forms.{Column, QuestionBytes, NoQuestion}
@@ -43,7 +42,7 @@ use Rattle.meaning.specs.Decisions.{Terms, under, satisfied, Numbered, SomeSati
 use Rattle.meaning.specs.Versions.{MissingExactly, SecondExactly, SatisfiedSecond}
 use Rattle.meaning.specs.Decisions.{outcomeOf, policyOf, effectsOf, decidedBy}
 use Rattle.deciding.specs.Promise.{DecideCall, DecideRefused}
-use Rattle.lookups.specs.Lookups.{lookupOf, startOf, lengthOf}
+use Rattle.lookups.specs.Lookups.{lookupOf, startOf, lengthOf, EntryOf}
 use Rattle.lookups.specs.Values.{nought, unit}
 use Rattle.pages.specs.Rows.{Combination, rowOf, choicesAt}
 use Rattle.pages.specs.Listing.{rowSize, roomIn, listedBytes}
@@ -384,11 +383,6 @@ pub data SectionOf (p : Sections) : ℕ → ℕ → Type 0 where
   principal : SectionOf p 1 0
   resource : SectionOf p 2 (p .resource)
   env : SectionOf p 3 (p .env)
-
--- of n entries from a place on, one starts at the other place
-pub data EntryOf (bag : List ℕ) : ℕ → ℕ → ℕ → Type 0 where
-  the-first : {n at next : ℕ} → entryEnd bag at ≡ At next → EntryOf bag (suc n) at at
-  a-later : {n at next entry : ℕ} → entryEnd bag at ≡ At next → EntryOf bag n next entry → EntryOf bag (suc n) at entry
 
 -- an entry with exactly this path stands in the section of this root; its kind, and the place of the byte after its kind byte
 pub record StandsIn (bag : List ℕ) (root : ℕ) (path : List ℕ) (kind place : ℕ) : Type 0 where

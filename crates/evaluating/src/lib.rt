@@ -2,15 +2,16 @@
 // Kinds of entries have names (table::entries, docs/TABLE.md): conditions up to CONTAINS_ANY have no parts.
 ghost use mathlib.Core.Path.{_≡_};
 ghost use Prim.Native.Nat.{_<_};
-ghost use Rattle.views.specs.Rows.{RowStands};
+ghost use Rattle.views.specs.Places.{RowAt};
 ghost use Rattle.stored.specs.ReadBack.{treeAt};
 ghost use Rattle.stored.specs.Ready.{Ready};
 ghost use Rattle.table.specs.Recorded.{recorded as recordedVersion};
-ghost use Rattle.meaning.specs.Conditions.{settles as settlesUnder};
+ghost use Rattle.table.specs.Layout.{entriesIn, entryAt};
+ghost use Rattle.meaning.specs.Conditions.{settles as settlesUnder, settledIf};
 ghost use Rattle.operators.specs.Operands.{verdictSeen};
 ghost use Rattle.evaluating.specs.Ways.{firstMet, partMet, endedBy, goneOn, enteredAt, comeBack, afterYes, afterNo, afterMissing, afterPart, insidePart};
-use bags::sections::Sections;
 use grammar::Version;
+use lookups::index::PLACES;
 use meaning::Verdict;
 use operators::flat;
 use questions::sizes::MOST_COLUMNS;
@@ -29,6 +30,14 @@ pub struct Way {
     pub rest: usize,
     pub held: Verdict,
     pub kept: Verdict,
+}
+
+// Entry `number` of a table that has it, lent by a reference to its slice.
+fn entry_of(table: &&[u8], number: usize) -> Entry
+    requires { ⌜ number < entriesIn (now (now table)) ⌝ }
+    ensures { λ r. ⌜ r ≡ entryAt (now (now (table .entry))) number ⌝ }
+{
+    entry_in(*table, number)
 }
 
 // Where the part ends that is met first: what `if` asks, and the right part of `&&` and `||`.
@@ -201,24 +210,22 @@ fn inside_part(w: Way, x: Entry) -> Way
 }
 
 // The verdict of the condition whose entries end before number `end`. A chain is met from its right end: evaluating has no effects, and what its
-// parts become says which of them counts. A part without parts is found out here, without a call; one with parts too, unless it is met inside such a
-// one. Where `settles`, what an operator finds Missing counts as a No, and so a No stops `&&` and a Yes stops `||`.
+// parts become says which of them counts. A part with parts is met here, without a call, unless it is met inside such a one. Where `settles`, what an
+// operator finds Missing counts as a No, and so a No stops `&&` and a Yes stops `||`.
 fn evaluate_by<'a>(
     settles: bool,
-    text: &'a [u8],
-    table: &[u8],
+    text: &&'a [u8],
+    table: &&[u8],
     end: usize,
-    s: &'a [u8],
-    p: Sections,
-    n: usize,
-    heads: &[usize; MOST_COLUMNS],
+    s: &&'a [u8],
+    places: &[u16; PLACES],
     values: &[usize; MOST_COLUMNS],
-    action: &'a [u8],
+    action: &&'a [u8],
 ) -> Verdict
-    requires { ⌜ Ready (now text) (now table) end ⌝ }
-    requires { ⌜ RowStands (now s) p n (now heads) (now values) ⌝ }
-    ensures { λ r. ⌜ r ≡ verdictSeen settles (now (text .entry)) (now (s .entry)) p n (now (heads .entry)) (now (values .entry)) (now (action .entry))
-        (treeAt (now (table .entry)) end) ⌝ }
+    requires { ⌜ Ready (now (now text)) (now (now table)) end ⌝ }
+    requires { ⌜ RowAt (now (now s)) (now places) (now values) ⌝ }
+    ensures { λ r. ⌜ r ≡ verdictSeen settles (now (now (text .entry))) (now (now (s .entry))) (now (places .entry)) (now (values .entry))
+        (now (now (action .entry))) (treeAt (now (now (table .entry))) end) ⌝ }
 {
     let mut w = Way {
         at: end,
@@ -234,17 +241,17 @@ fn evaluate_by<'a>(
             if w.rest < 1 {
                 return v;
             }
-            let x = entry_in(table, w.rest - 1);
+            let x = entry_of(table, w.rest - 1);
             let u = come_back(w);
             w = after_part(settles, u, x, v);
             continue;
         }
         let at = w.at;
-        let x = entry_in(table, at - 1);
+        let x = entry_of(table, at - 1);
         let part = part_met(at, x);
-        let y = entry_in(table, part - 1);
+        let y = entry_of(table, part - 1);
         if y.kind <= entries::CONTAINS_ANY {
-            let v = flat(text, table, part, y, s, p, n, heads, values, action);
+            let v = flat(text, table, part, s, places, values, action);
             w = after_part(settles, w, x, v);
             continue;
         }
@@ -256,7 +263,7 @@ fn evaluate_by<'a>(
             w = entered(w, part);
             continue;
         }
-        let v = evaluate_by(settles, text, table, part, s, p, n, heads, values, action);
+        let v = evaluate_by(settles, text, table, part, s, places, values, action);
         w = after_part(settles, w, x, v);
     }
 }
@@ -271,23 +278,43 @@ fn settles(version: Version) -> bool
     }
 }
 
-// The verdict of the condition whose entries end before number `end`, under the version that the table records.
-pub fn evaluate<'a>(
-    text: &'a [u8],
-    table: &[u8],
-    end: usize,
-    s: &'a [u8],
-    p: Sections,
-    n: usize,
-    heads: &[usize; MOST_COLUMNS],
-    values: &[usize; MOST_COLUMNS],
-    action: &'a [u8],
-) -> Verdict
-    requires { ⌜ Ready (now text) (now table) end ⌝ }
-    requires { ⌜ RowStands (now s) p n (now heads) (now values) ⌝ }
-    ensures { λ r. ⌜ r ≡ verdictSeen (settlesUnder (recordedVersion (now (table .entry)))) (now (text .entry)) (now (s .entry)) p n (now (heads .entry))
-        (now (values .entry)) (now (action .entry)) (treeAt (now (table .entry)) end) ⌝ }
+// What an operator's verdict counts as: a Missing as a No where `settles`.
+fn settled_as(settles: bool, v: Verdict) -> Verdict
+    ensures { λ r. ⌜ r ≡ settledIf settles v ⌝ }
 {
-    let settled = settles(recorded(table));
-    evaluate_by(settled, text, table, end, s, p, n, heads, values, action)
+    match v {
+        Verdict::Yes => Verdict::Yes,
+        Verdict::No => Verdict::No,
+        Verdict::Missing => {
+            if settles {
+                return Verdict::No;
+            }
+            Verdict::Missing
+        }
+    }
+}
+
+// The verdict of the condition whose entries end before number `end`, under the version that the table records. One without parts is found out at once; as
+// that is called from two places, the compiler leaves it a function of its own, and no level of nesting holds its frame.
+pub fn evaluate<'a>(
+    text: &&'a [u8],
+    table: &&[u8],
+    end: usize,
+    s: &&'a [u8],
+    places: &[u16; PLACES],
+    values: &[usize; MOST_COLUMNS],
+    action: &&'a [u8],
+) -> Verdict
+    requires { ⌜ Ready (now (now text)) (now (now table)) end ⌝ }
+    requires { ⌜ RowAt (now (now s)) (now places) (now values) ⌝ }
+    ensures { λ r. ⌜ r ≡ verdictSeen (settlesUnder (recordedVersion (now (now (table .entry))))) (now (now (text .entry))) (now (now (s .entry)))
+        (now (places .entry)) (now (values .entry)) (now (now (action .entry))) (treeAt (now (now (table .entry))) end) ⌝ }
+{
+    let settled = settles(recorded(*table));
+    let x = entry_of(table, end - 1);
+    if x.kind <= entries::CONTAINS_ANY {
+        let v = flat(text, table, end, s, places, values, action);
+        return settled_as(settled, v);
+    }
+    evaluate_by(settled, text, table, end, s, places, values, action)
 }

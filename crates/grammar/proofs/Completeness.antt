@@ -65,7 +65,7 @@ closes k h x m e = rw e h
 pub other-kind : (test : ℕ → Bool) (n k : ℕ) → test n ≡ true → test k ≡ false → eqb n k ≡ false
 other-kind test n k t f = ne-eqb n k (λ (q : n ≡ k). never (sym f ∙ (rw q at t)))
 
-root-no-literal : (x : Lexeme) → isRoot x ≡ true → isLiteral x ≡ false
+pub root-no-literal : (x : Lexeme) → isRoot x ≡ true → isLiteral x ≡ false
 root-no-literal x t =
     let low : 204 ≤ x .kind = leb-true _ _ (and-left _ _ t) in let high : x .kind ≤ 207 = leb-true _ _ (and-right (leb 204 (x .kind)) (leb (x .kind) 207) t) in
     rw (ne-eqb (x .kind) 34 (λ q. omega arith), ne-eqb (x .kind) 48 (λ q. omega arith), ne-eqb (x .kind) 212 (λ q. omega arith), ne-eqb (x .kind) 213 (λ q. omega arith))

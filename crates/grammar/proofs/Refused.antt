@@ -27,11 +27,11 @@ unfolding read-next-name
 near-next exit root (uncalled p) i = near-on _ _ _ i (λ x r e. near-took _ r) (near-on _ _ _ i (λ x r e. near-took _ r) (near-refuseBy _ i))
 near-next exit root (calling p w) i = near-refuseBy _ i
 
-near-way : (exit : Lexeme → Bool) (root : Root) → Nears (read-way exit root)
+pub near-way : (exit : Lexeme → Bool) (root : Root) → Nears (read-way exit root)
 unfolding read-way
 near-way exit root i = near-chain _ _ (λ w x. way-takes exit root w) (λ w x. near-next exit root w) _ (near-first root) i
 
-near-path : (root : Root) → Nears (read-path root)
+pub near-path : (root : Root) → Nears (read-path root)
 unfolding read-path
 near-path root i = near-bind _ _ i (near-way _ root i) (λ w r e. near-took _ r)
 
@@ -58,7 +58,7 @@ near-bare (literal (text s)) i = near-refuseBy _ i
 near-bare (literal (number s)) i = near-refuseBy _ i
 near-bare (attribute root p) i = near-refuseBy _ i
 
-near-operator : (a : Operand) → Nears (read-operator a)
+pub near-operator : (a : Operand) → Nears (read-operator a)
 unfolding read-operator read-pattern read-in
 near-operator a i =
     near-on _ _ _ i (λ x r e. near-mapped _ _ r (near-operand r))
@@ -67,7 +67,7 @@ near-operator a i =
     (λ x r e. near-on _ _ _ r (λ y m e′. near-mapped _ _ m (near-list _ m)) (near-on _ _ _ r (λ y m e′. near-attribute _ _ m) (near-refuseBy _ r)))
     (near-bare a i)))
 
-near-call : (w : Which) (root : Root) (p : Span) → Nears (read-call w root p)
+pub near-call : (w : Which) (root : Root) (p : Span) → Nears (read-call w root p)
 unfolding read-call
 near-call w root p i = near-need _ _ i (λ m. near-need _ _ m (λ n. near-before _ _ n (near-mapped _ _ n (near-list _ n))))
 

@@ -1,105 +1,151 @@
--- Notes that are forgotten, kept and set, and the depths of policies, as the policies are met from the last to the first. Assumes nothing.
-use mathlib.Core.Path.{_≡_, refl, sym, ap, _∙_, subst}
-use mathlib.Core.Bool.{Bool, true, false, cond, _&&_}
+-- What is found of policies, and notes and bits that are kept and set as policies are met. Assumes nothing.
+use mathlib.Core.Path.{_≡_, refl, sym, ap, ap₂, _∙_, subst}
+use mathlib.Core.Bool.{Bool, true, false, cond, not, _&&_, _||_}
 use mathlib.Core.List.{List, [], _∷_}
-use Prim.Native.Nat.{ℕ, zero, suc, _+_, _-_, _*_, _≤_, _<_}
+use Prim.Native.Nat.{ℕ, zero, suc, _+_, _-_, _*_, _/_, _%_, _^_, _≤_, _<_}
+use native.Mathlib.Nat.{mod-eq-of-lt, lt-of-lt-of-le, one-le-pow, pow-le-pow-right}
 use native.Mathlib.Omega.{arith}
-use borrow.Author.Tests.{leb-true, ltb-true, ltb-false, le-leb, lt-ltb, le-ltb, eqb-true, eqb-false}
+use borrow.Author.Tests.{leb-true, leb-false, ltb-true, ltb-false, le-leb, lt-ltb, le-ltb, eqb-true, eqb-false}
+use lib.Bits.{bitAnd}
 use lib.Dec.{eqb, leb, ltb}
 use lib.ListN.{length, getD, set, replicate, length-set, length-replicate, getD-replicate, List·getD-eq-default}
 use lib.Seq.{getD-set-same, getD-set-other}
 use Rattle.grammar.specs.Policies.{Policy}
 use Rattle.grammar.specs.declared.Version.{Version}
 use Rattle.bags.specs.declared.sections.Sections.{Sections}
+use Rattle.table.specs.Layout.{entryAt}
+use Rattle.table.specs.declared.Entry.{Entry}
+use Rattle.stored.specs.ReadBack.{policyAt}
+use Rattle.stored.specs.Ready.{Last}
 use Rattle.questions.specs.Questions.{cell}
 use Rattle.questions.proofs.PlaceLaws.{set-cases}
 use Rattle.views.specs.Rows.{rowView}
-use Rattle.placing.specs.Said.{policyWords}
+use Rattle.placing.specs.Said.{policyWords, wordsOf}
 use Rattle.meaning.specs.Targets.{Request}
 use Rattle.meaning.specs.Values.{withAction}
-use Rattle.meaning.specs.Decisions.{under, targetMatches, conditionHolds, satisfied, Numbered}
-use Rattle.kept.specs.Notes.{Alike, Steady, ownOf, otherOf, aimOf, Depths, NoteSays, RowSays, satBy, Noted, Carried, ChosenThere, Met}
-use Rattle.meaning.proofs.Deciding.{numbered-some, numbered-few}
+use Rattle.meaning.specs.Decisions.{under, targetMatches, conditionHolds, satisfied, markOf, Numbered}
+use Rattle.meaning.proofs.Deciding.{never, numbered-some, numbered-few}
 use Rattle.meaning.proofs.Marking.{numbered-one}
+use Rattle.meaning.proofs.WordLaws.{mark-words}
+use Rattle.deciding.specs.Marks.{isSet}
+use Rattle.deciding.proofs.Bits.{bit-first, bit-behind, none-set, added-same, added-other, added-below, taken-same, taken-other, without-bit, bits-are}
+use Rattle.kept.specs.Notes.{Alike, Steady, ownOf, otherOf, aimOf, endAt, Depths, policyEnding, LastEnding, PolicyEnds, matters, Late, NoteSays, RowSays, satBy, Noted, MarkTold, ChosenThere, Met}
 
 -- ---- what policies look at, found from the last policy to the first
 
--- a number in each of the three parts
-module _ (looks : List ℕ) (i own other aim : ℕ) (long : length looks ≡ 192) (small : i < 64) where
-  abbrev three : List ℕ
-  three = set (set (set looks i own) (64 + i) other) (128 + i) aim
+-- a number in each of the five parts
+module _ (looks : List ℕ) (i own other aim low high : ℕ) (long : length looks ≡ 320) (small : i < 64) where
+  abbrev two : List ℕ
+  two = set (set looks i own) (64 + i) other
 
-  three-long : length three ≡ 192
-  three-long = length-set (set (set looks i own) (64 + i) other) (128 + i) aim ∙ length-set (set looks i own) (64 + i) other ∙ length-set looks i own ∙ long
+  abbrev four : List ℕ
+  four = set (set two (128 + i) aim) (192 + i) low
 
-  three-own : getD three i 0 ≡ own
-  three-own =
-      getD-set-other (set (set looks i own) (64 + i) other) (128 + i) i aim 0 (λ e. omega arith) ∙ getD-set-other (set looks i own) (64 + i) i other 0 (λ e. omega arith)
-      ∙ getD-set-same looks i own 0 (omega arith)
+  abbrev five : List ℕ
+  five = set four (256 + i) high
 
-  three-other : getD three (64 + i) 0 ≡ other
-  three-other =
-      getD-set-other (set (set looks i own) (64 + i) other) (128 + i) (64 + i) aim 0 (λ e. omega arith)
-      ∙ getD-set-same (set looks i own) (64 + i) other 0 (omega (arith, length-set looks i own))
+  two-long : length two ≡ 320
+  two-long = length-set (set looks i own) (64 + i) other ∙ length-set looks i own ∙ long
 
-  three-aim : getD three (128 + i) 0 ≡ aim
-  three-aim =
-      getD-set-same (set (set looks i own) (64 + i) other) (128 + i) aim 0 (omega (arith, length-set (set looks i own) (64 + i) other, length-set looks i own))
+  four-long : length four ≡ 320
+  four-long = length-set (set two (128 + i) aim) (192 + i) low ∙ length-set two (128 + i) aim ∙ two-long
 
-  three-kept : (j : ℕ) → (j ≡ i → ⊥) → (j ≡ 64 + i → ⊥) → (j ≡ 128 + i → ⊥) → getD three j 0 ≡ getD looks j 0
-  three-kept j a b c =
-      getD-set-other (set (set looks i own) (64 + i) other) (128 + i) j aim 0 c ∙ getD-set-other (set looks i own) (64 + i) j other 0 b ∙ getD-set-other looks i j own 0 a
+  five-long : length five ≡ 320
+  five-long = length-set four (256 + i) high ∙ four-long
 
-module _ (t s : List ℕ) (n : ℕ) (heads : List ℕ) (q : Request) (ps : List Policy) where
+  -- below the third part
+  five-two : (j : ℕ) → j < 128 → getD five j 0 ≡ getD two j 0
+  five-two j h =
+      getD-set-other four (256 + i) j high 0 (λ e. omega arith) ∙ getD-set-other (set two (128 + i) aim) (192 + i) j low 0 (λ e. omega arith)
+      ∙ getD-set-other two (128 + i) j aim 0 (λ e. omega arith)
+
+  five-own : getD five i 0 ≡ own
+  five-own = five-two i (omega arith) ∙ getD-set-other (set looks i own) (64 + i) i other 0 (λ e. omega arith) ∙ getD-set-same looks i own 0 (omega arith)
+
+  five-other : getD five (64 + i) 0 ≡ other
+  five-other = five-two (64 + i) (omega arith) ∙ getD-set-same (set looks i own) (64 + i) other 0 (omega (arith, length-set looks i own))
+
+  five-aim : getD five (128 + i) 0 ≡ aim
+  five-aim =
+      getD-set-other four (256 + i) (128 + i) high 0 (λ e. omega arith) ∙ getD-set-other (set two (128 + i) aim) (192 + i) (128 + i) low 0 (λ e. omega arith)
+      ∙ getD-set-same two (128 + i) aim 0 (omega (arith, two-long))
+
+  five-low : getD five (192 + i) 0 ≡ low
+  five-low =
+      getD-set-other four (256 + i) (192 + i) high 0 (λ e. omega arith)
+      ∙ getD-set-same (set two (128 + i) aim) (192 + i) low 0 (omega (arith, length-set two (128 + i) aim, two-long))
+
+  five-high : getD five (256 + i) 0 ≡ high
+  five-high = getD-set-same four (256 + i) high 0 (omega (arith, four-long))
+
+  five-kept : (j : ℕ) → (j ≡ i → ⊥) → (j ≡ 64 + i → ⊥) → (j ≡ 128 + i → ⊥) → (j ≡ 192 + i → ⊥) → (j ≡ 256 + i → ⊥) → getD five j 0 ≡ getD looks j 0
+  five-kept j a b c d e =
+      getD-set-other four (256 + i) j high 0 e ∙ getD-set-other (set two (128 + i) aim) (192 + i) j low 0 d ∙ getD-set-other two (128 + i) j aim 0 c
+      ∙ getD-set-other (set looks i own) (64 + i) j other 0 b ∙ getD-set-other looks i j own 0 a
+
+module _ (t table s : List ℕ) (n : ℕ) (heads : List ℕ) (q : Request) (ps : List Policy) where
   -- what is found of the policies above a number is right
   pub record Found (number : ℕ) (looks : List ℕ) : Type 0 where
-    pub long : length looks ≡ 192
+    pub long : length looks ≡ 320
     pub few : (i : ℕ) → i < 64 → getD looks i 0 < 6
     pub steady : (m : ℕ) (policy : Policy) → Numbered m policy ps → number < m → Steady t s n heads policy (ownOf looks m) (otherOf looks m)
     pub aimed : (m : ℕ) (policy : Policy) → Numbered m policy ps → number < m → aimOf looks m ≡ targetMatches q (policyWords t policy)
+    pub ended : (m : ℕ) (policy : Policy) → Numbered m policy ps → number < m → PolicyEnds t table (endAt looks (m - 1)) policy
 
-  module _ (number : ℕ) (looks : List ℕ) (policy : Policy) (own other : ℕ) (aimed : Bool) (some : 1 ≤ number) (most : length ps ≤ 64) (here : Numbered number policy ps)
+  module _ (number : ℕ) (looks : List ℕ) (policy : Policy) (own other : ℕ) (aimed : Bool) (end : ℕ) (some : 1 ≤ number) (most : length ps ≤ 64) (here : Numbered number policy ps)
       (f : Found number looks) where
     abbrev after : List ℕ
-    after = set (set (set looks (number - 1) own) (64 + (number - 1)) other) (128 + (number - 1)) (cond aimed 1 0)
+    after = set (set (set (set (set looks (number - 1) own) (64 + (number - 1)) other) (128 + (number - 1)) (cond aimed 1 0)) (192 + (number - 1)) (end % 256)) (256 + (number - 1)) (end / 256)
 
     small : number - 1 < 64
     small = omega (arith, numbered-few here)
 
     -- another policy's numbers stay
     others-kept : (m : ℕ) {policy′ : Policy} → Numbered m policy′ ps → (m ≡ number → ⊥)
-        → (ownOf after m ≡ ownOf looks m) × (otherOf after m ≡ otherOf looks m) × (aimOf after m ≡ aimOf looks m)
+        → (ownOf after m ≡ ownOf looks m) × (otherOf after m ≡ otherOf looks m) × (aimOf after m ≡ aimOf looks m) × (endAt after (m - 1) ≡ endAt looks (m - 1))
     others-kept m h d =
         let some′ = numbered-some h in let few = numbered-few h in let low = small in
-        let stays = three-kept looks (number - 1) own other (cond aimed 1 0) (f .long) small in (
-          stays (m - 1) (λ e. d (omega arith)) (λ e. omega arith) (λ e. omega arith),
-          stays (64 + (m - 1)) (λ e. omega arith) (λ e. d (omega arith)) (λ e. omega arith),
-          ap (λ (x : ℕ). eqb x 1) (stays (128 + (m - 1)) (λ e. omega arith) (λ e. omega arith) (λ e. d (omega arith))),
+        let stays = five-kept looks (number - 1) own other (cond aimed 1 0) (end % 256) (end / 256) (f .long) small in (
+          stays (m - 1) (λ e. d (omega arith)) (λ e. omega arith) (λ e. omega arith) (λ e. omega arith) (λ e. omega arith),
+          stays (64 + (m - 1)) (λ e. omega arith) (λ e. d (omega arith)) (λ e. omega arith) (λ e. omega arith) (λ e. omega arith),
+          ap (λ (x : ℕ). eqb x 1) (stays (128 + (m - 1)) (λ e. omega arith) (λ e. omega arith) (λ e. d (omega arith)) (λ e. omega arith) (λ e. omega arith)),
+          ap₂ (λ (x y : ℕ). x + 256 * y)
+              (stays (192 + (m - 1)) (λ e. omega arith) (λ e. omega arith) (λ e. omega arith) (λ e. d (omega arith)) (λ e. omega arith))
+              (stays (256 + (m - 1)) (λ e. omega arith) (λ e. omega arith) (λ e. omega arith) (λ e. omega arith) (λ e. d (omega arith))),
         )
 
     aim-is : (b : Bool) → eqb (cond b 1 0) 1 ≡ b
     aim-is true = refl
     aim-is false = refl
 
-    pub found-more : own < 6 → Steady t s n heads policy own other → aimed ≡ targetMatches q (policyWords t policy) → Found (number - 1) after
-    found-more low st a = record {
-      long = three-long looks (number - 1) own other (cond aimed 1 0) (f .long) small;
+    end-is : endAt after (number - 1) ≡ end
+    end-is =
+        ap₂ (λ (x y : ℕ). x + 256 * y) (five-low looks (number - 1) own other (cond aimed 1 0) (end % 256) (end / 256) (f .long) small)
+        (five-high looks (number - 1) own other (cond aimed 1 0) (end % 256) (end / 256) (f .long) small)
+        ∙ omega arith
+
+    pub found-more : own < 6 → Steady t s n heads policy own other → aimed ≡ targetMatches q (policyWords t policy) → PolicyEnds t table end policy → Found (number - 1) after
+    found-more low st a ends = record {
+      long = five-long looks (number - 1) own other (cond aimed 1 0) (end % 256) (end / 256) (f .long) small;
       few = λ i l. few-there i l (eqb i (number - 1)) refl;
       steady = λ m policy′ h l. steady-there m policy′ h l (eqb m number) refl;
       aimed = λ m policy′ h l. aimed-there m policy′ h l (eqb m number) refl;
+      ended = λ m policy′ h l. ended-there m policy′ h l (eqb m number) refl;
     }
       where
         few-there : (i : ℕ) → i < 64 → (b : Bool) → eqb i (number - 1) ≡ b → getD after i 0 < 6
-        few-there i l true e = rw (eqb-true i (number - 1) e, three-own looks (number - 1) own other (cond aimed 1 0) (f .long) small) low
+        few-there i l true e = rw (eqb-true i (number - 1) e, five-own looks (number - 1) own other (cond aimed 1 0) (end % 256) (end / 256) (f .long) small) low
         few-there i l false e =
-            rw (three-kept looks (number - 1) own other (cond aimed 1 0) (f .long) small i (eqb-false i (number - 1) e) (λ e. omega arith) (λ e. omega arith)) (f .few i l)
+            rw (five-kept looks (number - 1) own other (cond aimed 1 0) (end % 256) (end / 256) (f .long) small i (eqb-false i (number - 1) e) (λ e. omega arith) (λ e. omega arith) (λ e. omega arith) (λ e. omega arith)) (f .few i l)
+
+        is-that : (m : ℕ) (policy′ : Policy) → Numbered m policy′ ps → m ≡ number → policy ≡ policy′
+        is-that m policy′ h k = numbered-one here (subst (λ (k : ℕ). Numbered k policy′ ps) k h)
 
         steady-there : (m : ℕ) (policy′ : Policy) → Numbered m policy′ ps → number - 1 < m → (b : Bool) → eqb m number ≡ b
             → Steady t s n heads policy′ (ownOf after m) (otherOf after m)
         steady-there m policy′ h l true e =
             let k : m ≡ number = eqb-true m number e in
-            let same : policy ≡ policy′ = numbered-one here (subst (λ (k : ℕ). Numbered k policy′ ps) k h) in
-            rw (← same, k, three-own looks (number - 1) own other (cond aimed 1 0) (f .long) small, three-other looks (number - 1) own other (cond aimed 1 0) (f .long) small) st
+            rw (← is-that m policy′ h k, k, five-own looks (number - 1) own other (cond aimed 1 0) (end % 256) (end / 256) (f .long) small, five-other looks (number - 1) own other (cond aimed 1 0) (end % 256) (end / 256) (f .long) small) st
         steady-there m policy′ h l false e =
             let d = eqb-false m number e in
             let k = others-kept m h d in
@@ -108,11 +154,18 @@ module _ (t s : List ℕ) (n : ℕ) (heads : List ℕ) (q : Request) (ps : List 
         aimed-there : (m : ℕ) (policy′ : Policy) → Numbered m policy′ ps → number - 1 < m → (b : Bool) → eqb m number ≡ b → aimOf after m ≡ targetMatches q (policyWords t policy′)
         aimed-there m policy′ h l true e =
             let k : m ≡ number = eqb-true m number e in
-            let same : policy ≡ policy′ = numbered-one here (subst (λ (k : ℕ). Numbered k policy′ ps) k h) in
-            rw (← same, k, three-aim looks (number - 1) own other (cond aimed 1 0) (f .long) small) (aim-is aimed ∙ a)
+            rw (← is-that m policy′ h k, k, five-aim looks (number - 1) own other (cond aimed 1 0) (end % 256) (end / 256) (f .long) small) (aim-is aimed ∙ a)
         aimed-there m policy′ h l false e =
             let d = eqb-false m number e in
             others-kept m h d .2 ∙ f .aimed m policy′ h (let z : number < m = omega arith in z)
+
+        ended-there : (m : ℕ) (policy′ : Policy) → Numbered m policy′ ps → number - 1 < m → (b : Bool) → eqb m number ≡ b → PolicyEnds t table (endAt after (m - 1)) policy′
+        ended-there m policy′ h l true e =
+            let k : m ≡ number = eqb-true m number e in
+            rw (← is-that m policy′ h k, k) (subst (λ (x : ℕ). PolicyEnds t table x policy) (sym end-is) ends)
+        ended-there m policy′ h l false e =
+            let d = eqb-false m number e in
+            subst (λ (x : ℕ). PolicyEnds t table x policy′) (sym (others-kept m h d .3)) (f .ended m policy′ h (let z : number < m = omega arith in z))
 
 -- a list of zeros has no other number
 pub zeros-say : (n i : ℕ) → _≡_ {A = ℕ} (getD (replicate n 0) i 0) 0
@@ -199,6 +252,84 @@ module _ (stale : Bool) (before mid : List ℕ) (i : ℕ) (forgot : (j : ℕ) �
         fits : 8 * i + choice < length mid
         fits = omega arith
 
+-- ---- a bit, put where the policy is satisfied
+
+bit-put : (hit : Bool) (i mark : ℕ) → isSet mark i ≡ false → isSet (mark + cond hit (2 ^ i) 0) i ≡ hit
+bit-put true i mark e = added-same i mark e
+bit-put false i mark e = let z : mark + 0 ≡ mark = omega arith in rw z e
+
+bit-stays : (hit : Bool) (i k mark : ℕ) → (k ≡ i → ⊥) → isSet mark i ≡ false → isSet (mark + cond hit (2 ^ i) 0) k ≡ isSet mark k
+bit-stays true i k mark d e = added-other i k mark d e
+bit-stays false i k mark d e = let z : mark + 0 ≡ mark = omega arith in rw z
+
+pub bit-below : (hit : Bool) (policies i mark : ℕ) → i < policies → mark < 2 ^ policies → isSet mark i ≡ false → mark + cond hit (2 ^ i) 0 < 2 ^ policies
+bit-below true policies i mark h l e = added-below policies i mark h l e
+bit-below false policies i mark h l e = omega arith
+
+-- where a bit is still to come it is not set
+pub still-clear : (hit : Bool) (i left mark : ℕ) → isSet left i ≡ true → isSet mark i ≡ false → ((k : ℕ) → isSet left k ≡ true → isSet mark k ≡ false)
+    → (k : ℕ) → isSet (left - 2 ^ i) k ≡ true → isSet (mark + cond hit (2 ^ i) 0) k ≡ false
+still-clear hit i left mark set clear f k e = go (eqb k i) refl
+  where
+    go : (b : Bool) → eqb k i ≡ b → isSet (mark + cond hit (2 ^ i) 0) k ≡ false
+    go true s = absurd (never (taken-same i left set) (subst (λ (x : ℕ). isSet (left - 2 ^ i) x ≡ true) (eqb-true k i s) e))
+    go false s = let d = eqb-false k i s in bit-stays hit i k mark d clear ∙ f k (sym (taken-other i k left d set) ∙ e)
+
+-- before any is met
+pub all-clear : (mark late k : ℕ) → isSet late k ≡ true → isSet (mark - bitAnd mark late) k ≡ false
+all-clear mark late k e = without-bit k mark late ∙ ap (λ (b : Bool). isSet mark k && not b) e ∙ none (isSet mark k)
+  where
+    none : (b : Bool) → b && not true ≡ false
+    none true = refl
+    none false = refl
+
+-- ---- the mark of the policies that are met again, from the last to the first
+
+module _ (looks : List ℕ) (policies column i mark : ℕ) (some : 0 < i) (within : i ≤ policies) (few : policies ≤ 64) (b : Bool) (small : mark < 2 ^ (policies - i)) where
+  pub late-more : b ≡ matters looks column (i - 1) → ((k : ℕ) → i + k < policies → isSet mark k ≡ matters looks column (i + k))
+      → (k : ℕ) → i - 1 + k < policies → isSet (cond b 1 0 + 2 * mark) k ≡ matters looks column (i - 1 + k)
+  late-more e f zero h = let z : i - 1 + 0 ≡ i - 1 = omega arith in rw z (bit-first b mark ∙ e)
+  late-more e f (suc k) h = let z : i - 1 + suc k ≡ i + k = omega arith in rw z (bit-behind b mark k ∙ f k (omega arith))
+
+  pub late-fits : cond b 1 0 + 2 * mark < 2 ^ (policies - (i - 1))
+  late-fits = let z : policies - (i - 1) ≡ suc (policies - i) = omega arith in rw z (go b)
+    where
+      go : (b : Bool) → cond b 1 0 + 2 * mark < 2 ^ suc (policies - i)
+      go true = omega arith
+      go false = omega arith
+
+  pub late-room : cond b 1 0 + 2 * mark < 2 ^ 64
+  late-room = let bits : policies - (i - 1) ≤ 64 = omega arith in lt-of-lt-of-le late-fits (pow-le-pow-right (omega arith) bits)
+
+pub late-none : (policies : ℕ) → 0 < 2 ^ (policies - policies)
+late-none policies = one-le-pow (policies - policies) 2 (omega arith)
+
+pub late-all : (looks : List ℕ) (policies column i mark : ℕ) → i ≤ 0 → mark < 2 ^ (policies - i) → ((k : ℕ) → i + k < policies → isSet mark k ≡ matters looks column (i + k))
+    → Late looks policies column mark
+late-all looks policies column zero mark z l f =
+    record { set = λ k h. let e : 0 + k ≡ k = omega arith in rw e at (f k (omega arith)); below = let e : policies - 0 ≡ policies = omega arith in rw e at l }
+late-all looks policies column (suc i) mark z l f = absurd (omega arith)
+
+-- 1 shifted by less than 64
+pub one-shifted : (i : ℕ) → i < 64 → 1 * 2 ^ i % 2 ^ 64 ≡ 2 ^ i
+one-shifted i h =
+    let bits : suc i ≤ 64 = omega arith in
+    let twice : 2 ^ suc i ≤ 2 ^ 64 = pow-le-pow-right (omega arith) bits in
+    let some : 1 ≤ 2 ^ i = one-le-pow i 2 (omega arith) in
+    let small : 1 * 2 ^ i < 2 ^ 64 = omega arith in
+    mod-eq-of-lt small ∙ omega arith
+
+-- ---- what is read at the end of a policy
+
+pub last-read : (t table : List ℕ) {end e : ℕ} {x : Entry} → end ≡ e → x ≡ entryAt table (end - 1) → LastEnding t table e → Last t table end x
+last-read t table d k l = rw (k, d) l
+
+pub policy-read : (table : List ℕ) {end e : ℕ} {x : Entry} → end ≡ e → x ≡ entryAt table (end - 1) → policyAt table end x ≡ policyEnding table e
+policy-read table d k = rw (k, d)
+
+pub ends-there : (t table : List ℕ) {end : ℕ} {x : Entry} → x ≡ entryAt table (end - 1) → Last t table end x → PolicyEnds t table end (policyAt table end x)
+ends-there t table e l = record { last = rw (← e) l; is = rw (← e) }
+
 -- ---- the notes of a row
 
 set-own : (l : List ℕ) (i v : ℕ) → v ≡ getD l i 0 → set l i v ≡ l
@@ -239,44 +370,113 @@ module _ (version : Version) (t s : List ℕ) (p : Sections) (n : ℕ) (heads : 
       ap (λ (b : Bool). b && conditionHolds (under version (withAction (q .action) (rowView s p n heads values))) (policyWords t policy .condition)) (sym a)
       ∙ ap (λ (l : List ℕ). aimed && conditionHolds (under version (withAction l (rowView s p n heads values))) (policyWords t policy .condition)) e
 
-  module _ (ps : List Policy) (looks values : List ℕ) (from number : ℕ) (policy : Policy) (some : 1 ≤ number) (here : Numbered number policy ps) where
-    abbrev own : ℕ
-    own = ownOf looks number
+  -- ---- a row in the midst of its turn: the policies whose bits are set in `left` are still to be met
 
+  -- notes of policies still to be met are right for the row before; notes and mark of all others for this row
+  pub record Halfway (ps : List Policy) (looks before values : List ℕ) (left : ℕ) (notes : List ℕ) (mark : ℕ) : Type 0 where
+    pub pending : (m : ℕ) (policy : Policy) → Numbered m policy ps → isSet left (m - 1) ≡ true
+        → RowSays notes (m - 1) (satBy version t s p n heads q before (ownOf looks m) policy)
+    pub noted : (m : ℕ) (policy : Policy) → Numbered m policy ps → isSet left (m - 1) ≡ false
+        → RowSays notes (m - 1) (satBy version t s p n heads q values (ownOf looks m) policy)
+    pub told : (m : ℕ) (policy : Policy) → Numbered m policy ps → isSet left (m - 1) ≡ false
+        → isSet mark (m - 1) ≡ satisfied (under version (rowView s p n heads values)) q (policyWords t policy)
+
+  module _ (ps : List Policy) (looks before values : List ℕ) (from : ℕ) (six : length before ≡ 6) (six′ : length values ≡ 6) (alike : Alike from before values)
+      (d : Depths t s n heads ps looks) where
     -- a note that is not stale holds for the row
-    pub note-holds : (notes : List ℕ) → length values ≡ 6 → own < 6 → Depths t s n heads ps looks → Carried version t s p n heads q ps looks values from number notes
-        → ltb from (otherOf looks number) ≡ false → RowSays notes (number - 1) (satBy version t s p n heads q values own policy)
-    note-holds notes six small d k fresh =
-        let r = k .noted .right number policy here (omega arith) (omega arith) in
-        record {
-          says = λ c h.
-              subst (NoteSays (getD notes (8 * (number - 1) + c) 0))
-              (sat-alike (k .before) values own (otherOf looks number) from policy (k .six) six small (d .steady number policy here) (ltb-false from (otherOf looks number) fresh) (k .alike) c) (r .says c h);
-        }
+    pub note-holds : (number : ℕ) (policy : Policy) (notes : List ℕ) → Numbered number policy ps → ownOf looks number < 6 → ltb from (otherOf looks number) ≡ false
+        → RowSays notes (number - 1) (satBy version t s p n heads q before (ownOf looks number) policy)
+        → RowSays notes (number - 1) (satBy version t s p n heads q values (ownOf looks number) policy)
+    note-holds number policy notes here small fresh r = record {
+      says = λ c h.
+          subst (NoteSays (getD notes (8 * (number - 1) + c) 0))
+          (sat-alike before values (ownOf looks number) (otherOf looks number) from policy six six′ small (d .steady number policy here) (ltb-false from (otherOf looks number) fresh) alike c) (r .says c h);
+    }
 
-    module _ {choice : ℕ} {notes after : List ℕ} {r : Bool} (met : Met (satBy version t s p n heads q values own policy) (number - 1) choice notes r after) where
-      kept : (m : ℕ) → 0 < m → (m ≡ number → ⊥) → (sat : ℕ → Bool) → RowSays notes (m - 1) sat → RowSays after (m - 1) sat
-      kept m l d sat old = rows-kept (λ c h. met .others (m - 1) c (λ e. d (omega arith)) h) old
+    -- a policy to which no changed column can matter says what it said
+    said-again : (number : ℕ) (policy : Policy) → Numbered number policy ps → ownOf looks number < from → otherOf looks number ≤ from
+        → satisfied (under version (rowView s p n heads before)) q (policyWords t policy) ≡ satisfied (under version (rowView s p n heads values)) q (policyWords t policy)
+    said-again number policy here own other =
+        d .steady number policy here .same version p q before values (record { alike = λ j l. alike .alike j (omega arith) }) (alike .alike (ownOf looks number) own)
 
-      -- the notes of the policies left, and of those met
-      pub left-carried : Carried version t s p n heads q ps looks values from number notes → Carried version t s p n heads q ps looks values from (number - 1) after
-      left-carried k = record {
-        before = k .before;
-        six = k .six;
-        alike = k .alike;
-        noted = record { right = λ m policy′ h l u. kept m l (λ e. omega arith) _ (k .noted .right m policy′ h l (omega arith)) };
-        long = met .long;
-      }
+    -- no policy is met yet: the bits of those to be met are not set
+    pub none-met-yet : (policies late mark : ℕ) (notes : List ℕ) → policies ≡ length ps → policies ≤ 64 → Late looks policies from late → Noted version t s p n heads q ps looks before notes
+        → MarkTold version t s p n heads q ps looks before from mark → Halfway ps looks before values late notes (mark - bitAnd mark late)
+    none-met-yet policies late mark notes all few l k told = record {
+      pending = λ m policy h e. k .right m policy h;
+      noted = λ m policy h e.
+          let unmoved = unmoved-there m policy h e in
+          note-holds m policy notes h (d .few (m - 1) (let o = numbered-some h in omega (arith, numbered-few h))) (le-ltb from (otherOf looks m) (unmoved .1)) (k .right m policy h);
+      told = λ m policy h e.
+          let unmoved = unmoved-there m policy h e in
+          without-bit (m - 1) mark late ∙ ap (λ (b : Bool). isSet mark (m - 1) && not b) e ∙ and-true (isSet mark (m - 1)) ∙ told .told m policy h (unmoved .0)
+          ∙ said-again m policy h (unmoved .0) (unmoved .1);
+    }
+      where
+        and-true : (b : Bool) → b && not false ≡ b
+        and-true true = refl
+        and-true false = refl
 
-      pub met-right : (high : ℕ) → Noted version t s p n heads q ps looks values number high notes → Noted version t s p n heads q ps looks values (number - 1) high after
-      met-right high k = record { right = λ m policy′ h l u. go m policy′ h l u (eqb m number) refl }
-        where
-          go : (m : ℕ) (policy′ : Policy) → Numbered m policy′ ps → number - 1 < m → m ≤ high → (b : Bool) → eqb m number ≡ b
-              → RowSays after (m - 1) (satBy version t s p n heads q values (ownOf looks m) policy′)
-          go m policy′ h l u true e =
-              let is : m ≡ number = eqb-true m number e in
-              let same : policy ≡ policy′ = numbered-one here (subst (λ (k : ℕ). Numbered k policy′ ps) is h) in
-              rw (is, ← same) (met .says)
-          go m policy′ h l u false e =
-              let d = eqb-false m number e in
-              kept m (numbered-some h) d _ (k .right m policy′ h (let z : number < m = omega arith in z) u)
+        neither : (a b : Bool) → (a || b) ≡ false → (a ≡ false) × (b ≡ false)
+        neither true b e = absurd (let z : _≡_ {A = ℕ} 1 0 = ap (λ (b : Bool). cond b 1 0) e in omega arith)
+        neither false true e = absurd (let z : _≡_ {A = ℕ} 1 0 = ap (λ (b : Bool). cond b 1 0) e in omega arith)
+        neither false false e = (refl, refl)
+
+        unmoved-there : (m : ℕ) (policy : Policy) → Numbered m policy ps → isSet late (m - 1) ≡ false → (ownOf looks m < from) × (otherOf looks m ≤ from)
+        unmoved-there m policy h e =
+            let o = numbered-some h in
+            let u = neither (leb from (ownOf looks m)) (ltb from (otherOf looks m)) (sym (l .set (m - 1) (omega (arith, numbered-few h))) ∙ e) in
+            (leb-false from (ownOf looks m) (u .0), ltb-false from (otherOf looks m) (u .1))
+
+  -- a policy is met: its notes and its bit are the row's, those of all others stay
+  pub one-met : (ps : List Policy) (looks before values : List ℕ) (left mark number choice : ℕ) (policy : Policy) {notes after : List ℕ} {hit : Bool} → 1 ≤ number → Numbered number policy ps
+      → isSet left (number - 1) ≡ true → isSet mark (number - 1) ≡ false → Met (satBy version t s p n heads q values (ownOf looks number) policy) (number - 1) choice notes hit after
+      → hit ≡ satisfied (under version (rowView s p n heads values)) q (policyWords t policy) → Halfway ps looks before values left notes mark
+      → Halfway ps looks before values (left - 2 ^ (number - 1)) after (mark + cond hit (2 ^ (number - 1)) 0)
+  one-met ps looks before values left mark number choice policy {notes} {after} {hit} one here set clear met is half = record {
+    pending = λ m policy′ h e. pending-there m policy′ h e (eqb m number) refl;
+    noted = λ m policy′ h e. noted-there m policy′ h e (eqb m number) refl;
+    told = λ m policy′ h e. told-there m policy′ h e (eqb m number) refl;
+  }
+    where
+      is-that : (m : ℕ) (policy′ : Policy) → Numbered m policy′ ps → m ≡ number → policy ≡ policy′
+      is-that m policy′ h k = numbered-one here (subst (λ (k : ℕ). Numbered k policy′ ps) k h)
+
+      apart : (m : ℕ) {policy′ : Policy} → Numbered m policy′ ps → (m ≡ number → ⊥) → m - 1 ≡ number - 1 → ⊥
+      apart m h d e = let o = numbered-some h in d (omega arith)
+
+      stays : (m : ℕ) {policy′ : Policy} → Numbered m policy′ ps → (m ≡ number → ⊥) → (sat : ℕ → Bool) → RowSays notes (m - 1) sat → RowSays after (m - 1) sat
+      stays m h d sat old = rows-kept (λ c l. met .others (m - 1) c (apart m h d) l) old
+
+      pending-there : (m : ℕ) (policy′ : Policy) → Numbered m policy′ ps → isSet (left - 2 ^ (number - 1)) (m - 1) ≡ true → (b : Bool) → eqb m number ≡ b
+          → RowSays after (m - 1) (satBy version t s p n heads q before (ownOf looks m) policy′)
+      pending-there m policy′ h e true k =
+          absurd (never (taken-same (number - 1) left set) (subst (λ (x : ℕ). isSet (left - 2 ^ (number - 1)) (x - 1) ≡ true) (eqb-true m number k) e))
+      pending-there m policy′ h e false k =
+          let d = eqb-false m number k in
+          stays m h d _ (half .pending m policy′ h (sym (taken-other (number - 1) (m - 1) left (apart m h d) set) ∙ e))
+
+      noted-there : (m : ℕ) (policy′ : Policy) → Numbered m policy′ ps → isSet (left - 2 ^ (number - 1)) (m - 1) ≡ false → (b : Bool) → eqb m number ≡ b
+          → RowSays after (m - 1) (satBy version t s p n heads q values (ownOf looks m) policy′)
+      noted-there m policy′ h e true k = let at = eqb-true m number k in rw (← is-that m policy′ h at, at) (met .says)
+      noted-there m policy′ h e false k =
+          let d = eqb-false m number k in
+          stays m h d _ (half .noted m policy′ h (sym (taken-other (number - 1) (m - 1) left (apart m h d) set) ∙ e))
+
+      told-there : (m : ℕ) (policy′ : Policy) → Numbered m policy′ ps → isSet (left - 2 ^ (number - 1)) (m - 1) ≡ false → (b : Bool) → eqb m number ≡ b
+          → isSet (mark + cond hit (2 ^ (number - 1)) 0) (m - 1) ≡ satisfied (under version (rowView s p n heads values)) q (policyWords t policy′)
+      told-there m policy′ h e true k =
+          let at = eqb-true m number k in rw (← is-that m policy′ h at, at) (bit-put hit (number - 1) mark clear ∙ is)
+      told-there m policy′ h e false k =
+          let d = eqb-false m number k in
+          bit-stays hit (number - 1) (m - 1) mark (apart m h d) clear ∙ half .told m policy′ h (sym (taken-other (number - 1) (m - 1) left (apart m h d) set) ∙ e)
+
+  -- all are met
+  pub all-met : (ps : List Policy) (looks before values : List ℕ) (mark : ℕ) (notes : List ℕ) → mark < 2 ^ length ps → Halfway ps looks before values 0 notes mark
+      → (mark ≡ markOf (under version (rowView s p n heads values)) q (wordsOf t ps)) × Noted version t s p n heads q ps looks values notes
+  all-met ps looks before values mark notes below half =
+      let terms = under version (rowView s p n heads values) in (
+        bits-are (λ r. satisfied terms q (policyWords t r)) ps mark below
+            (λ k r h. let e : suc k - 1 ≡ k = omega arith in rw e at (half .told (suc k) r h (none-set (suc k - 1)))) ∙ sym (mark-words t (satisfied terms q) ps),
+        record { right = λ m policy h. half .noted m policy h (none-set (m - 1)) },
+      )

@@ -1,14 +1,17 @@
--- Notes of policies, kept from row to row: what a note says of a policy, and which of a row's choices can matter to it. Definitions only.
+-- Notes and the mark of policies, kept from row to row: what they say of a policy, and which of a row's choices can matter to it. Definitions only.
 use mathlib.Core.Path.{_≡_}
-use mathlib.Core.Bool.{Bool}
+use mathlib.Core.Bool.{Bool, _||_}
 use mathlib.Core.List.{List}
-use Prim.Native.Nat.{ℕ, _+_, _-_, _*_, _≤_, _<_}
-use lib.Dec.{eqb}
+use Prim.Native.Nat.{ℕ, _+_, _-_, _*_, _^_, _<_}
+use lib.Dec.{eqb, leb, ltb}
 use lib.ListN.{length, getD, set}
 use Rattle.tokens.specs.Sizes.{mostPolicies}
 use Rattle.grammar.specs.Policies.{Policy}
 use Rattle.grammar.specs.declared.Version.{Version}
 use Rattle.bags.specs.declared.sections.Sections.{Sections}
+use Rattle.table.specs.Layout.{entryAt}
+use Rattle.stored.specs.ReadBack.{policyAt}
+use Rattle.stored.specs.Ready.{ReadyPolicies, Last}
 use Rattle.questions.specs.Questions.{cell}
 use Rattle.questions.specs.Sizes.{mostColumns, mostCandidates}
 use Rattle.views.specs.Rows.{rowView}
@@ -16,6 +19,7 @@ use Rattle.placing.specs.Said.{policyWords, wordsOf}
 use Rattle.meaning.specs.Targets.{Request}
 use Rattle.meaning.specs.Decisions.{under, targetMatches, satisfied, Numbered, policiesMarked}
 use Rattle.meaning.specs.declared.Marked.{Marked}
+use Rattle.deciding.specs.Marks.{isSet, permitsOf}
 use Rattle.kept.specs.declared.Walk.{Walk}
 
 -- ---- which choices matter
@@ -29,8 +33,8 @@ pub record Steady (t s : List ℕ) (n : ℕ) (heads : List ℕ) (policy : Policy
   pub same : (version : Version) (p : Sections) (q : Request) (u v : List ℕ) → Alike low u v → getD u column 0 ≡ getD v column 0
       → satisfied (under version (rowView s p n heads u)) q (policyWords t policy) ≡ satisfied (under version (rowView s p n heads v)) q (policyWords t policy)
 
--- What is found of each policy, in three parts of 64 numbers: its own column, from 0 on; a number such that beside it only the columns before that number
--- can matter; and 1 where its target matches.
+-- What is found of each policy, in five parts of 64 numbers: its own column, from 0 on; a number such that beside it only the columns before that number
+-- can matter; 1 where its target matches; and the low and the high byte of the number before which its entries end.
 abbrev pub ownOf : List ℕ → ℕ → ℕ
 ownOf looks number = getD looks (number - 1) 0
 
@@ -40,7 +44,11 @@ otherOf looks number = getD looks (mostPolicies + (number - 1)) 0
 abbrev pub aimOf : List ℕ → ℕ → Bool
 aimOf looks number = eqb (getD looks (2 * mostPolicies + (number - 1)) 0) 1
 
--- so it is for each policy: its own column matters, and those before the number that stands for it in the second part
+-- of policy i, from 0 on
+abbrev pub endAt : List ℕ → ℕ → ℕ
+endAt looks i = getD looks (3 * mostPolicies + i) 0 + 256 * getD looks (4 * mostPolicies + i) 0
+
+-- of each policy its own column matters, and those before the number that stands for it in the second part
 pub record Depths (t s : List ℕ) (n : ℕ) (heads : List ℕ) (ps : List Policy) (looks : List ℕ) : Type 0 where
   pub few : (i : ℕ) → i < mostPolicies → getD looks i 0 < mostColumns
   pub steady : (number : ℕ) (policy : Policy) → Numbered number policy ps → Steady t s n heads policy (ownOf looks number) (otherOf looks number)
@@ -48,6 +56,45 @@ pub record Depths (t s : List ℕ) (n : ℕ) (heads : List ℕ) (ps : List Polic
 -- the targets that match a request
 pub record Aims (t : List ℕ) (q : Request) (ps : List Policy) (looks : List ℕ) : Type 0 where
   pub aimed : (number : ℕ) (policy : Policy) → Numbered number policy ps → aimOf looks number ≡ targetMatches q (policyWords t policy)
+
+-- the policy whose entries end before number `end`, and that it can be evaluated from its last entry
+abbrev pub policyEnding : List ℕ → ℕ → Policy
+policyEnding table end = policyAt table end (entryAt table (end - 1))
+
+abbrev pub LastEnding : List ℕ → List ℕ → ℕ → Type 0
+LastEnding t table end = Last t table end (entryAt table (end - 1))
+
+-- the entries of a policy end before number `end`
+pub record PolicyEnds (t table : List ℕ) (end : ℕ) (policy : Policy) : Type 0 where
+  pub last : LastEnding t table end
+  pub is : policyEnding table end ≡ policy
+
+-- so it is for each policy
+pub record Ends (t table : List ℕ) (ps : List Policy) (looks : List ℕ) : Type 0 where
+  pub ended : (number : ℕ) (policy : Policy) → Numbered number policy ps → PolicyEnds t table (endAt looks (number - 1)) policy
+
+-- ---- which policies are met again
+
+-- whether column number `from` or a later one can matter to policy i, from 0 on
+abbrev pub matters : List ℕ → ℕ → ℕ → Bool
+matters looks from i = leb from (getD looks i 0) || ltb from (getD looks (mostPolicies + i) 0)
+
+-- the mark of the policies to which such a column can matter
+pub record Late (looks : List ℕ) (policies from late : ℕ) : Type 0 where
+  pub set : (i : ℕ) → i < policies → isSet late i ≡ matters looks from i
+  pub below : late < 2 ^ policies
+
+-- The marks of a walk at a row: that of the policies which are met again, that of the row before, in which no bit is set beyond the last policy, and that of
+-- the permits.
+pub record Underway (w : Walk) (ps : List Policy) (looks : List ℕ) : Type 0 where
+  pub late : Late looks (w .policies) (w .from) (w .late)
+  pub below : w .mark < 2 ^ w .policies
+  pub permits : w .permits ≡ permitsOf ps
+
+-- the policies of some text end before entry number `entries`
+pub record ReadyOfSome (table : List ℕ) (entries : ℕ) : Type 0 where
+  pub text : List ℕ
+  pub ready : ReadyPolicies text table entries
 
 -- ---- notes
 
@@ -68,20 +115,28 @@ unfoldable pub satBy : Version → List ℕ → List ℕ → Sections → ℕ �
 satBy version t s p n heads q values column policy c =
     satisfied (under version (rowView s p n heads (set values column (cell s (p .end + 1) n column c)))) q (policyWords t policy)
 
--- the notes of the policies above number `low` and up to number `high` are right for these values
+-- the notes are right for these values
 pub record Noted (version : Version) (t s : List ℕ) (p : Sections) (n : ℕ) (heads : List ℕ) (q : Request) (ps : List Policy) (looks values : List ℕ)
-    (low high : ℕ) (notes : List ℕ) : Type 0 where
-  pub right : (number : ℕ) (policy : Policy) → Numbered number policy ps → low < number → number ≤ high
+    (notes : List ℕ) : Type 0 where
+  pub right : (number : ℕ) (policy : Policy) → Numbered number policy ps
       → RowSays notes (number - 1) (satBy version t s p n heads q values (ownOf looks number) policy)
 
--- the notes of the policies up to number `high` are right for some row that chooses alike in the columns before number `from`
+-- the mark is right for these values, as far as the policies go whose own column stands before number `from`
+pub record MarkTold (version : Version) (t s : List ℕ) (p : Sections) (n : ℕ) (heads : List ℕ) (q : Request) (ps : List Policy) (looks values : List ℕ)
+    (from mark : ℕ) : Type 0 where
+  pub told : (number : ℕ) (policy : Policy) → Numbered number policy ps → ownOf looks number < from
+      → isSet mark (number - 1) ≡ satisfied (under version (rowView s p n heads values)) q (policyWords t policy)
+
+-- the notes and the mark are right for some row that chooses alike in the columns before number `from`
 pub record Carried (version : Version) (t s : List ℕ) (p : Sections) (n : ℕ) (heads : List ℕ) (q : Request) (ps : List Policy) (looks values : List ℕ)
-    (from high : ℕ) (notes : List ℕ) : Type 0 where
+    (from : ℕ) (notes : List ℕ) (mark : ℕ) : Type 0 where
   pub before : List ℕ
   pub six : length before ≡ mostColumns
   pub alike : Alike from before values
-  pub noted : Noted version t s p n heads q ps looks before 0 high notes
+  pub noted : Noted version t s p n heads q ps looks before notes
+  pub told : MarkTold version t s p n heads q ps looks before from mark
   pub long : length notes ≡ notesSize
+  pub below : mark < 2 ^ length ps
 
 -- the row's choices are among eight, and its values stand at their places in the question's columns, which begin behind the sections
 pub record ChosenThere (s : List ℕ) (p : Sections) (n : ℕ) (choices values : List ℕ) : Type 0 where
@@ -89,12 +144,12 @@ pub record ChosenThere (s : List ℕ) (p : Sections) (n : ℕ) (choices values :
   pub six : length values ≡ mostColumns
   pub picked : (i : ℕ) → i < mostColumns → getD values i 0 ≡ cell s (p .end + 1) n i (getD choices i 0)
 
--- What is kept from row to row of a walk, for a request: which targets match, and notes that are right for a row that chooses alike in the columns before
--- number `from`.
+-- What is kept from row to row of a walk, for a request: which targets match, and notes and a mark that are right for a row that chooses alike in the columns
+-- before number `from`.
 pub record Kept (version : Version) (t s : List ℕ) (w : Walk) (heads : List ℕ) (q : Request) (ps : List Policy) (looks values : List ℕ) (from : ℕ)
-    (notes : List ℕ) : Type 0 where
+    (notes : List ℕ) (mark : ℕ) : Type 0 where
   pub aims : Aims t q ps looks
-  pub carried : Carried version t s (w .p) (w .n) heads q ps looks values from (w .policies) notes
+  pub carried : Carried version t s (w .p) (w .n) heads q ps looks values from notes mark
 
 -- ---- what the calls do
 
@@ -109,5 +164,5 @@ pub record Met (sat : ℕ → Bool) (i choice : ℕ) (before : List ℕ) (r : Bo
 pub record DecidedFrom (version : Version) (t s : List ℕ) (p : Sections) (n : ℕ) (heads : List ℕ) (q : Request) (ps : List Policy) (looks values : List ℕ)
     (r : Marked) (notes : List ℕ) : Type 0 where
   pub is : r ≡ policiesMarked (under version (rowView s p n heads values)) q (wordsOf t ps)
-  pub noted : Noted version t s p n heads q ps looks values 0 (length ps) notes
+  pub noted : Noted version t s p n heads q ps looks values notes
   pub long : length notes ≡ notesSize

@@ -1,7 +1,7 @@
 // What can matter to a policy in the rows of a question, found once: which columns its condition names, and whether its target matches.
 ghost use mathlib.Core.Path.{_≡_};
 ghost use mathlib.Core.Bool.{cond};
-ghost use Prim.Native.Nat.{_-_, _≤_, _<_};
+ghost use Prim.Native.Nat.{_+_, _-_, _*_, _/_, _%_, _≤_, _<_};
 ghost use lib.ListN.{length};
 ghost use Rattle.tokens.specs.Blanks.{unblanked};
 ghost use Rattle.tokens.specs.Sizes.{mostPolicies};
@@ -11,7 +11,7 @@ ghost use Rattle.stored.specs.Ready.{ReadyPolicies};
 ghost use Rattle.pages.specs.Rows.{Counted};
 ghost use Rattle.kept.specs.Columns.{naming, rootBy, columnOf, deeper, depthFrom};
 ghost use Rattle.targets.specs.Matching.{request, TypesOf};
-ghost use Rattle.kept.specs.Notes.{Depths, Aims};
+ghost use Rattle.kept.specs.Notes.{Depths, Aims, Ends, endAt};
 use questions::sizes::MOST_COLUMNS;
 use table::Entry;
 use table::entries;
@@ -112,11 +112,48 @@ fn one_if(b: bool) -> u8
     if b { 1 } else { 0 }
 }
 
+// A byte as a number that indexes.
+pub fn wide(byte: u8) -> usize
+    ensures { λ r. ⌜ r ≡ byte ⌝ }
+{
+    byte as usize
+}
+
 // Where the third part of what is found of each policy begins: whether its target matches.
 pub const AIMS: usize = 2 * MOST_POLICIES;
 
-// What each policy looks at, in three parts of 64 bytes: the last column that its condition names, its own, from 0 on; the last but that, from 1 on; and
-// whether its target matches the request.
+// Where the fourth part and the fifth begin: the low and the high byte of the number before which its entries end.
+const LOWS: usize = 3 * MOST_POLICIES;
+
+const HIGHS: usize = 4 * MOST_POLICIES;
+
+// How much is found.
+pub const LOOKS: usize = 5 * MOST_POLICIES;
+
+// The low byte of a number of two bytes, and the high one.
+fn low_of(number: usize) -> u8
+    requires { ⌜ number < fieldNumbers ⌝ }
+    ensures { λ r. ⌜ r ≡ number % 256 ⌝ }
+{
+    (number % 256) as u8
+}
+
+fn high_of(number: usize) -> u8
+    requires { ⌜ number < fieldNumbers ⌝ }
+    ensures { λ r. ⌜ r ≡ number / 256 ⌝ }
+{
+    (number / 256) as u8
+}
+
+// Two bytes as a number, the low byte first.
+fn joined(low: u8, high: u8) -> usize
+    ensures { λ r. ⌜ r ≡ low + 256 * high ⌝ }
+{
+    low as usize + 256 * (high as usize)
+}
+
+// What each policy looks at, in five parts of 64 bytes: the last column that its condition names, its own, from 0 on; the last but that, from 1 on;
+// whether its target matches the request; and two bytes that say where its entries end.
 pub fn looks(
     text: &[u8],
     table: &[u8],
@@ -129,7 +166,7 @@ pub fn looks(
     action: &[u8],
     resource: &[u8],
     types: Types,
-) -> [u8; 3 * MOST_POLICIES]
+) -> [u8; LOOKS]
     requires { ⌜ ReadyPolicies (now text) (now table) entries ⌝ }
     requires { ⌜ policies ≡ length (policiesAt (now table) entries) ⌝ }
     requires { ⌜ policies ≤ mostPolicies ⌝ }
@@ -138,8 +175,9 @@ pub fn looks(
     ensures { λ r. ⌜ Depths (now (text .entry)) (now (s .entry)) n (now (heads .entry)) (policiesAt (now (table .entry)) entries) r ⌝ }
     ensures { λ r. ⌜ Aims (now (text .entry)) (request (now (subject .entry)) (now (action .entry)) (now (resource .entry)))
         (policiesAt (now (table .entry)) entries) r ⌝ }
+    ensures { λ r. ⌜ Ends (now (text .entry)) (now (table .entry)) (policiesAt (now (table .entry)) entries) r ⌝ }
 {
-    let mut found = [0u8; 3 * MOST_POLICIES];
+    let mut found = [0u8; LOOKS];
     let mut end = entries;
     let mut number = policies;
     while 0 < end {
@@ -152,8 +190,18 @@ pub fn looks(
         found[i] = from_zero(own);
         found[MOST_POLICIES + i] = other;
         found[AIMS + i] = one_if(aimed);
+        found[LOWS + i] = low_of(end);
+        found[HIGHS + i] = high_of(end);
         end = x.first;
         number = i;
     }
     found
+}
+
+// Where the entries of policy i end, from 0 on.
+pub fn end_of(looks: &[u8; LOOKS], i: usize) -> usize
+    requires { ⌜ i < mostPolicies ⌝ }
+    ensures { λ r. ⌜ r ≡ endAt (now (looks .entry)) i ⌝ }
+{
+    joined(looks[LOWS + i], looks[HIGHS + i])
 }

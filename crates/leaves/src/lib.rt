@@ -3,9 +3,10 @@ pub mod likes;
 
 ghost use mathlib.Core.Path.{_≡_};
 ghost use mathlib.Core.List.{[]};
-ghost use Prim.Native.Nat.{_+_, _-_, _<_, _^_};
+ghost use Prim.Native.Nat.{_+_, _-_, _<_, _≤_, _^_};
 ghost use lib.ListN.{length};
 ghost use Rattle.tokens.specs.Tokens.{Reads};
+ghost use Rattle.tokens.specs.Sizes.{mostTextBytes};
 ghost use Rattle.reading.specs.Lexemes.{lexeme};
 ghost use Rattle.reading.specs.Reader.{mapped};
 ghost use Rattle.grammar.specs.Policies.{Span, span, Root, Comparator, Operand, compare, attribute, Which};
@@ -14,6 +15,7 @@ ghost use Rattle.grammar.specs.Parser.{read-operand, read-bare, read-in, read-p
 ghost use Rattle.table.specs.Entries.{operandEntry, treeEntries, comparatorKind, whichKind};
 ghost use Rattle.parts.specs.Answers.{ReadyToRead, DoneAt, callAfter};
 ghost use Rattle.parts.specs.Names.{rootFrom, comparing};
+ghost use Rattle.parts.specs.Shortened.{wide, shortOf, OfOperand, OfWay};
 use crate::likes::is_pattern;
 use parts::answers::Answer;
 use parts::answers::closed;
@@ -32,6 +34,8 @@ use parts::paths::read_placed;
 use parts::paths::read_way;
 use parts::paths::root_kind;
 use parts::refusals;
+use parts::short::short_refused;
+use parts::short::shortened;
 use table::Entry;
 use table::append;
 use table::entries;
@@ -207,7 +211,7 @@ fn read_bare(
 }
 
 // After a left operand.
-pub fn read_operator(
+fn read_relation(
     classes: &[u8; 256],
     text: &[u8],
     table: &mut [u8],
@@ -247,6 +251,26 @@ pub fn read_operator(
     read_bare(text, table, seen, left, t, number, same)
 }
 
+// The same with a short answer.
+pub fn read_operator(
+    classes: &[u8; 256],
+    text: &[u8],
+    table: &mut [u8],
+    seen: &[u8],
+    left: Entry,
+    t: Token,
+    number: usize,
+    same: bool,
+) -> u64
+    requires { ⌜ ReadyToRead (now classes) (now text) (number + 1) t × OfOperand left × (length (now text) ≤ mostTextBytes) ⌝ }
+    ensures done { λ r. ⌜ ((a : Operand) → operandEntry a ≡ left
+        → DoneAt treeEntries (now (text .entry)) (now (seen .entry)) t 1 number same (now (table .entry)) (now (table .exit)) (read-operator a) (wide r)) ⌝ }
+    ensures plain { λ r. ⌜ r ≡ shortOf (wide r) ⌝ }
+{
+    let all = read_relation(classes, text, table, seen, left, t, number, same);
+    shortened(all)
+}
+
 // After containsAll or containsAny, whose entry has this kind.
 fn read_call(
     classes: &[u8; 256],
@@ -277,7 +301,7 @@ fn read_call(
     expected(classes, text, call, b')')
 }
 
-// After an attribute as left operand, or after the word of the call that it begins.
+// After an attribute as left operand, or after the word of the call that it begins; the answer is short.
 fn read_rest(
     classes: &[u8; 256],
     text: &[u8],
@@ -287,11 +311,12 @@ fn read_rest(
     path: Path,
     number: usize,
     same: bool,
-) -> Answer
-    requires { ⌜ ReadyToRead (now classes) (now text) (number + 1) (path .next) ⌝ }
-    ensures { λ r. ⌜ ((way : parser.Way) → spannedBy way ≡ span (path .start) (path .end) → callAfter way ≡ path .call
+) -> u64
+    requires { ⌜ ReadyToRead (now classes) (now text) (number + 1) (path .next) × OfWay path × (length (now text) ≤ mostTextBytes) ⌝ }
+    ensures done { λ r. ⌜ ((way : parser.Way) → spannedBy way ≡ span (path .start) (path .end) → callAfter way ≡ path .call
         → DoneAt treeEntries (now (text .entry)) (now (seen .entry)) (path .next) 1 number same (now (table .entry)) (now (table .exit))
-        (read-rest (rootFrom root) way) r) ⌝ }
+        (read-rest (rootFrom root) way) (wide r)) ⌝ }
+    ensures plain { λ r. ⌜ r ≡ shortOf (wide r) ⌝ }
 {
     let left = Entry {
         kind: root_kind(root),
@@ -301,7 +326,7 @@ fn read_rest(
     if path.call == 0 {
         return read_operator(classes, text, table, seen, left, path.next, number, same);
     }
-    read_call(
+    let call = read_call(
         classes,
         text,
         table,
@@ -311,10 +336,11 @@ fn read_rest(
         path.next,
         number,
         same,
-    )
+    );
+    shortened(call)
 }
 
-// After a root: a left operand, or `has` and a path.
+// After a root: a left operand, or `has` and a path; the answer is short.
 pub fn read_rooted(
     classes: &[u8; 256],
     text: &[u8],
@@ -324,22 +350,23 @@ pub fn read_rooted(
     t: Token,
     number: usize,
     same: bool,
-) -> Answer
-    requires { ⌜ ReadyToRead (now classes) (now text) (number + 1) t ⌝ }
-    ensures { λ r. ⌜ DoneAt treeEntries (now (text .entry)) (now (seen .entry)) t 1 number same (now (table .entry)) (now (table .exit))
-        (read-rooted (rootFrom root)) r ⌝ }
+) -> u64
+    requires { ⌜ ReadyToRead (now classes) (now text) (number + 1) t × (length (now text) ≤ mostTextBytes) ⌝ }
+    ensures done { λ r. ⌜ DoneAt treeEntries (now (text .entry)) (now (seen .entry)) t 1 number same (now (table .entry)) (now (table .exit))
+        (read-rooted (rootFrom root)) (wide r) ⌝ }
+    ensures plain { λ r. ⌜ r ≡ shortOf (wide r) ⌝ }
 {
     if t.kind == b'.' {
         let name = next_token(classes, text, t.end);
         let way = read_way(classes, text, root, true, name);
         return match way {
-            Way::Lost(f) => Answer::Refused(f),
+            Way::Lost(f) => short_refused(f.number, f.start, f.size),
             Way::Found(path) => read_rest(classes, text, table, seen, root, path, number, same),
         };
     }
     if t.kind == kinds::HAS {
         let name = next_token(classes, text, t.end);
-        return read_placed(
+        let had = read_placed(
             classes,
             text,
             table,
@@ -350,6 +377,8 @@ pub fn read_rooted(
             number,
             same,
         );
+        return shortened(had);
     }
-    Answer::Refused(turned_away(text, t, refusals::NOT_ADMITTED))
+    let f = turned_away(text, t, refusals::NOT_ADMITTED);
+    short_refused(f.number, f.start, f.size)
 }

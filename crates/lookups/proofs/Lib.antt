@@ -5,3 +5,4 @@ pub mod Answers
 pub mod Opened
 pub mod Examples
 pub mod WordLaws
+pub mod IndexLaws

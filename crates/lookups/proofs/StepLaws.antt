@@ -7,7 +7,7 @@ use borrow.Author.Tests.{eq-eqb, ne-eqb}
 use native.Mathlib.Omega.{arith}
 use lib.Dec.{T}
 use lib.Ieee.{Float}
-use lib.ListN.{length}
+use lib.ListN.{length, List·getD-eq-default}
 use Rattle.numbers.specs.Bits.{numberAt}
 use Rattle.bags.specs.Reading.{byte, many}
 use Rattle.bags.specs.Values.{stringEnd, valueEnd}
@@ -15,7 +15,8 @@ use Rattle.bags.specs.declared.After.{After}
 use Rattle.bags.specs.declared.After.the-variants.{At}
 use Rattle.bags.proofs.ReadLaws.{same-end, first, many-more}
 use Rattle.bags.proofs.ValueLaws.{String, Number, Flag, Strings, string-at, Ended, string, number, flag, list, value-at}
-use Rattle.lookups.specs.Values.{nought, unit, absent, valueNumber, valueAt}
+use Rattle.lookups.specs.Values.{nought, unit, absent, valueNumber, valueAt, ShownAt}
+use Rattle.lookups.specs.declared.values.Value.{Value}
 
 -- ---- strings
 
@@ -132,3 +133,18 @@ module _ (s : List ℕ) (k : ℕ) where
   pub value-is : (x : Float) → (byte s k ≡ 0 → ⊥) → x ≡ valueNumber (byte s k) s (k + 1) → record { kind = byte s k; number = x; place = k + 1 } ≡ valueAt s k
   unfolding valueAt
   value-is x n e = simp (ne-eqb _ _ n, e)
+
+-- ---- past the end of the bytes nothing stands, and an attribute is absent
+
+pub past-the-end : (s : List ℕ) (k : ℕ) → length s ≤ k → absent ≡ valueAt s k
+past-the-end s k h = value-absent s k (List·getD-eq-default s 0 h)
+
+pub past-end : (s : List ℕ) → valueAt s (length s) ≡ absent
+past-end s = sym (past-the-end s (length s) (omega arith))
+
+-- what shows a value shows the same by another name; the end of the bytes shows that it is absent
+pub shown-as : (s : List ℕ) (k : ℕ) {v w : Value} → ShownAt s k v → v ≡ w → ShownAt s k w
+shown-as s k h e = record { is = h .is ∙ e; valued = h .valued }
+
+pub none-shown : (s : List ℕ) {w : Value} → absent ≡ w → ShownAt s (length s) w
+none-shown s e = record { is = past-end s ∙ e; valued = λ h. absurd (omega arith) }

@@ -1,5 +1,5 @@
 -- Bytes compared four at a time, as one number. Assumes nothing.
-use Prim.Native.Nat.{ℕ, _+_, _*_, _<_, _≤_}
+use Prim.Native.Nat.{ℕ, _+_, _<_, _≤_}
 use mathlib.Core.List.{List}
 use mathlib.Core.Bool.{Bool, true, false}
 use mathlib.Core.Path.{_≡_, refl, sym, ap, subst}
@@ -10,15 +10,13 @@ use lib.ListN.{length}
 use lib.Seq.{ext-getD}
 use Rattle.slices.specs.Same.{same}
 use Rattle.slices.specs.Decides.{Decides}
+use Rattle.slices.specs.Standing.{joinedOf}
 use Rattle.slices.proofs.Decided.{yes-to, no-to, refuted}
 use Rattle.slices.proofs.Equal.{same-is}
+use Rattle.slices.proofs.PieceLaws.{joined-bytes}
 use Rattle.bags.specs.Reading.{byte}
 
 -- ---- four bytes as one number
-
--- a number says its low byte, and the rest of it
-low-byte : (x y m n : ℕ) → x < 256 → y < 256 → x + 256 * m ≡ y + 256 * n → (x ≡ y) × (m ≡ n)
-low-byte x y m n h k e = (omega arith, omega arith)
 
 -- what holds at four places, one after the other, holds from the first up to the last
 of-four : (P : ℕ → Type 0) (i : ℕ) → P i → P (i + 1) → P (i + 2) → P (i + 3) → (k : ℕ) → i ≤ k → k < i + 4 → P k
@@ -33,8 +31,8 @@ of-four P i p q r s k l u = go (eqb k i) (eqb k (i + 1)) (eqb k (i + 2)) refl re
         let z : k ≡ i + 3 = omega arith in subst P (sym z) s
 
 module _ (a b : List ℕ) (i x y : ℕ) (u : (k : ℕ) → byte a k < 256) (v : (k : ℕ) → byte b k < 256)
-    (p : x ≡ byte a i + 256 * byte a (i + 1) + 65536 * byte a (i + 2) + 16777216 * byte a (i + 3))
-    (q : y ≡ byte b i + 256 * byte b (i + 1) + 65536 * byte b (i + 2) + 16777216 * byte b (i + 3)) where
+    (p : x ≡ joinedOf (byte a i) (byte a (i + 1)) (byte a (i + 2)) (byte a (i + 3)))
+    (q : y ≡ joinedOf (byte b i) (byte b (i + 1)) (byte b (i + 2)) (byte b (i + 3))) where
   -- two such numbers are equal exactly where the bytes are
   pub four-decides : Decides ((k : ℕ) → i ≤ k → k < i + 4 → byte a k ≡ byte b k) (eqb x y)
   four-decides = go (eqb x y) refl
@@ -42,10 +40,9 @@ module _ (a b : List ℕ) (i x y : ℕ) (u : (k : ℕ) → byte a k < 256) (v : 
       go : (r : Bool) → eqb x y ≡ r → Decides ((k : ℕ) → i ≤ k → k < i + 4 → byte a k ≡ byte b k) r
       go true e =
           let n = eqb-true x y e in
-          let h1 = low-byte (byte a i) (byte b i) (byte a (i + 1) + 256 * (byte a (i + 2) + 256 * byte a (i + 3))) (byte b (i + 1) + 256 * (byte b (i + 2) + 256 * byte b (i + 3))) (u i) (v i) (omega arith) in
-          let h2 = low-byte (byte a (i + 1)) (byte b (i + 1)) (byte a (i + 2) + 256 * byte a (i + 3)) (byte b (i + 2) + 256 * byte b (i + 3)) (u (i + 1)) (v (i + 1)) (h1 .1) in
-          let h3 = low-byte (byte a (i + 2)) (byte b (i + 2)) (byte a (i + 3)) (byte b (i + 3)) (u (i + 2)) (v (i + 2)) (h2 .1) in
-          yes-to (of-four (λ (k : ℕ). byte a k ≡ byte b k) i (h1 .0) (h2 .0) (h3 .0) (h3 .1))
+          let h = joined-bytes (byte a i) (byte a (i + 1)) (byte a (i + 2)) (byte a (i + 3)) (byte b i) (byte b (i + 1)) (byte b (i + 2)) (byte b (i + 3))
+          (u i) (u (i + 1)) (u (i + 2)) (u (i + 3)) (v i) (v (i + 1)) (v (i + 2)) (v (i + 3)) (omega arith) in
+          yes-to (of-four (λ (k : ℕ). byte a k ≡ byte b k) i (h .0) (h .1) (h .2) (h .3))
       go false e =
           no-to (λ h.
           let k1 = h i (omega arith) (omega arith) in let k2 = h (i + 1) (omega arith) (omega arith) in

@@ -1,2 +1,3 @@
 pub mod Values
 pub mod Lookups
+pub mod Index

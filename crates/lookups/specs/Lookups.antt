@@ -1,7 +1,8 @@
 -- What a look-up by bag, root byte and dotted path answers. Definitions only.
-use Prim.Native.Nat.{ℕ, _+_}
+use Prim.Native.Nat.{ℕ, suc, _+_}
 use mathlib.Core.List.{List, [], _∷_}
 use mathlib.Core.Bool.{cond}
+use mathlib.Core.Path.{_≡_}
 use lib.Dec.{eqb}
 use lib.Ieee.{Float}
 use Rattle.slices.specs.Same.{same}
@@ -9,6 +10,7 @@ use Rattle.bags.specs.Reading.{byte, each}
 use Rattle.bags.specs.Sections.{pathAt, kindAt, entryEnd, sectionsOf, isBag}
 -- a path and what stands under it
 pub use Rattle.bags.specs.Data.{Entry}
+use Rattle.bags.specs.declared.After.the-variants.{At}
 use Rattle.bags.specs.declared.sections.Sections.{Sections}
 use Rattle.bags.specs.declared.sections.Divided.{Divided}
 use Rattle.bags.specs.declared.sections.Divided.the-variants.{In, Broken}
@@ -30,6 +32,11 @@ bagEntryAt s at e = record { path = pathAt s at; value = valueAt s (kindAt s at)
 -- the entries of the section whose count byte stands at b
 unfoldable pub sectionAt : List ℕ → ℕ → List (Entry Value)
 sectionAt s b = each (byte s b) (entryEnd s) (bagEntryAt s) (b + 1)
+
+-- of n entries from a place on, one starts at the other place
+pub data EntryOf (s : List ℕ) : ℕ → ℕ → ℕ → Type 0 where
+  the-first : {n at next : ℕ} → entryEnd s at ≡ At next → EntryOf s (suc n) at at
+  a-later : {n at next entry : ℕ} → entryEnd s at ≡ At next → EntryOf s n next entry → EntryOf s (suc n) at entry
 
 -- the section of a root byte: 1 principal, 2 resource, 3 env; any other has none
 unfoldable pub baseOf : List ℕ → Sections → ℕ → List (Entry Value)

@@ -39,3 +39,9 @@ pub record Valued (s : List ℕ) (k : ℕ) : Type 0 where
 -- a value that is not absent lies in the bytes as a whole
 abbrev pub ValueWhole : List ℕ → Value → Type 0
 ValueWhole s v = (v .kind ≡ 0 → ⊥) → (e : ℕ) × (valueEnd (v .kind) s (v .place) ≡ At e)
+
+-- a place shows a value: its kind byte stands there, and after it, unless it is 0, a value that is whole; past the end of the bytes nothing stands, and it
+-- shows that the attribute is absent
+pub record ShownAt (s : List ℕ) (k : ℕ) (v : Value) : Type 0 where
+  pub is : valueAt s k ≡ v
+  pub valued : k < length s → Valued s k

@@ -1,26 +1,11 @@
 // Bytes compared four at a time: paths and short strings take fewer steps so.
 ghost use mathlib.Core.Path.{_≡_};
-ghost use Prim.Native.Nat.{ℕ, _+_, _*_, _<_, _≤_};
+ghost use Prim.Native.Nat.{ℕ, _+_, _<_, _≤_};
 ghost use lib.ListN.{length};
 ghost use Rattle.slices.specs.Decides.{Decides};
 ghost use Rattle.slices.specs.Same.{same};
 ghost use Rattle.bags.specs.Reading.{byte};
-
-// Four bytes as one number.
-fn joined(a: u8, b: u8, c: u8, d: u8) -> u32
-    ensures { λ r. ⌜ r ≡ a + 256 * b + 65536 * c + 16777216 * d ⌝ }
-{
-    a as u32 + 256 * (b as u32) + 65536 * (c as u32) + 16777216 * (d as u32)
-}
-
-// The four bytes from `i` on as one number.
-fn word(a: &[u8], i: usize) -> u32
-    requires { ⌜ i + 4 ≤ length (now a) ⌝ }
-    ensures { λ r. ⌜ r ≡ byte (now (a .entry)) i + 256 * byte (now (a .entry)) (i + 1)
-        + 65536 * byte (now (a .entry)) (i + 2) + 16777216 * byte (now (a .entry)) (i + 3) ⌝ }
-{
-    joined(a[i], a[i + 1], a[i + 2], a[i + 3])
-}
+use slices::pieces::four_from;
 
 // Whether a and b have the same four bytes from `i` on.
 fn same_four(a: &[u8], b: &[u8], i: usize) -> bool
@@ -28,7 +13,7 @@ fn same_four(a: &[u8], b: &[u8], i: usize) -> bool
     requires { ⌜ i + 4 ≤ length (now b) ⌝ }
     ensures { λ r. ⌜ Decides ((k : ℕ) → i ≤ k → k < i + 4 → byte (now (a .entry)) k ≡ byte (now (b .entry)) k) r ⌝ }
 {
-    word(a, i) == word(b, i)
+    four_from(a, i) == four_from(b, i)
 }
 
 // Whether a and b, of one length, hold the same bytes: four at a time, and the last four first, in which paths that begin alike mostly differ.

@@ -12,13 +12,12 @@ ghost use Rattle.bags.specs.Paths.{isPath};
 ghost use Rattle.bags.specs.Sections.{entryEnd, sectionEnd, Sectioned};
 ghost use Rattle.bags.specs.declared.After.the-variants.{At};
 ghost use Rattle.tokens.specs.Blanks.{unblanked};
-ghost use Rattle.lookups.specs.Values.{absent};
+ghost use Rattle.lookups.specs.Values.{absent, ShownAt};
 ghost use Rattle.lookups.specs.Lookups.{lookIn, bagEntryAt, sectionAt, baseOf};
 use crate::bytes::same_bytes;
 use crate::steps::value_next;
 use crate::values::Value;
-use crate::values::absent_value;
-use crate::values::value_from;
+use crate::values::value_at;
 use bags::sections::Sections;
 
 fn is_blank(c: u8) -> bool
@@ -85,10 +84,11 @@ fn is_named(s: &[u8], at: usize, n: usize, lead: u8, path: &[u8]) -> bool
     same_path(s, at, n, path)
 }
 
-// Among the `n` entries from `at`, the value of the one with this path.
-fn find_in(n: usize, path: &[u8], s: &[u8], at: usize) -> Value
+// Among the `n` entries from `at`, the place of the kind byte of the one with this path; the end of the bytes, where nothing stands, for none.
+fn find_in(n: usize, path: &[u8], s: &[u8], at: usize) -> usize
     requires { ⌜ ((e : ℕ) × (many n (entryEnd (now s)) at ≡ At e)) ⌝ }
-    ensures { λ r. ⌜ r ≡ lookIn absent (each n (entryEnd (now (s .entry))) (bagEntryAt (now (s .entry))) at) (unblanked (now (path .entry))) ⌝ }
+    ensures { λ r. ⌜ ShownAt (now (s .entry)) r
+        (lookIn absent (each n (entryEnd (now (s .entry))) (bagEntryAt (now (s .entry))) at) (unblanked (now (path .entry)))) ⌝ }
 {
     let lead = lead_of(path);
     let mut left = n;
@@ -98,20 +98,37 @@ fn find_in(n: usize, path: &[u8], s: &[u8], at: usize) -> Value
         let start = next + 1;
         let kind_at = start + size;
         if is_named(s, start, size, lead, path) {
-            return value_from(s, kind_at);
+            return kind_at;
         }
         next = value_next(s[kind_at], s, kind_at + 1);
         left -= 1;
     }
-    absent_value()
+    s.len()
 }
 
-// The attribute in the section whose count byte stands at `b`.
-fn section_value(s: &[u8], b: usize, path: &[u8]) -> Value
+// The place of the attribute in the section whose count byte stands at `b`.
+fn section_place(s: &[u8], b: usize, path: &[u8]) -> usize
     requires { ⌜ ((e : ℕ) × (sectionEnd (now s) b ≡ At e)) ⌝ }
-    ensures { λ r. ⌜ r ≡ lookIn absent (sectionAt (now (s .entry)) b) (unblanked (now (path .entry))) ⌝ }
+    ensures { λ r. ⌜ ShownAt (now (s .entry)) r (lookIn absent (sectionAt (now (s .entry)) b) (unblanked (now (path .entry)))) ⌝ }
 {
     find_in(s[b] as usize, path, s, b + 1)
+}
+
+// The place of the attribute in the section of a root byte: that of its kind byte, or the end of the bytes where it is absent.
+pub fn base_place(s: &[u8], p: Sections, root: u8, path: &[u8]) -> usize
+    requires { ⌜ Sectioned (now s) p ⌝ }
+    ensures { λ r. ⌜ ShownAt (now (s .entry)) r (lookIn absent (baseOf (now (s .entry)) p root) (unblanked (now (path .entry)))) ⌝ }
+{
+    if root == 1 {
+        return section_place(s, 0, path);
+    }
+    if root == 2 {
+        return section_place(s, p.resource, path);
+    }
+    if root == 3 {
+        return section_place(s, p.env, path);
+    }
+    s.len()
 }
 
 // The attribute in the section of a root byte.
@@ -119,14 +136,6 @@ pub fn base_value(s: &[u8], p: Sections, root: u8, path: &[u8]) -> Value
     requires { ⌜ Sectioned (now s) p ⌝ }
     ensures { λ r. ⌜ r ≡ lookIn absent (baseOf (now (s .entry)) p root) (unblanked (now (path .entry))) ⌝ }
 {
-    if root == 1 {
-        return section_value(s, 0, path);
-    }
-    if root == 2 {
-        return section_value(s, p.resource, path);
-    }
-    if root == 3 {
-        return section_value(s, p.env, path);
-    }
-    absent_value()
+    let k = base_place(s, p, root, path);
+    value_at(s, k)
 }

@@ -1,6 +1,7 @@
 // Read values.
 ghost use mathlib.Core.Path.{_≡_};
-ghost use Prim.Native.Nat.{ℕ};
+ghost use Prim.Native.Nat.{ℕ, _<_};
+ghost use lib.ListN.{length};
 ghost use Rattle.bags.specs.Values.{valueEnd};
 ghost use Rattle.bags.specs.declared.After.the-variants.{At};
 ghost use Rattle.lookups.specs.Values.{absent, valueNumber, valueAt, Valued};
@@ -53,4 +54,15 @@ pub fn value_from(s: &[u8], k: usize) -> Value
         number: number_of(kind, s, place),
         place: place,
     }
+}
+
+// The value whose kind byte stands at `k`, or none where `k` is the end of the bytes.
+pub fn value_at(s: &[u8], k: usize) -> Value
+    requires { ⌜ (k < length (now s) → Valued (now s) k) ⌝ }
+    ensures { λ r. ⌜ r ≡ valueAt (now (s .entry)) k ⌝ }
+{
+    if k < s.len() {
+        return value_from(s, k);
+    }
+    absent_value()
 }

@@ -14,7 +14,6 @@ use Rattle.numbers.specs.Literals.{numberIn}
 use Rattle.bags.specs.Reading.{byte}
 use Rattle.bags.specs.Values.{listEnd}
 use Rattle.bags.specs.declared.After.the-variants.{At}
-use Rattle.bags.specs.declared.sections.Sections.{Sections}
 use Rattle.bags.proofs.ReadLaws.{part-to}
 use Rattle.bags.proofs.ValueLaws.{value-list}
 use Rattle.lookups.specs.Values.{nought, unit, ValueWhole}
@@ -22,7 +21,7 @@ use Rattle.lookups.specs.declared.values.Value.{Value}
 use Rattle.lookups.proofs.StepLaws.{as-string}
 use Rattle.views.specs.Meaning.{Datum, text, number, flag, View}
 use Rattle.views.specs.Values.{stringAt, listAt, datumOf}
-use Rattle.views.specs.Rows.{rowValue, rowView, RowStands}
+use Rattle.views.specs.Places.{placedValue, placedView, RowAt}
 use Rattle.views.proofs.RowLaws.{row-reads}
 use Rattle.grammar.specs.Policies.{Root.Principal, rootByte, Root.Resource, Root.Env, Root.Action, Literal, text as textLiteral, number as numberLiteral, truth, Operand, attribute, literal}
 use Rattle.placing.specs.Placed.{bytesAt, quotedAt, unblankedAt, StringPlaced, NumberPlaced, PathPlaced, LiteralPlaced, a-string, a-number, a-truth, OperandPlaced, an-attribute, a-literal}
@@ -106,20 +105,20 @@ module _ (t : List ℕ) where
 
 -- ---- what is read, as the code's tests tell it apart
 
-module _ (t s : List ℕ) (p : Sections) (n : ℕ) (heads values : List ℕ) (o : Entry) where
-  pub read-bag : ofBag (o .kind) ≡ true → rowValue s p n heads values (o .kind) (unblankedAt t (spanOfEntry o)) ≡ attributeRead t s p n heads values o
+module _ (t s : List ℕ) (places values : List ℕ) (o : Entry) where
+  pub read-bag : ofBag (o .kind) ≡ true → placedValue s places values (o .kind) (unblankedAt t (spanOfEntry o)) ≡ attributeRead t s places values o
   unfolding attributeRead
   read-bag b = simp b
 
-  pub read-action : ofBag (o .kind) ≡ false → aString ≡ attributeRead t s p n heads values o
+  pub read-action : ofBag (o .kind) ≡ false → aString ≡ attributeRead t s places values o
   unfolding attributeRead
   read-action b = simp b
 
-  pub read-attribute : o .kind ≤ 4 → attributeRead t s p n heads values o ≡ operandRead t s p n heads values o
+  pub read-attribute : o .kind ≤ 4 → attributeRead t s places values o ≡ operandRead t s places values o
   unfolding operandRead
   read-attribute h = rw (le-leb (o .kind) 4 h)
 
-  pub read-literal : 4 < o .kind → literalRead t o ≡ operandRead t s p n heads values o
+  pub read-literal : 4 < o .kind → literalRead t o ≡ operandRead t s places values o
   unfolding operandRead
   read-literal h = rw (lt-leb (o .kind) 4 h)
 
@@ -217,9 +216,9 @@ string-alike v b x y l h = simp h (go (eqb (v .kind) 1) _)
     go true d = refl
     go false d = refl
 
-module _ (t s : List ℕ) (p : Sections) (n : ℕ) (heads values : List ℕ) (action : List ℕ) (o : Entry) where
+module _ (t s : List ℕ) (places values : List ℕ) (action : List ℕ) (o : Entry) where
   seen-in-bag : ofBag (o .kind) ≡ true
-      → rowView s p n heads values (o .kind) (unblankedAt t (spanOfEntry o)) ≡ attributeValue (withAction action (rowView s p n heads values)) (rootOfKind (o .kind)) (unblankedAt t (spanOfEntry o))
+      → placedView s places values (o .kind) (unblankedAt t (spanOfEntry o)) ≡ attributeValue (withAction action (placedView s places values)) (rootOfKind (o .kind)) (unblankedAt t (spanOfEntry o))
   unfolding attributeValue withAction
   seen-in-bag b =
       let w = and-eq-true-iff (leb 1 (o .kind)) (leb (o .kind) 3) .0 b in
@@ -228,50 +227,50 @@ module _ (t s : List ℕ) (p : Sections) (n : ℕ) (heads values : List ℕ) (ac
       rw (bag-root (o .kind) b, ne-eqb (o .kind) 4 q)
 
   seen-action : ofBag (o .kind) ≡ false → PathPlaced t (rootOfKind (o .kind)) (spanOfEntry o)
-      → text action ≡ attributeValue (withAction action (rowView s p n heads values)) (rootOfKind (o .kind)) (unblankedAt t (spanOfEntry o))
+      → text action ≡ attributeValue (withAction action (placedView s places values)) (rootOfKind (o .kind)) (unblankedAt t (spanOfEntry o))
   unfolding attributeValue withAction
   seen-action b placed = let e = other-root (o .kind) b in rw (placed .action e, e) (simp (same-itself (bytes "name")))
 
-module _ (t s : List ℕ) (p : Sections) (n : ℕ) (heads values : List ℕ) (stands : RowStands s p n heads values) where
-  pub attribute-is : (action : List ℕ) (o : Entry) (v : Value) → PathPlaced t (rootOfKind (o .kind)) (spanOfEntry o) → v ≡ attributeRead t s p n heads values o
-      → datumOf v (stringUnder s action o v) (listAt s (v .place)) ≡ attributeValue (withAction action (rowView s p n heads values)) (rootOfKind (o .kind)) (unblankedAt t (spanOfEntry o))
+module _ (t s : List ℕ) (places values : List ℕ) (stands : RowAt s places values) where
+  pub attribute-is : (action : List ℕ) (o : Entry) (v : Value) → PathPlaced t (rootOfKind (o .kind)) (spanOfEntry o) → v ≡ attributeRead t s places values o
+      → datumOf v (stringUnder s action o v) (listAt s (v .place)) ≡ attributeValue (withAction action (placedView s places values)) (rootOfKind (o .kind)) (unblankedAt t (spanOfEntry o))
   attribute-is action o v placed e = go (ofBag (o .kind)) refl
     where
       action-is : (b : Bool) → b ≡ false → datumOf aString (cond b (stringAt s 0) action) (listAt s 0) ≡ text action
       action-is b h = rw h (datum-text aString action (listAt s 0) refl)
 
       go : (b : Bool) → ofBag (o .kind) ≡ b
-          → datumOf v (stringUnder s action o v) (listAt s (v .place)) ≡ attributeValue (withAction action (rowView s p n heads values)) (rootOfKind (o .kind)) (unblankedAt t (spanOfEntry o))
+          → datumOf v (stringUnder s action o v) (listAt s (v .place)) ≡ attributeValue (withAction action (placedView s places values)) (rootOfKind (o .kind)) (unblankedAt t (spanOfEntry o))
       go true b =
-          let r = row-reads s p n heads values stands (o .kind) (unblankedAt t (spanOfEntry o)) in
-          let is = e ∙ sym (read-bag t s p n heads values o b) in
+          let r = row-reads s _ _ _ values (stands .stands) (o .kind) (unblankedAt t (spanOfEntry o)) in
+          let is = e ∙ sym (read-bag t s places values o b) in
           string-alike v (ofBag (o .kind)) (stringAt s (v .place)) action (listAt s (v .place)) b
           ∙ ap (λ (v : Value). datumOf v (stringAt s (v .place)) (listAt s (v .place))) is ∙ r .is
-          ∙ seen-in-bag t s p n heads values action o b
+          ∙ seen-in-bag t s places values action o b
       go false b =
-          rw (e ∙ sym (read-action t s p n heads values o b)) (action-is (ofBag (o .kind)) b ∙ seen-action t s p n heads values action o b placed)
+          rw (e ∙ sym (read-action t s places values o b)) (action-is (ofBag (o .kind)) b ∙ seen-action t s places values action o b placed)
 
   -- a list that is read lies in the bytes
-  pub attribute-list : (o : Entry) (v : Value) → v ≡ attributeRead t s p n heads values o → v .kind ≡ 4 → (e : ℕ) × (listEnd s (v .place) ≡ At e)
+  pub attribute-list : (o : Entry) (v : Value) → v ≡ attributeRead t s places values o → v .kind ≡ 4 → (e : ℕ) × (listEnd s (v .place) ≡ At e)
   attribute-list o v e k = go (ofBag (o .kind)) refl
     where
       go : (b : Bool) → ofBag (o .kind) ≡ b → (e : ℕ) × (listEnd s (v .place) ≡ At e)
       go true b =
-          let r = row-reads s p n heads values stands (o .kind) (unblankedAt t (spanOfEntry o)) in
-          let whole = subst (ValueWhole s) (read-bag t s p n heads values o b ∙ sym e) (r .whole) in
+          let r = row-reads s _ _ _ values (stands .stands) (o .kind) (unblankedAt t (spanOfEntry o)) in
+          let whole = subst (ValueWhole s) (read-bag t s places values o b ∙ sym e) (r .whole) in
           let w = whole (λ z. omega arith) in (w .0, value-list (v .kind) s (v .place) k ∙ w .1)
       go false b =
-          let is = e ∙ sym (read-action t s p n heads values o b) in
+          let is = e ∙ sym (read-action t s places values o b) in
           let z : v .kind ≡ 1 = ap (λ (v : Value). v .kind) is in absurd (omega arith)
 
   -- a value of the bag lies in the bytes as a whole
-  pub operand-whole : (o : Entry) (v : Value) → v ≡ operandRead t s p n heads values o → ofBag (o .kind) ≡ true → ValueWhole s v
+  pub operand-whole : (o : Entry) (v : Value) → v ≡ operandRead t s places values o → ofBag (o .kind) ≡ true → ValueWhole s v
   operand-whole o v e b =
       let w = and-eq-true-iff (leb 1 (o .kind)) (leb (o .kind) 3) .0 b in
       let h : o .kind ≤ 3 = leb-true (o .kind) 3 (w .1) in
       let l : o .kind ≤ 4 = omega arith in
-      subst (ValueWhole s) (read-bag t s p n heads values o b ∙ read-attribute t s p n heads values o l ∙ sym e)
-      (row-reads s p n heads values stands (o .kind) (unblankedAt t (spanOfEntry o)) .whole)
+      subst (ValueWhole s) (read-bag t s places values o b ∙ read-attribute t s places values o l ∙ sym e)
+      (row-reads s _ _ _ values (stands .stands) (o .kind) (unblankedAt t (spanOfEntry o)) .whole)
 
 -- ---- literals
 
@@ -322,21 +321,21 @@ outside o h = let l : 3 < o .kind = omega arith in rw (lt-leb (o .kind) 3 l) (go
     go true = refl
     go false = refl
 
-module _ (t s : List ℕ) (p : Sections) (n : ℕ) (heads values : List ℕ) (stands : RowStands s p n heads values) where
-  pub operand-is : (action : List ℕ) (o : Entry) (v : Value) (x : List ℕ) → OperandPlaced t (operandOfEntry o) → v ≡ operandRead t s p n heads values o → x ≡ stringOf t s action o v
-      → datumOf v x (listAt s (v .place)) ≡ meant t s p n heads values action o
+module _ (t s : List ℕ) (places values : List ℕ) (stands : RowAt s places values) where
+  pub operand-is : (action : List ℕ) (o : Entry) (v : Value) (x : List ℕ) → OperandPlaced t (operandOfEntry o) → v ≡ operandRead t s places values o → x ≡ stringOf t s action o v
+      → datumOf v x (listAt s (v .place)) ≡ meant t s places values action o
   operand-is action o v x placed e string = go (leb (o .kind) 4) refl
     where
-      go : (b : Bool) → leb (o .kind) 4 ≡ b → datumOf v x (listAt s (v .place)) ≡ meant t s p n heads values action o
+      go : (b : Bool) → leb (o .kind) 4 ≡ b → datumOf v x (listAt s (v .place)) ≡ meant t s places values action o
       go true b =
           let h : o .kind ≤ 4 = leb-true (o .kind) 4 b in
           let n9 : o .kind ≡ 9 → ⊥ = λ k. omega arith in
           ap (λ (x : List ℕ). datumOf v x (listAt s (v .place))) (string ∙ unquoted t s action o v n9)
-          ∙ attribute-is t s p n heads values stands action o v (path-placed t o h placed) (e ∙ sym (read-attribute t s p n heads values o h))
-          ∙ sym (attribute-meant t (withAction action (rowView s p n heads values)) o h)
+          ∙ attribute-is t s places values stands action o v (path-placed t o h placed) (e ∙ sym (read-attribute t s places values o h))
+          ∙ sym (attribute-meant t (withAction action (placedView s places values)) o h)
       go false b =
           let h : 4 < o .kind = leb-false (o .kind) 4 b in
-          let is = e ∙ sym (read-literal t s p n heads values o h) in
+          let is = e ∙ sym (read-literal t s places values o h) in
           literal-is t o v x (listAt s (v .place)) is
           (λ k. string ∙ sym (string-quoted t s action o v (ap (λ (v : Value). v .kind) (is ∙ sym (read-string t o k))) (outside o h) k))
-          ∙ sym (literal-meant t (withAction action (rowView s p n heads values)) o h)
+          ∙ sym (literal-meant t (withAction action (placedView s places values)) o h)

@@ -5,12 +5,11 @@ use mathlib.Core.List.{List}
 use mathlib.Core.Bool.{Bool, _&&_, cond}
 use lib.Dec.{eqb, leb}
 use Rattle.numbers.specs.Literals.{numberIn}
-use Rattle.bags.specs.declared.sections.Sections.{Sections}
 use Rattle.lookups.specs.Values.{nought, unit}
 use Rattle.lookups.specs.declared.values.Value.{Value}
 use Rattle.views.specs.Meaning.{View, Datum}
 use Rattle.views.specs.Values.{stringAt}
-use Rattle.views.specs.Rows.{rowValue, rowView}
+use Rattle.views.specs.Places.{placedValue, placedView}
 use Rattle.grammar.specs.Policies.{Comparator.Equal, Literal, Which, Which.All, Which.Any, Tree}
 use Rattle.placing.specs.Placed.{bytesAt, quotedAt, unblankedAt}
 use Rattle.placing.specs.Said.{literalWords, operandWords, treeWords}
@@ -32,8 +31,8 @@ abbrev pub ofBag : ℕ → Bool
 ofBag root = leb 1 root && leb root 3
 
 -- an attribute: of the row, or the action's name
-unfoldable pub attributeRead : List ℕ → List ℕ → Sections → ℕ → List ℕ → List ℕ → Entry → Value
-attributeRead t s p n heads values o = cond (ofBag (o .kind)) (rowValue s p n heads values (o .kind) (unblankedAt t (spanOfEntry o))) aString
+unfoldable pub attributeRead : List ℕ → List ℕ → List ℕ → List ℕ → Entry → Value
+attributeRead t s places values o = cond (ofBag (o .kind)) (placedValue s places values (o .kind) (unblankedAt t (spanOfEntry o))) aString
 
 -- a literal: a string, a number, or `true` or `false`
 unfoldable pub literalRead : List ℕ → Entry → Value
@@ -43,8 +42,8 @@ literalRead t o =
     (record { kind = 3; number = cond (eqb (o .kind) trueKind) unit nought; place = 0 }))
 
 -- an operand: an attribute or a literal, by its entry's kind
-unfoldable pub operandRead : List ℕ → List ℕ → Sections → ℕ → List ℕ → List ℕ → Entry → Value
-operandRead t s p n heads values o = cond (leb (o .kind) actionKind) (attributeRead t s p n heads values o) (literalRead t o)
+unfoldable pub operandRead : List ℕ → List ℕ → List ℕ → List ℕ → Entry → Value
+operandRead t s places values o = cond (leb (o .kind) actionKind) (attributeRead t s places values o) (literalRead t o)
 
 -- ---- the bytes of a value's string
 
@@ -62,20 +61,20 @@ abbrev pub whichBy : Bool → Which
 whichBy any = cond any Any All
 
 -- a row's attributes, under an action
-abbrev pub seen : List ℕ → Sections → ℕ → List ℕ → List ℕ → List ℕ → View
-seen s p n heads values action = withAction action (rowView s p n heads values)
+abbrev pub seen : List ℕ → List ℕ → List ℕ → List ℕ → View
+seen s places values action = withAction action (placedView s places values)
 
 -- an operand's value there
-abbrev pub meant : List ℕ → List ℕ → Sections → ℕ → List ℕ → List ℕ → List ℕ → Entry → Datum
-meant t s p n heads values action o = operandValue (seen s p n heads values action) (operandWords t (operandOfEntry o))
+abbrev pub meant : List ℕ → List ℕ → List ℕ → List ℕ → List ℕ → Entry → Datum
+meant t s places values action o = operandValue (seen s places values action) (operandWords t (operandOfEntry o))
 
 -- the value there of an attribute, by the entry of its path
-abbrev pub meantPath : List ℕ → List ℕ → Sections → ℕ → List ℕ → List ℕ → List ℕ → Entry → Datum
-meantPath t s p n heads values action o = attributeValue (seen s p n heads values action) (rootOfKind (o .kind)) (unblankedAt t (spanOfEntry o))
+abbrev pub meantPath : List ℕ → List ℕ → List ℕ → List ℕ → List ℕ → Entry → Datum
+meantPath t s places values action o = attributeValue (seen s places values action) (rootOfKind (o .kind)) (unblankedAt t (spanOfEntry o))
 
 -- a condition's verdict there, where `settles` says whether an absent attribute makes an operator false
-abbrev pub verdictSeen : Bool → List ℕ → List ℕ → Sections → ℕ → List ℕ → List ℕ → List ℕ → Tree → Verdict
-verdictSeen settles t s p n heads values action c = verdict settles (seen s p n heads values action) (treeWords t c)
+abbrev pub verdictSeen : Bool → List ℕ → List ℕ → List ℕ → List ℕ → List ℕ → Tree → Verdict
+verdictSeen settles t s places values action c = verdict settles (seen s places values action) (treeWords t c)
 
 -- whether a value is the same as one of these literals
 abbrev pub amongLiterals : List ℕ → Datum → List Literal → Bool

@@ -3,9 +3,9 @@
 ghost use mathlib.Core.Path.{_≡_};
 ghost use mathlib.Core.Bool.{false, cond};
 ghost use mathlib.Core.List.{List};
-ghost use Prim.Native.Nat.{ℕ, _+_, _<_, _≤_};
+ghost use Prim.Native.Nat.{ℕ, _+_, _-_, _<_, _≤_};
 ghost use Rattle.views.specs.Meaning.{present};
-ghost use Rattle.views.specs.Rows.{RowStands};
+ghost use Rattle.views.specs.Places.{RowAt};
 ghost use Rattle.placing.specs.Placed.{quotedAt, Each, StringPlaced, PathPlaced, LiteralPlaced, OperandPlaced};
 ghost use Rattle.table.specs.Kinds.{falseKind, inAttributeKind, containsAnyKind};
 ghost use Rattle.table.specs.Layout.{entriesIn, entryAt};
@@ -24,13 +24,15 @@ use crate::operands::operand_value;
 use crate::operands::quoted;
 use crate::values::is_present;
 use crate::values::values_hold;
-use bags::sections::Sections;
+use lookups::index::PLACES;
 use lookups::values::Value;
+use lookups::values::value_at;
 use meaning::Verdict;
 use questions::sizes::MOST_COLUMNS;
 use table::Entry;
 use table::entries;
 use table::entry_in;
+use views::attribute;
 
 // Kinds of entries have names (table::entries, docs/TABLE.md), and so have kinds of values, which are a bag's (bags::values).
 
@@ -63,18 +65,23 @@ fn has_attribute(
     text: &[u8],
     o: Entry,
     s: &[u8],
-    p: Sections,
-    n: usize,
-    heads: &[usize; MOST_COLUMNS],
+    places: &[u16; PLACES],
     values: &[usize; MOST_COLUMNS],
 ) -> bool
     requires { ⌜ PathPlaced (now text) (rootOfKind (o .kind)) (spanOfEntry o) ⌝ }
-    requires { ⌜ RowStands (now s) p n (now heads) (now values) ⌝ }
+    requires { ⌜ RowAt (now s) (now places) (now values) ⌝ }
     ensures { λ r. ⌜ ((action : List ℕ) → r ≡ present
-        (meantPath (now (text .entry)) (now (s .entry)) p n (now (heads .entry)) (now (values .entry)) action o)) ⌝ }
+        (meantPath (now (text .entry)) (now (s .entry)) (now (places .entry)) (now (values .entry)) action o)) ⌝ }
 {
-    let v = attribute_value(text, s, p, n, heads, values, o);
-    is_present(v)
+    let root = o.kind;
+    if (entries::PRINCIPAL <= root) & (root <= entries::ENV) {
+        let start = o.first;
+        let end = o.second;
+        let k = attribute(s, places, values, root, &text[start..end]);
+        let v = value_at(s, k);
+        return is_present(v);
+    }
+    true
 }
 
 // Two operands, with the comparator of an entry's kind. The first was read: v.
@@ -84,20 +91,18 @@ fn compare_operands<'a>(
     a: Entry,
     b: Entry,
     s: &'a [u8],
-    p: Sections,
-    n: usize,
-    heads: &[usize; MOST_COLUMNS],
+    places: &[u16; PLACES],
     values: &[usize; MOST_COLUMNS],
     v: Value,
     action: &'a [u8],
 ) -> Verdict
     requires { ⌜ OperandPlaced (now text) (operandOfEntry a) ⌝ }
     requires { ⌜ OperandPlaced (now text) (operandOfEntry b) ⌝ }
-    requires { ⌜ RowStands (now s) p n (now heads) (now values) ⌝ }
-    requires { ⌜ v ≡ operandRead (now text) (now s) p n (now heads) (now values) a ⌝ }
+    requires { ⌜ RowAt (now s) (now places) (now values) ⌝ }
+    requires { ⌜ v ≡ operandRead (now text) (now s) (now places) (now values) a ⌝ }
     ensures { λ r. ⌜ r ≡ compared (comparatorOfKind kind)
-        (meant (now (text .entry)) (now (s .entry)) p n (now (heads .entry)) (now (values .entry)) (now (action .entry)) a)
-        (meant (now (text .entry)) (now (s .entry)) p n (now (heads .entry)) (now (values .entry)) (now (action .entry)) b) ⌝ }
+        (meant (now (text .entry)) (now (s .entry)) (now (places .entry)) (now (values .entry)) (now (action .entry)) a)
+        (meant (now (text .entry)) (now (s .entry)) (now (places .entry)) (now (values .entry)) (now (action .entry)) b) ⌝ }
 {
     let met = is_present(v);
     let x = operand_string(text, s, action, a, v);
@@ -105,7 +110,7 @@ fn compare_operands<'a>(
     if entries::ACTION < sort {
         return given_of(met, literal_holds(text, kind, b, v, x));
     }
-    let w = attribute_value(text, s, p, n, heads, values, b);
+    let w = attribute_value(text, s, places, values, b);
     let both = met & is_present(w);
     let y = operand_string(text, s, action, b, w);
     given_of(both, values_hold(kind, v, x, w, y))
@@ -117,18 +122,16 @@ fn like_operand<'a>(
     o: Entry,
     a: Entry,
     s: &'a [u8],
-    p: Sections,
-    n: usize,
-    heads: &[usize; MOST_COLUMNS],
+    places: &[u16; PLACES],
     values: &[usize; MOST_COLUMNS],
     v: Value,
     action: &'a [u8],
 ) -> Verdict
     requires { ⌜ OperandPlaced (now text) (operandOfEntry a) ⌝ }
     requires { ⌜ StringPlaced (now text) (spanOfEntry o) ⌝ }
-    requires { ⌜ RowStands (now s) p n (now heads) (now values) ⌝ }
-    requires { ⌜ v ≡ operandRead (now text) (now s) p n (now heads) (now values) a ⌝ }
-    ensures { λ r. ⌜ r ≡ likened (meant (now (text .entry)) (now (s .entry)) p n (now (heads .entry)) (now (values .entry)) (now (action .entry)) a)
+    requires { ⌜ RowAt (now s) (now places) (now values) ⌝ }
+    requires { ⌜ v ≡ operandRead (now text) (now s) (now places) (now values) a ⌝ }
+    ensures { λ r. ⌜ r ≡ likened (meant (now (text .entry)) (now (s .entry)) (now (places .entry)) (now (values .entry)) (now (action .entry)) a)
         (quotedAt (now (text .entry)) (spanOfEntry o)) ⌝ }
 {
     let met = is_present(v);
@@ -148,9 +151,7 @@ fn operand_in_list<'a>(
     at: usize,
     a: Entry,
     s: &'a [u8],
-    p: Sections,
-    n: usize,
-    heads: &[usize; MOST_COLUMNS],
+    places: &[u16; PLACES],
     values: &[usize; MOST_COLUMNS],
     v: Value,
     action: &'a [u8],
@@ -158,10 +159,10 @@ fn operand_in_list<'a>(
     requires { ⌜ OperandPlaced (now text) (operandOfEntry a) ⌝ }
     requires { ⌜ Each (LiteralPlaced (now text)) (literalsAt count (now table) at) ⌝ }
     requires { ⌜ at + count ≤ entriesIn (now table) ⌝ }
-    requires { ⌜ RowStands (now s) p n (now heads) (now values) ⌝ }
-    requires { ⌜ v ≡ operandRead (now text) (now s) p n (now heads) (now values) a ⌝ }
+    requires { ⌜ RowAt (now s) (now places) (now values) ⌝ }
+    requires { ⌜ v ≡ operandRead (now text) (now s) (now places) (now values) a ⌝ }
     ensures { λ r. ⌜ r ≡ givenAmong (now (text .entry))
-        (meant (now (text .entry)) (now (s .entry)) p n (now (heads .entry)) (now (values .entry)) (now (action .entry)) a)
+        (meant (now (text .entry)) (now (s .entry)) (now (places .entry)) (now (values .entry)) (now (action .entry)) a)
         (literalsAt count (now (table .entry)) at) ⌝ }
 {
     let met = is_present(v);
@@ -175,21 +176,19 @@ fn operand_in_attribute<'a>(
     a: Entry,
     b: Entry,
     s: &'a [u8],
-    p: Sections,
-    n: usize,
-    heads: &[usize; MOST_COLUMNS],
+    places: &[u16; PLACES],
     values: &[usize; MOST_COLUMNS],
     v: Value,
     action: &'a [u8],
 ) -> Verdict
     requires { ⌜ OperandPlaced (now text) (operandOfEntry a) ⌝ }
     requires { ⌜ PathPlaced (now text) (rootOfKind (b .kind)) (spanOfEntry b) ⌝ }
-    requires { ⌜ RowStands (now s) p n (now heads) (now values) ⌝ }
-    requires { ⌜ v ≡ operandRead (now text) (now s) p n (now heads) (now values) a ⌝ }
-    ensures { λ r. ⌜ r ≡ inAttribute (meant (now (text .entry)) (now (s .entry)) p n (now (heads .entry)) (now (values .entry)) (now (action .entry)) a)
-        (meantPath (now (text .entry)) (now (s .entry)) p n (now (heads .entry)) (now (values .entry)) (now (action .entry)) b) ⌝ }
+    requires { ⌜ RowAt (now s) (now places) (now values) ⌝ }
+    requires { ⌜ v ≡ operandRead (now text) (now s) (now places) (now values) a ⌝ }
+    ensures { λ r. ⌜ r ≡ inAttribute (meant (now (text .entry)) (now (s .entry)) (now (places .entry)) (now (values .entry)) (now (action .entry)) a)
+        (meantPath (now (text .entry)) (now (s .entry)) (now (places .entry)) (now (values .entry)) (now (action .entry)) b) ⌝ }
 {
-    let w = attribute_value(text, s, p, n, heads, values, b);
+    let w = attribute_value(text, s, places, values, b);
     let both = is_present(v) & is_present(w);
     let kind = v.kind;
     if kind != bags::values::STRING {
@@ -212,19 +211,17 @@ fn contains_literals(
     at: usize,
     b: Entry,
     s: &[u8],
-    p: Sections,
-    n: usize,
-    heads: &[usize; MOST_COLUMNS],
+    places: &[u16; PLACES],
     values: &[usize; MOST_COLUMNS],
 ) -> Verdict
     requires { ⌜ PathPlaced (now text) (rootOfKind (b .kind)) (spanOfEntry b) ⌝ }
     requires { ⌜ Each (LiteralPlaced (now text)) (literalsAt count (now table) at) ⌝ }
     requires { ⌜ at + count ≤ entriesIn (now table) ⌝ }
-    requires { ⌜ RowStands (now s) p n (now heads) (now values) ⌝ }
+    requires { ⌜ RowAt (now s) (now places) (now values) ⌝ }
     ensures { λ r. ⌜ ((action : List ℕ) → r ≡ givenListed (now (text .entry)) any
-        (meantPath (now (text .entry)) (now (s .entry)) p n (now (heads .entry)) (now (values .entry)) action b) (literalsAt count (now (table .entry)) at)) ⌝ }
+        (meantPath (now (text .entry)) (now (s .entry)) (now (places .entry)) (now (values .entry)) action b) (literalsAt count (now (table .entry)) at)) ⌝ }
 {
-    let w = attribute_value(text, s, p, n, heads, values, b);
+    let w = attribute_value(text, s, places, values, b);
     let met = is_present(w);
     let kind = w.kind;
     if kind != bags::values::LIST {
@@ -259,9 +256,7 @@ fn left_verdict<'a>(
     x: Entry,
     a: Entry,
     s: &'a [u8],
-    p: Sections,
-    n: usize,
-    heads: &[usize; MOST_COLUMNS],
+    places: &[u16; PLACES],
     values: &[usize; MOST_COLUMNS],
     v: Value,
     action: &'a [u8],
@@ -269,45 +264,43 @@ fn left_verdict<'a>(
     requires { ⌜ Node (now text) (now table) end x ⌝ }
     requires { ⌜ (falseKind < x .kind) × (x .kind ≤ inAttributeKind) ⌝ }
     requires { ⌜ a ≡ entryAt (now table) (leftAt end x) ⌝ }
-    requires { ⌜ RowStands (now s) p n (now heads) (now values) ⌝ }
-    requires { ⌜ v ≡ operandRead (now text) (now s) p n (now heads) (now values) a ⌝ }
-    ensures { λ r. ⌜ r ≡ verdictSeen false (now (text .entry)) (now (s .entry)) p n (now (heads .entry)) (now (values .entry)) (now (action .entry))
+    requires { ⌜ RowAt (now s) (now places) (now values) ⌝ }
+    requires { ⌜ v ≡ operandRead (now text) (now s) (now places) (now values) a ⌝ }
+    ensures { λ r. ⌜ r ≡ verdictSeen false (now (text .entry)) (now (s .entry)) (now (places .entry)) (now (values .entry)) (now (action .entry))
         (treeOf (now (table .entry)) end x) ⌝ }
 {
     let kind = x.kind;
     if kind <= entries::AT_MOST {
         let b = entry_in(table, end - 2);
-        return compare_operands(text, kind, a, b, s, p, n, heads, values, v, action);
+        return compare_operands(text, kind, a, b, s, places, values, v, action);
     }
     if kind == entries::LIKE {
-        return like_operand(text, x, a, s, p, n, heads, values, v, action);
+        return like_operand(text, x, a, s, places, values, v, action);
     }
     if kind == entries::IN_ATTRIBUTE {
         let b = entry_in(table, end - 2);
-        return operand_in_attribute(text, a, b, s, p, n, heads, values, v, action);
+        return operand_in_attribute(text, a, b, s, places, values, v, action);
     }
     let count = x.first;
     let at = end - count - 1;
-    operand_in_list(text, table, count, at, a, s, p, n, heads, values, v, action)
+    operand_in_list(text, table, count, at, a, s, places, values, v, action)
 }
 
 // The verdict of the condition without parts whose last entry is x, number end - 1.
-pub fn flat<'a>(
+fn flat_of<'a>(
     text: &'a [u8],
     table: &[u8],
     end: usize,
     x: Entry,
     s: &'a [u8],
-    p: Sections,
-    n: usize,
-    heads: &[usize; MOST_COLUMNS],
+    places: &[u16; PLACES],
     values: &[usize; MOST_COLUMNS],
     action: &'a [u8],
 ) -> Verdict
     requires { ⌜ Node (now text) (now table) end x ⌝ }
     requires { ⌜ x .kind ≤ containsAnyKind ⌝ }
-    requires { ⌜ RowStands (now s) p n (now heads) (now values) ⌝ }
-    ensures { λ r. ⌜ r ≡ verdictSeen false (now (text .entry)) (now (s .entry)) p n (now (heads .entry)) (now (values .entry)) (now (action .entry))
+    requires { ⌜ RowAt (now s) (now places) (now values) ⌝ }
+    ensures { λ r. ⌜ r ≡ verdictSeen false (now (text .entry)) (now (s .entry)) (now (places .entry)) (now (values .entry)) (now (action .entry))
         (treeOf (now (table .entry)) end x) ⌝ }
 {
     let kind = x.kind;
@@ -318,7 +311,7 @@ pub fn flat<'a>(
             first: x.first,
             second: x.second,
         };
-        return told_of(has_attribute(text, o, s, p, n, heads, values));
+        return told_of(has_attribute(text, o, s, places, values));
     }
     if kind <= entries::FALSE {
         return told_of(kind == entries::TRUE);
@@ -328,9 +321,30 @@ pub fn flat<'a>(
         let at = end - count - 1;
         let a = entry_in(table, end - count - 2);
         let any = kind == entries::CONTAINS_ANY;
-        return contains_literals(text, table, any, count, at, a, s, p, n, heads, values);
+        return contains_literals(text, table, any, count, at, a, s, places, values);
     }
     let a = entry_in(table, left_at(end, x));
-    let v = operand_value(text, s, p, n, heads, values, a);
-    left_verdict(text, table, end, x, a, s, p, n, heads, values, v, action)
+    let v = operand_value(text, s, places, values, a);
+    left_verdict(text, table, end, x, a, s, places, values, v, action)
+}
+
+// The verdict of the condition without parts whose entries end before number `end`. The slices come by reference: this is called for every such condition, and
+// hands them on.
+pub fn flat<'a>(
+    text: &&'a [u8],
+    table: &&[u8],
+    end: usize,
+    s: &&'a [u8],
+    places: &[u16; PLACES],
+    values: &[usize; MOST_COLUMNS],
+    action: &&'a [u8],
+) -> Verdict
+    requires { ⌜ Node (now (now text)) (now (now table)) end (entryAt (now (now table)) (end - 1)) ⌝ }
+    requires { ⌜ entryAt (now (now table)) (end - 1) .kind ≤ containsAnyKind ⌝ }
+    requires { ⌜ RowAt (now (now s)) (now places) (now values) ⌝ }
+    ensures { λ r. ⌜ r ≡ verdictSeen false (now (now (text .entry))) (now (now (s .entry))) (now (places .entry)) (now (values .entry))
+        (now (now (action .entry))) (treeOf (now (now (table .entry))) end (entryAt (now (now (table .entry))) (end - 1))) ⌝ }
+{
+    let x = entry_in(*table, end - 1);
+    flat_of(*text, *table, end, x, *s, places, values, *action)
 }

@@ -2,12 +2,13 @@
 ghost use mathlib.Core.Path.{_≡_};
 ghost use mathlib.Core.Bool.{true};
 ghost use Rattle.lookups.specs.Values.{ValueWhole};
-ghost use Rattle.views.specs.Rows.{RowStands};
+ghost use Rattle.views.specs.Places.{RowAt};
 ghost use Rattle.placing.specs.Placed.{quotedAt, Lies, StringPlaced, LiteralPlaced, OperandPlaced};
 ghost use Rattle.stored.specs.ReadBack.{spanOfEntry, literalOfEntry, operandOfEntry};
 ghost use Rattle.operators.specs.Operands.{ofBag, attributeRead, literalRead, operandRead, stringOf};
-use bags::sections::Sections;
+use lookups::index::PLACES;
 use lookups::values::Value;
+use lookups::values::value_at;
 use numbers::literals::number;
 use questions::sizes::MOST_COLUMNS;
 use table::Entry;
@@ -18,21 +19,20 @@ use views::attribute;
 pub fn attribute_value(
     text: &[u8],
     s: &[u8],
-    p: Sections,
-    n: usize,
-    heads: &[usize; MOST_COLUMNS],
+    places: &[u16; PLACES],
     values: &[usize; MOST_COLUMNS],
     o: Entry,
 ) -> Value
     requires { ⌜ Lies (now text) (spanOfEntry o) ⌝ }
-    requires { ⌜ RowStands (now s) p n (now heads) (now values) ⌝ }
-    ensures { λ r. ⌜ r ≡ attributeRead (now (text .entry)) (now (s .entry)) p n (now (heads .entry)) (now (values .entry)) o ⌝ }
+    requires { ⌜ RowAt (now s) (now places) (now values) ⌝ }
+    ensures { λ r. ⌜ r ≡ attributeRead (now (text .entry)) (now (s .entry)) (now (places .entry)) (now (values .entry)) o ⌝ }
 {
     let root = o.kind;
     if (entries::PRINCIPAL <= root) & (root <= entries::ENV) {
         let start = o.first;
         let end = o.second;
-        return attribute(s, p, n, heads, values, root, &text[start..end]);
+        let k = attribute(s, places, values, root, &text[start..end]);
+        return value_at(s, k);
     }
     Value {
         kind: bags::values::STRING,
@@ -82,19 +82,17 @@ pub fn literal_value(text: &[u8], o: Entry) -> Value
 pub fn operand_value(
     text: &[u8],
     s: &[u8],
-    p: Sections,
-    n: usize,
-    heads: &[usize; MOST_COLUMNS],
+    places: &[u16; PLACES],
     values: &[usize; MOST_COLUMNS],
     o: Entry,
 ) -> Value
     requires { ⌜ OperandPlaced (now text) (operandOfEntry o) ⌝ }
-    requires { ⌜ RowStands (now s) p n (now heads) (now values) ⌝ }
-    ensures { λ r. ⌜ r ≡ operandRead (now (text .entry)) (now (s .entry)) p n (now (heads .entry)) (now (values .entry)) o ⌝ }
+    requires { ⌜ RowAt (now s) (now places) (now values) ⌝ }
+    ensures { λ r. ⌜ r ≡ operandRead (now (text .entry)) (now (s .entry)) (now (places .entry)) (now (values .entry)) o ⌝ }
 {
     let kind = o.kind;
     if kind <= entries::ACTION {
-        return attribute_value(text, s, p, n, heads, values, o);
+        return attribute_value(text, s, places, values, o);
     }
     literal_value(text, o)
 }

@@ -5,3 +5,5 @@ pub mod Roots
 pub mod Ways
 pub mod Texts
 pub mod Literals
+pub mod Shorter
+pub mod Inside

@@ -198,3 +198,8 @@ module _ {A : Type 0} {es : ℕ → A → List Entry} {text seen : List ℕ} {fr
 pub mapped-done : {A B : Type 0} {es : ℕ → A → List Entry} {es′ : ℕ → B → List Entry} {text seen : List ℕ} {from′ from first : ℕ} {same : Bool} {T T₁ : List ℕ} (f : A → B) {p : reader.Answer A} {r : Answer}
     → ((v : A) → es′ first (f v) ≡ es first v) → from′ ≤ from → Done es text seen from first same T T₁ p r → Done es′ text seen from′ first same T T₁ (bind p (λ v. took (f v))) r
 mapped-done {seen = seen} {first = first} {same = same} {T = T} f shape l d = continuing [] f (kept-none seen T first same) shape (omega arith) d
+
+-- an answer told by an equal one
+pub told-as : {A : Type 0} {es : ℕ → A → List Entry} {text seen : List ℕ} {from first : ℕ} {same : Bool} {T T₁ : List ℕ} {p : reader.Answer A} {r r′ : Answer} → r ≡ r′
+    → Done es text seen from first same T T₁ p r′ → Done es text seen from first same T T₁ p r
+told-as {es = es} {text} {seen} {from} {first} {same} {T} {T₁} {p} e d = subst (Done es text seen from first same T T₁ p) (sym e) d

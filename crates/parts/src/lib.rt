@@ -6,3 +6,4 @@ pub mod lists;
 pub mod operands;
 pub mod paths;
 pub mod refusals;
+pub mod short;

@@ -8,7 +8,7 @@ use Rattle.bags.specs.declared.sections.Sections.{Sections}
 use Rattle.questions.specs.Questions.{Question}
 use Rattle.stored.specs.ReadBack.{policiesAt}
 use Rattle.stored.specs.Ready.{ReadyPolicies}
-use Rattle.questions.specs.Sizes.{mostRows}
+use Rattle.questions.specs.Sizes.{mostQuestionBytes, mostRows}
 use Rattle.meaning.specs.Targets.{Request, isSystem}
 use Rattle.targets.specs.Matching.{TypesOf}
 use Rattle.targets.specs.declared.Types.{Types}
@@ -21,6 +21,7 @@ use Rattle.sheets.specs.declared.writing.Rules.{Rules}
 -- a question with so many rows, and a start row that is not above their number
 pub record Asked (s : List ℕ) (p : Sections) (all start : ℕ) : Type 0 where
   pub question : Question s p
+  pub short : length s ≤ mostQuestionBytes
   pub all-rows : all ≡ rowsIn s p
   pub few : all ≤ mostRows
   pub within : start ≤ all

@@ -1,6 +1,7 @@
 // Writes a page: each row takes its turn, and the listed ones are put one after the other while they fit.
 ghost use Rattle.stored.specs.ReadBack.{policiesAt};
 ghost use Rattle.targets.specs.Matching.{request};
+ghost use Rattle.views.specs.Places.{keptHeads, PlacesOf};
 ghost use Rattle.pages.specs.Listing.{PageWritten};
 ghost use Rattle.placing.specs.Said.{wordsOf};
 ghost use Rattle.meaning.specs.Targets.{Request};
@@ -12,9 +13,14 @@ use choices::choices_of;
 use choices::lasts;
 use kept::NOTES;
 use kept::Walk;
+use kept::depths::LOOKS;
 use kept::depths::looks;
+use kept::late::effects;
+use kept::late::lates;
 use listing::is_allowed;
 use listing::put_row;
+use lookups::index::PLACES;
+use lookups::index::index_of;
 use pages::Page;
 use pages::ROW_SIZE;
 use questions::places::heads;
@@ -22,9 +28,9 @@ use questions::places::places;
 use questions::sizes::MOST_CANDIDATES;
 use questions::sizes::MOST_COLUMNS;
 use targets::Types;
-use tokens::sizes::MOST_POLICIES;
 use turns::take_turn;
 use views::chosen;
+use views::with_columns;
 
 // The rules for a subject: how many policies and entries the table holds, and none for the system.
 pub struct Rules {
@@ -36,11 +42,11 @@ pub struct Rules {
 // Writes the listed rows from a start row on over the start of the part, as many as fit; its other bytes stay.
 fn write_rows<'a>(
     walk: Walk,
-    looks: &[u8; 3 * MOST_POLICIES],
+    looks: &[u8; LOOKS],
     text: &'a [u8],
     table: &[u8],
     s: &'a [u8],
-    starts: &[usize; MOST_COLUMNS],
+    places: &[u16; PLACES],
     grid: [[usize; MOST_CANDIDATES]; MOST_COLUMNS],
     ends: &[u8; MOST_COLUMNS],
     action: &'a [u8],
@@ -48,8 +54,9 @@ fn write_rows<'a>(
     start: usize,
     part: &mut [u8],
 ) -> Page
-    requires { ⌜ RowsAsked (now text) (now table) (now s) walk (now starts) grid (now ends) (now looks) all start ⌝ }
+    requires { ⌜ RowsAsked (now text) (now table) (now s) walk (keptHeads (now places)) grid (now ends) (now looks) all start ⌝ }
     requires { ⌜ WalkForSome (now text) (now table) walk (now looks) (now action) ⌝ }
+    requires { ⌜ PlacesOf (now s) (walk .p) (walk .n) (now places) ⌝ }
     ensures { λ r. ⌜ ((q : Request) → WalkFor (now (text .entry)) (now (table .entry)) walk (now (looks .entry)) (now (action .entry)) q
         → PageWritten (decisionAt (recorded (now (table .entry))) (now (s .entry)) (walk .p) q (wordsOf (now (text .entry)) (policiesAt (now (table .entry)) (walk .entries))))
         (rowMark (recorded (now (table .entry))) (now (s .entry)) (walk .p) q (wordsOf (now (text .entry)) (policiesAt (now (table .entry)) (walk .entries)))) all start
@@ -59,12 +66,15 @@ fn write_rows<'a>(
     let mut choices = choices_of(ends, start);
     let mut values = chosen(grid, MOST_COLUMNS, &choices);
     let mut notes = [0u8; NOTES];
+    let lates = lates(looks, walk.policies);
     let mut from = 0;
+    let mut kept = 0;
     let mut written = 0;
     let mut at = 0;
     let mut row = start;
     while row < all {
         let here = row;
+        let late = lates[from];
         let there = Walk {
             system: walk.system,
             policies: walk.policies,
@@ -72,6 +82,9 @@ fn write_rows<'a>(
             p: p,
             n: walk.n,
             from: from,
+            late: late,
+            mark: kept,
+            permits: walk.permits,
         };
         let t = take_turn(
             there,
@@ -84,12 +97,13 @@ fn write_rows<'a>(
             text,
             table,
             s,
-            starts,
+            places,
             action,
         );
         let d = t.d;
         let mark = t.mark;
         from = t.from;
+        kept = t.kept;
         row += 1;
         if is_allowed(d) {
             if part.len() - at < ROW_SIZE {
@@ -150,6 +164,9 @@ pub fn write_page<'a>(
         resource,
         types,
     );
+    let permits = effects(table, rules.entries);
+    let base = index_of(s, p);
+    let found = with_columns(base, n, &starts);
     let walk = Walk {
         system: rules.system,
         policies: rules.policies,
@@ -157,6 +174,9 @@ pub fn write_page<'a>(
         p: p,
         n: n,
         from: 0,
+        late: 0,
+        mark: 0,
+        permits: permits,
     };
     write_rows(
         walk,
@@ -164,7 +184,7 @@ pub fn write_page<'a>(
         text,
         table,
         s,
-        &starts,
+        &found,
         grid,
         &ends,
         action,

@@ -3,3 +3,4 @@ pub mod Decides
 pub mod Order
 pub mod Parts
 pub mod Same
+pub mod Standing

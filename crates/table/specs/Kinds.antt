@@ -1,5 +1,5 @@
 -- The kinds of entries by their names, as src/entries.rt has them; docs/TABLE.md says what stands before each. Definitions only.
-use Prim.Native.Nat.{ℕ}
+use Prim.Native.Nat.{ℕ, _+_}
 use Rattle.grammar.specs.Policies.{Root.Principal, Root.Resource, Root.Env, Root.Action, rootByte}
 
 -- how many roots there are
@@ -126,4 +126,4 @@ secondStep = 7
 
 -- a bare principal part under version 2
 abbrev pub bareSecondKind : ℕ
-bareSecondKind = 36
+bareSecondKind = barePartKind + secondStep

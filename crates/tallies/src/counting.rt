@@ -5,6 +5,8 @@ ghost use mathlib.Core.List.{_++_};
 ghost use Prim.Native.Nat.{_≤_, _<_};
 ghost use lib.ListN.{length, getD, take, replicate};
 ghost use Rattle.questions.specs.Questions.{Question};
+ghost use Rattle.questions.specs.Sizes.{mostQuestionBytes};
+ghost use Rattle.views.specs.Places.{keptHeads, PlacesOf};
 ghost use Rattle.meaning.specs.Targets.{Request};
 ghost use Rattle.targets.specs.Matching.{request};
 ghost use Rattle.pages.specs.Tally.{groupSize, bumped, countedIn, Countable};
@@ -18,7 +20,12 @@ use bags::sections::Sections;
 use choices::choices_of;
 use choices::lasts;
 use kept::Walk;
+use kept::depths::LOOKS;
 use kept::depths::looks;
+use kept::late::effects;
+use kept::late::lates;
+use lookups::index::PLACES;
+use lookups::index::index_of;
 use meaning::Decision;
 use questions::places::heads;
 use questions::places::places;
@@ -29,6 +36,7 @@ use targets::forms::resource_type;
 use targets::forms::subject_type;
 use turns::take_turn;
 use views::chosen;
+use views::with_columns;
 
 // The counts of a group, and those of the eight groups before the sums.
 const GROUP: usize = 68;
@@ -89,20 +97,21 @@ fn count_row(group: &mut [u32], d: Decision)
 // Counts all rows into a group of zeros.
 fn count_rows<'a>(
     walk: Walk,
-    looks: &[u8; 192],
+    looks: &[u8; LOOKS],
     text: &'a [u8],
     table: &[u8],
     s: &'a [u8],
-    starts: &[usize; 6],
+    places: &[u16; PLACES],
     grid: &[[usize; 8]; 6],
     ends: &[u8; 6],
     action: &'a [u8],
     all: usize,
     group: &mut [u32],
 )
-    requires { ⌜ RowsAsked (now text) (now table) (now s) walk (now starts) (now grid) (now ends) (now looks) all 0 ⌝ }
+    requires { ⌜ RowsAsked (now text) (now table) (now s) walk (keptHeads (now places)) (now grid) (now ends) (now looks) all 0 ⌝ }
     requires { ⌜ WalkForSome (now text) (now table) walk (now looks) (now action) ⌝ }
     requires { ⌜ now group ≡ replicate groupSize 0 ⌝ }
+    requires { ⌜ PlacesOf (now s) (walk .p) (walk .n) (now places) ⌝ }
     ensures { λ _. ⌜ ((q : Request) → WalkFor (now (text .entry)) (now (table .entry)) walk (now (looks .entry)) (now (action .entry)) q
         → now (group .exit) ≡ countedBy (now (text .entry)) (now (table .entry)) (now (s .entry)) (walk .p) (walk .entries) all q) ⌝ }
 {
@@ -110,9 +119,12 @@ fn count_rows<'a>(
     let mut choices = choices_of(ends, 0);
     let mut values = chosen(*grid, 6, &choices);
     let mut notes = [0u8; 512];
+    let lates = lates(looks, walk.policies);
     let mut from = 0;
+    let mut kept = 0;
     let mut row = 0;
     while row < all {
+        let late = lates[from];
         let there = Walk {
             system: walk.system,
             policies: walk.policies,
@@ -120,6 +132,9 @@ fn count_rows<'a>(
             p: p,
             n: walk.n,
             from: from,
+            late: late,
+            mark: kept,
+            permits: walk.permits,
         };
         let t = take_turn(
             there,
@@ -132,11 +147,12 @@ fn count_rows<'a>(
             text,
             table,
             s,
-            starts,
+            places,
             action,
         );
         let d = t.d;
         from = t.from;
+        kept = t.kept;
         row += 1;
         count_row(group, d);
     }
@@ -149,6 +165,7 @@ fn count_request<'a>(
     table: &[u8],
     s: &'a [u8],
     starts: &[usize; 6],
+    placed: &[u16; PLACES],
     grid: &[[usize; 8]; 6],
     ends: &[u8; 6],
     subject: &[u8],
@@ -159,6 +176,7 @@ fn count_request<'a>(
     requires { ⌜ Surveyed (now text) (now table) (now s) asking (now starts) (now grid) (now ends) ⌝ }
     requires { ⌜ formRefusal (request (now subject) (now action) (now resource)) ≡ 0 ⌝ }
     requires { ⌜ now group ≡ replicate groupSize 0 ⌝ }
+    requires { ⌜ PlacesOf (now s) (asking .p) (asking .n) (now placed) × (keptHeads (now placed) ≡ now starts) ⌝ }
     ensures { λ _. ⌜ now (group .exit) ≡ groupBy (now (text .entry)) (now (table .entry)) (now (s .entry)) asking
         (request (now (subject .entry)) (now (action .entry)) (now (resource .entry))) ⌝ }
 {
@@ -181,6 +199,7 @@ fn count_request<'a>(
         resource,
         types,
     );
+    let permits = effects(table, rules.entries);
     let p = asking.p;
     let walk = Walk {
         system: system,
@@ -189,6 +208,9 @@ fn count_request<'a>(
         p: p,
         n: asking.n,
         from: 0,
+        late: 0,
+        mark: 0,
+        permits: permits,
     };
     count_rows(
         walk,
@@ -196,7 +218,7 @@ fn count_request<'a>(
         text,
         table,
         s,
-        starts,
+        placed,
         grid,
         ends,
         action,
@@ -228,6 +250,7 @@ fn count_requests<'a>(
     table: &[u8],
     s: &'a [u8],
     starts: &[usize; 6],
+    placed: &[u16; PLACES],
     grid: &[[usize; 8]; 6],
     ends: &[u8; 6],
     many: usize,
@@ -238,6 +261,7 @@ fn count_requests<'a>(
     requires { ⌜ many ≤ groupCount ⌝ }
     requires { ⌜ firstWrong (requestsOf many (now requests)) ≡ 0 ⌝ }
     requires { ⌜ now counts ≡ replicate 612 0 ⌝ }
+    requires { ⌜ PlacesOf (now s) (asking .p) (asking .n) (now placed) × (keptHeads (now placed) ≡ now starts) ⌝ }
     ensures { λ _. ⌜ now (counts .exit) ≡ groupsOf groupCount (groupBy (now (text .entry)) (now (table .entry)) (now (s .entry)) asking)
         (requestsOf many (now (requests .entry))) ++ replicate groupSize 0 ⌝ }
 {
@@ -259,6 +283,7 @@ fn count_requests<'a>(
             table,
             s,
             starts,
+            placed,
             grid,
             ends,
             &requests[subject_start..subject_end],
@@ -315,7 +340,7 @@ fn clear(counts: &mut [u32])
     }
 }
 
-// The tally of requests that are all accepted: the places of columns and candidates are found once.
+// The tally of requests that are all accepted: the places of entries, columns and candidates are found once.
 pub fn count_all<'a>(
     rules: TableSize,
     text: &'a [u8],
@@ -327,7 +352,7 @@ pub fn count_all<'a>(
     counts: &mut [u32],
 )
     requires { ⌜ length (now counts) ≡ 612 ⌝ }
-    requires { ⌜ Question (now s) p ⌝ }
+    requires { ⌜ Question (now s) p × (length (now s) ≤ mostQuestionBytes) ⌝ }
     requires { ⌜ RulesHeld (now text) (now table) (rules .policies) (rules .entries) ⌝ }
     requires { ⌜ many ≤ groupCount ⌝ }
     requires { ⌜ firstWrong (requestsOf many (now requests)) ≡ 0 ⌝ }
@@ -349,6 +374,8 @@ pub fn count_all<'a>(
         policies: rules.policies,
         entries: rules.entries,
     };
+    let base = index_of(s, p);
+    let placed = with_columns(base, n, &starts);
     clear(counts);
     count_requests(
         asking,
@@ -356,6 +383,7 @@ pub fn count_all<'a>(
         table,
         s,
         &starts,
+        &placed,
         &grid,
         &ends,
         many,

@@ -5,10 +5,12 @@ mod lent;
 ghost use mathlib.Core.Path.{_≡_};
 ghost use mathlib.Core.Bool.{cond};
 ghost use Prim.Native.Nat.{_≤_};
+ghost use lib.ListN.{length};
 ghost use Rattle.tokens.specs.Table.{classTable};
 ghost use Rattle.compiling.specs.Outcome.{heldOf};
 ghost use Rattle.compiling.specs.declared.Held.the-variants.{Right};
 ghost use Rattle.questions.specs.Questions.{Question};
+ghost use Rattle.questions.specs.Sizes.{mostQuestionBytes};
 ghost use Rattle.tallies.specs.Lent.{requestsOf};
 ghost use Rattle.tallies.specs.Tallies.{groupCount, RequestsTallied, Tallied};
 use crate::counting::TableSize;
@@ -44,7 +46,7 @@ fn tally_asked<'a>(
     counts: &mut [u32; 612],
 ) -> u8
     requires { ⌜ now classes ≡ classTable ⌝ }
-    requires { ⌜ Question (now s) p ⌝ }
+    requires { ⌜ Question (now s) p × (length (now s) ≤ mostQuestionBytes) ⌝ }
     requires { ⌜ many ≤ groupCount ⌝ }
     ensures { λ r. ⌜ RequestsTallied (now (text .entry)) (now (table .entry)) (now (s .entry)) p (requestsOf many (now (requests .entry)))
         (now (counts .entry)) r (now (counts .exit)) ⌝ }

@@ -1,18 +1,29 @@
 // The token reader. The table of the classes is made once, by the outermost caller, and lent to every call.
 ghost use mathlib.Core.Path.{_≡_};
+ghost use mathlib.Core.Bool.{true, cond};
 ghost use Prim.Native.Nat.{_<_, _≤_, _+_, _^_};
+ghost use lib.Dec.{leb};
 ghost use lib.ListN.{getD, length};
-ghost use Rattle.tokens.specs.Bytes.{classOf};
-ghost use Rattle.tokens.specs.Table.{classTable};
-ghost use Rattle.tokens.specs.Tokens.{token, sized, fraction, wordToken, stringToken, numberToken, markToken, markAt, tokenBy, tokenAt, Reads};
+ghost use Rattle.tokens.specs.Kinds.{endOfText};
+ghost use Rattle.tokens.specs.Runs.{isOf};
+ghost use Rattle.tokens.specs.Table.{entryOf, classTable};
+ghost use Rattle.tokens.specs.Tokens.{token, sized, fraction, wordToken, stringToken, numberToken, markToken, markAt, strayByte, tokenFrom, tokenAt, Reads};
+ghost use Rattle.tokens.specs.declared.classes.Sort.the-variants.{Letters};
+use tokens::classes::BLANK;
+use tokens::classes::DIGIT;
+use tokens::classes::LETTER;
+use tokens::classes::LONE;
+use tokens::classes::MARK;
 use tokens::classes::Sort;
 use tokens::classes::is_of;
 use tokens::kinds;
 use tokens::reader::Token;
+use tokens::runs::long_run_end;
 use tokens::runs::run_end;
 use tokens::sizes::MOST_DIGITS;
 use tokens::sizes::MOST_STRING_BYTES;
 use tokens::sizes::MOST_WORD_BYTES;
+use words::standing::reserved_at;
 use words::word_kind;
 
 // The token, or refusal 6 where it is larger than `most`.
@@ -49,11 +60,19 @@ fn byte(text: &[u8], at: usize) -> u8
     if at < text.len() { text[at] } else { 0 }
 }
 
-// The word that starts with the letter at `start`: at most 64 bytes.
+// The word that starts with the letter at `start`: at most 64 bytes. Near the text's end its kind is found by its length.
 fn word(classes: &[u8; 256], text: &[u8], start: usize) -> Token
-    requires { ⌜ (now classes ≡ classTable) × (start < length (now text)) ⌝ }
+    requires { ⌜ (now classes ≡ classTable) × (start < length (now text)) × (isOf Letters (getD (now text) start 0) ≡ true) ⌝ }
     ensures { λ r. ⌜ r ≡ wordToken (now (text .entry)) start ⌝ }
 {
+    if start + 12 <= text.len() {
+        let found = reserved_at(classes, text, start);
+        if found.kind != kinds::NAME {
+            return found;
+        }
+        let end = long_run_end(classes, text, start + 1, Sort::WordBytes);
+        return within(kinds::NAME, MOST_WORD_BYTES, end - start, start, end);
+    }
     let end = run_end(classes, text, start, Sort::WordBytes);
     within(
         word_kind(&text[start..end]),
@@ -69,7 +88,7 @@ fn string(classes: &[u8; 256], text: &[u8], start: usize) -> Token
     requires { ⌜ (now classes ≡ classTable) × (start < length (now text)) ⌝ }
     ensures { λ r. ⌜ r ≡ stringToken (now (text .entry)) start ⌝ }
 {
-    let end = run_end(classes, text, start + 1, Sort::StringBytes);
+    let end = long_run_end(classes, text, start + 1, Sort::StringBytes);
     if text.len() <= end {
         return Token {
             kind: kinds::UNENDED,
@@ -95,8 +114,11 @@ fn has_fraction(classes: &[u8; 256], text: &[u8], whole: usize) -> bool
     requires { ⌜ (now classes ≡ classTable) × (whole ≤ length (now text)) ⌝ }
     ensures { λ r. ⌜ r ≡ fraction (now (text .entry)) whole ⌝ }
 {
-    let point = byte(text, whole) == b'.';
-    point & is_of(classes, Sort::Digits, byte(text, whole + 1))
+    if byte(text, whole) == b'.' {
+        is_of(classes, Sort::Digits, byte(text, whole + 1))
+    } else {
+        false
+    }
 }
 
 // The number whose first digit is at `first`: at most 15 digits, without the point.
@@ -147,10 +169,10 @@ fn from_mark(classes: &[u8; 256], text: &[u8], start: usize) -> Token
     ensures { λ r. ⌜ r ≡ markAt (now (text .entry)) start ⌝ }
 {
     let first = text[start];
-    let next = byte(text, start + 1);
     if first == b'"' {
         return string(classes, text, start);
     }
+    let next = byte(text, start + 1);
     if first == b'-' {
         if is_of(classes, Sort::Digits, next) {
             return number(classes, text, start, start + 1);
@@ -160,29 +182,55 @@ fn from_mark(classes: &[u8; 256], text: &[u8], start: usize) -> Token
     mark_of(start, first, next)
 }
 
-// What starts at a place where no blank is.
-fn token_from(classes: &[u8; 256], text: &[u8], start: usize) -> Token
-    requires { ⌜ (now classes ≡ classTable) × (start < length (now text)) ⌝ }
-    ensures { λ r. ⌜ r ≡ tokenBy (now (text .entry)) start (getD (now (text .entry)) start 0) (classOf (getD (now (text .entry)) start 0)) ⌝ }
+// What the table has for the byte at a place, and 0 past the text's end.
+fn class_at(classes: &[u8; 256], text: &[u8], at: usize) -> u8
+    requires { ⌜ now classes ≡ classTable ⌝ }
+    ensures { λ r. ⌜ r ≡ entryOf (getD (now (text .entry)) at 0) ⌝ }
 {
-    let first = text[start];
-    if is_of(classes, Sort::LoneMarks, first) {
-        return one_byte(first, start);
+    if at < text.len() {
+        classes[text[at] as usize]
+    } else {
+        0
     }
-    if is_of(classes, Sort::Letters, first) {
-        return word(classes, text, start);
+}
+
+// What stands where no token begins: the text's end, a colon, or a byte that may not stand there.
+fn no_token(text: &[u8], start: usize) -> Token
+    requires { ⌜ start ≤ length (now text) ⌝ }
+    ensures { λ r. ⌜ r ≡ cond (leb (length (now (text .entry))) start) (token endOfText start start) (strayByte start (getD (now (text .entry)) start 0)) ⌝ }
+{
+    if text.len() <= start {
+        return Token {
+            kind: kinds::END_OF_TEXT,
+            start,
+            end: start,
+        };
     }
-    if is_of(classes, Sort::Digits, first) {
-        return number(classes, text, start, start);
-    }
-    if is_of(classes, Sort::Marks, first) {
-        return from_mark(classes, text, start);
-    }
-    if first == b':' {
+    if text[start] == b':' {
         one_byte(kinds::COLON, start)
     } else {
         one_byte(kinds::BAD_BYTE, start)
     }
+}
+
+// What starts at a place where no blank is, by what the table has for the byte there.
+fn token_from(classes: &[u8; 256], text: &[u8], start: usize, entry: u8) -> Token
+    requires { ⌜ (now classes ≡ classTable) × (start ≤ length (now text)) × (entry ≡ entryOf (getD (now text) start 0)) ⌝ }
+    ensures { λ r. ⌜ r ≡ tokenFrom (now (text .entry)) start ⌝ }
+{
+    if entry & LONE != 0 {
+        return one_byte(text[start], start);
+    }
+    if entry & LETTER != 0 {
+        return word(classes, text, start);
+    }
+    if entry & DIGIT != 0 {
+        return number(classes, text, start, start);
+    }
+    if entry & MARK != 0 {
+        return from_mark(classes, text, start);
+    }
+    no_token(text, start)
 }
 
 // The token at or after a place, with the blanks before it passed.
@@ -192,15 +240,10 @@ pub fn next_token(classes: &[u8; 256], text: &[u8], at: usize) -> Token
     ensures lies { λ r. ⌜ Reads (now (text .entry)) at r ⌝ }
 {
     let mut start = at;
-    while start < text.len() {
-        if !is_of(classes, Sort::Blanks, text[start]) {
-            return token_from(classes, text, start);
-        }
+    let mut entry = class_at(classes, text, start);
+    while entry & BLANK != 0 {
         start += 1;
+        entry = class_at(classes, text, start);
     }
-    Token {
-        kind: kinds::END_OF_TEXT,
-        start,
-        end: start,
-    }
+    token_from(classes, text, start, entry)
 }

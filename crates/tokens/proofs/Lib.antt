@@ -4,6 +4,7 @@ pub mod RunLaws
 pub mod WordLaws
 pub mod TokenLaws
 pub mod LoneLaws
+pub mod EntryLaws
 pub mod ReadLaws
 pub mod KindLaws
 pub mod FormLaws

@@ -26,6 +26,10 @@ module _ (sort : Sort) (text : List ℕ) (i : ℕ) where
   unfolding run
   goes-on h e = simp (drop-cons text i 0 h, e, add-one) (omega arith)
 
+  -- the same, where the next place is told in other words
+  pub goes-to : (k : ℕ) → k ≡ i + 1 → i < length text → isOf sort (getD text i 0) ≡ true → runEnd sort text k ≡ runEnd sort text i
+  goes-to k p h e = rw p (goes-on h e)
+
   -- a byte of another sort ends the run
   pub stops : i < length text → isOf sort (getD text i 0) ≡ false → runEnd sort text i ≡ i
   unfolding run

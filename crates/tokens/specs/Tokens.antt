@@ -84,13 +84,16 @@ markFrom text start first next =
 unfoldable pub markAt : List ℕ → ℕ → Token
 markAt text start = markFrom text start (getD text start 0) (getD text (start + 1) 0)
 
+-- what is refused of a byte with which no token begins: a colon has its own number
+abbrev pub strayByte : ℕ → ℕ → Token
+strayByte start first = cond (eqb first (code ":")) (token kinds.colonOutside start (start + 1)) (badByteToken start)
+
 -- what starts at a place where no blank is, by its first byte and that byte's class
 abbrev pub tokenBy : List ℕ → ℕ → ℕ → ℕ → Token
 tokenBy text start first class =
     cond (eqb class letter) (wordToken text start)
     (cond (eqb class digit) (numberToken text start start)
-    (cond (eqb class mark) (markAt text start)
-    (cond (eqb first (code ":")) (token kinds.colonOutside start (start + 1)) (badByteToken start))))
+    (cond (eqb class mark) (markAt text start) (strayByte start first)))
 
 -- what starts at a place where no blank is: the end of the text, or a token
 abbrev pub tokenFrom : List ℕ → ℕ → Token

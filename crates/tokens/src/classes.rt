@@ -14,20 +14,20 @@ pub enum Sort {
     LoneMarks,
 }
 
-// A bit of an entry for each sort.
-const BLANK: u8 = 2;
+// A bit of an entry for each sort; the token reader asks for some of them in an entry that it has read.
+pub const BLANK: u8 = 2;
 
-const MARK: u8 = 4;
+pub const MARK: u8 = 4;
 
-const DIGIT: u8 = 8;
+pub const DIGIT: u8 = 8;
 
-const LETTER: u8 = 16;
+pub const LETTER: u8 = 16;
 
-const WORD: u8 = 32;
+pub const WORD: u8 = 32;
 
-const STRING: u8 = 64;
+pub const STRING: u8 = 64;
 
-const LONE: u8 = 128;
+pub const LONE: u8 = 128;
 
 // By the byte: 0 never, 1 text only, 2 blank, 4 mark, 8 digit, 16 letter, to which the bits of the other sorts are added.
 const CLASSES: [u8; 256] = [

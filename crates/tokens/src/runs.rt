@@ -21,3 +21,27 @@ pub fn run_end(classes: &[u8; 256], text: &[u8], at: usize, sort: Sort) -> usize
     }
     i
 }
+
+// The same place, for runs that are mostly longer: four bytes at a time.
+pub fn long_run_end(classes: &[u8; 256], text: &[u8], at: usize, sort: Sort) -> usize
+    requires { ⌜ (now classes ≡ classTable) × (at ≤ length (now text)) ⌝ }
+    ensures { λ r. ⌜ RunsTo sort (now (text .entry)) at r ⌝ }
+{
+    let mut i = at;
+    while i + 4 <= text.len() {
+        if !is_of(classes, sort, text[i]) {
+            return i;
+        }
+        if !is_of(classes, sort, text[i + 1]) {
+            return i + 1;
+        }
+        if !is_of(classes, sort, text[i + 2]) {
+            return i + 2;
+        }
+        if !is_of(classes, sort, text[i + 3]) {
+            return i + 3;
+        }
+        i += 4;
+    }
+    run_end(classes, text, i, sort)
+}

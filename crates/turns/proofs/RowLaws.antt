@@ -2,8 +2,8 @@
 use mathlib.Core.Path.{_≡_, refl, sym, ap, _∙_}
 use mathlib.Core.Bool.{Bool, true, false, cond}
 use mathlib.Core.List.{List, []}
-use Prim.Native.Nat.{ℕ, _+_, _-_, _*_, _%_, _≤_, _<_}
-use native.Mathlib.Nat.{mod-lt, mod-eq-of-lt}
+use Prim.Native.Nat.{ℕ, _+_, _-_, _*_, _%_, _^_, _≤_, _<_}
+use native.Mathlib.Nat.{mod-lt, mod-eq-of-lt, one-le-pow}
 use native.Mathlib.Omega.{arith}
 use borrow.Author.Tests.{lt-ltb, ltb-true}
 use lib.Dec.{ltb}
@@ -25,15 +25,18 @@ use Rattle.stored.specs.Ready.{ReadyPolicies}
 use Rattle.views.specs.Meaning.{look}
 use Rattle.views.specs.Rows.{rowView, RowStands, bagOfRow, Chooses}
 use Rattle.views.proofs.RowLaws.{row-stands, row-shows}
-use Rattle.placing.specs.Said.{Word, wordsOf}
+use Rattle.placing.specs.Said.{Word, policyWords, wordsOf}
 use Rattle.meaning.specs.Targets.{Request, isSystem}
-use Rattle.meaning.specs.Decisions.{Terms, under, decisionOf, policiesDecide, policyOf, markOf, decidedMark, systemMarked, NamesPolicy, the-system, a-forbid, a-permit, none-named, NamedRightly}
+use Rattle.meaning.specs.Decisions.{Terms, under, satisfied, decisionOf, policiesDecide, policyOf, markBy, markOf, decidedMark, systemMarked, NamesPolicy, the-system, a-forbid, a-permit, none-named, NamedRightly}
 use Rattle.meaning.specs.declared.Decision.the-variants.{System}
 use Rattle.meaning.specs.declared.Marked.{Marked}
 use Rattle.meaning.proofs.Deciding.{numbered-few, named-rightly}
-use Rattle.meaning.proofs.WordLaws.{many-words}
+use Rattle.meaning.proofs.Marking.{mark-below}
+use Rattle.meaning.proofs.WordLaws.{mark-words, many-words}
+use Rattle.deciding.specs.Marks.{isSet}
+use Rattle.deciding.proofs.Bits.{marked-bit}
 use Rattle.pages.specs.Rows.{countsOf, Combination, rowOf, choicesAt, countsBy, Few, Counted, Picked, RowPlaced, Moved}
-use Rattle.kept.specs.Notes.{ChosenThere, Aims, Kept, DecidedFrom}
+use Rattle.kept.specs.Notes.{ChosenThere, Aims, Late, Underway, Kept, DecidedFrom}
 use Rattle.kept.specs.declared.Walk.{Walk}
 use Rattle.kept.proofs.Noting.{zeros-say}
 use Rattle.pages.proofs.Combinations.{choices-combine, row-of-choices, choice-below}
@@ -77,24 +80,26 @@ stands-next {ends = ends} {choices = choices} {row = row} h s m =
 -- ---- what is kept from row to row
 
 module _ {version : Version} {text s : List ℕ} {w : Walk} {starts : List ℕ} {q : Request} {ps : List Policy} {looks : List ℕ} where
-  -- before the first row no note says anything
-  pub kept-first : (values : List ℕ) → length values ≡ 6 → Aims text q ps looks → Kept version text s w starts q ps looks values 0 (replicate 512 0)
+  -- before the first row no note says anything, and no bit is set
+  pub kept-first : (values : List ℕ) → length values ≡ 6 → Aims text q ps looks → Kept version text s w starts q ps looks values 0 (replicate 512 0) 0
   kept-first values six a = record {
     aims = a;
     carried = record {
       before = values;
       six = six;
       alike = record { alike = λ j h. refl };
-      noted = record { right = λ m policy h l u. record { says = λ c k. record { told = λ z. absurd (z (zeros-say 512 (8 * (m - 1) + c))) } } };
+      noted = record { right = λ m policy h. record { says = λ c k. record { told = λ z. absurd (z (zeros-say 512 (8 * (m - 1) + c))) } } };
+      told = record { told = λ m policy h l. absurd (omega arith) };
       long = refl;
+      below = one-le-pow (length ps) 2 (omega arith);
     };
   }
 
   -- the next row chooses alike in the columns before the one that moves
-  pub kept-next : {grid : List (List ℕ)} {ends choices choices' values values' notes notes' : List ℕ} {from column : ℕ} {d : Marked} → w .policies ≡ length ps
-      → Kept version text s w starts q ps looks values from notes → DecidedFrom version text s (w .p) (w .n) starts q ps looks values d notes'
-      → Picked grid choices values → Moved grid ends choices column choices' values' → Kept version text s w starts q ps looks values' column notes'
-  kept-next {grid = grid} {values = values} many k d v m = record {
+  pub kept-next : {grid : List (List ℕ)} {ends choices choices' values values' notes notes' : List ℕ} {from column mark : ℕ} {d : Marked}
+      → Kept version text s w starts q ps looks values from notes mark → DecidedFrom version text s (w .p) (w .n) starts q ps looks values d notes'
+      → Picked grid choices values → Moved grid ends choices column choices' values' → Kept version text s w starts q ps looks values' column notes' (d .mark)
+  kept-next {grid = grid} {values = values} {d = d} k by v m = record {
     aims = k .aims;
     carried = record {
       before = values;
@@ -104,10 +109,18 @@ module _ {version : Version} {text s : List ℕ} {w : Walk} {starts : List ℕ} 
             let l = m .moved .within in
             v .picked j (omega arith) ∙ ap (λ (c : ℕ). getD (getD grid j []) c 0) (sym (m .moved .kept j h)) ∙ sym (m .values-are .picked j (omega arith));
       };
-      noted = rw many (d .noted);
-      long = d .long;
+      noted = by .noted;
+      told = record { told = λ n policy h l. ap (λ (m : ℕ). isSet m (n - 1)) marked ∙ marked-bit test h };
+      long = by .long;
+      below = rw marked (mark-below test ps);
     };
   }
+    where
+      test : Policy → Bool
+      test r = satisfied (under version (rowView s (w .p) (w .n) starts values)) q (policyWords text r)
+
+      marked : d .mark ≡ markBy test ps
+      marked = ap (λ (m : Marked). m .mark) (by .is) ∙ mark-words text (satisfied (under version (rowView s (w .p) (w .n) starts values)) q) ps
 
 -- ---- what the row shows, and what is decided in it
 
@@ -237,18 +250,24 @@ none-many table = refl
 
 -- ---- a walk, and the same walk gone on to another column
 
-abbrev pub goneTo : Walk → ℕ → Walk
-goneTo w from = record { system = w .system; policies = w .policies; entries = w .entries; p = w .p; n = w .n; from = from }
+abbrev pub goneTo : Walk → ℕ → ℕ → ℕ → Walk
+goneTo w from late mark =
+    record { system = w .system; policies = w .policies; entries = w .entries; p = w .p; n = w .n; from = from; late = late; mark = mark; permits = w .permits }
 
-module _ {text table s starts : List ℕ} {grid : List (List ℕ)} {ends looks : List ℕ} (w : Walk) (from : ℕ) where
-  pub walked-gone : Walked text table s w starts grid ends looks → Walked text table s (goneTo w from) starts grid ends looks
-  walked-gone k = record { question = k .question; laid = k .laid; ready = k .ready; many = k .many; few = k .few; depths = k .depths }
+module _ {text table s starts : List ℕ} {grid : List (List ℕ)} {ends looks : List ℕ} (w : Walk) (from late mark : ℕ) where
+  pub walked-gone : Walked text table s w starts grid ends looks → Walked text table s (goneTo w from late mark) starts grid ends looks
+  walked-gone k = record { question = k .question; laid = k .laid; ready = k .ready; many = k .many; few = k .few; depths = k .depths; ended = k .ended; permits = k .permits }
 
-  module _ {action : List ℕ} {q : Request} {row : ℕ} {choices values : List ℕ} {column : ℕ} {notes : List ℕ} where
-    pub at-gone : AtRow text table s w starts grid ends looks action q row choices values column notes
-        → AtRow text table s (goneTo w from) starts grid ends looks action q row choices values column notes
-    at-gone a = record { acts = a .acts; whose = a .whose; standing = a .standing; kept = record { aims = a .kept .aims; carried = a .kept .carried } }
+  -- its marks there
+  pub underway-gone : {policies : ℕ} → policies ≡ w .policies → Walked text table s w starts grid ends looks → Late looks policies from late → mark < 2 ^ length (policiesAt table (w .entries))
+      → Underway (goneTo w from late mark) (policiesAt table (w .entries)) looks
+  underway-gone e k l b = record { late = rw e at l; below = rw (k .many) b; permits = k .permits }
 
-    pub at-back : AtRow text table s (goneTo w from) starts grid ends looks action q row choices values column notes
-        → AtRow text table s w starts grid ends looks action q row choices values column notes
-    at-back a = record { acts = a .acts; whose = a .whose; standing = a .standing; kept = record { aims = a .kept .aims; carried = a .kept .carried } }
+  module _ {action : List ℕ} {q : Request} {row : ℕ} {choices values : List ℕ} {column : ℕ} {notes : List ℕ} {said : ℕ} where
+    pub at-gone : AtRow text table s w starts grid ends looks action q row choices values column notes said
+        → AtRow text table s (goneTo w from late mark) starts grid ends looks action q row choices values column notes said
+    at-gone a = record { acts = a .acts; whose = a .whose; standing = a .standing; within = a .within; kept = record { aims = a .kept .aims; carried = a .kept .carried } }
+
+    pub at-back : AtRow text table s (goneTo w from late mark) starts grid ends looks action q row choices values column notes said
+        → AtRow text table s w starts grid ends looks action q row choices values column notes said
+    at-back a = record { acts = a .acts; whose = a .whose; standing = a .standing; within = a .within; kept = record { aims = a .kept .aims; carried = a .kept .carried } }

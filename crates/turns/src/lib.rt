@@ -3,26 +3,31 @@ ghost use mathlib.Core.Path.{_≡_};
 ghost use mathlib.Core.Bool.{cond};
 ghost use Prim.Native.Nat.{ℕ, _<_};
 ghost use lib.ListN.{length};
+ghost use Rattle.views.specs.Places.{keptHeads, PlacesOf};
 ghost use Rattle.meaning.specs.Targets.{Request};
 ghost use Rattle.meaning.specs.Decisions.{systemMarked};
-ghost use Rattle.kept.specs.Notes.{notesSize};
+ghost use Rattle.stored.specs.ReadBack.{policiesAt};
+ghost use Rattle.kept.specs.Notes.{Underway, notesSize};
 ghost use Rattle.turns.specs.Rows.{rowsIn};
 ghost use Rattle.turns.specs.Turns.{Walked, Somewhere, AtRow, Turned};
 use choices::step;
 use kept::NOTES;
 use kept::Walk;
 use kept::decision_from;
+use kept::depths::LOOKS;
+use lookups::index::PLACES;
 use meaning::Decision;
 use meaning::Marked;
 use questions::sizes::MOST_CANDIDATES;
 use questions::sizes::MOST_COLUMNS;
-use tokens::sizes::MOST_POLICIES;
 
-// What a turn gives: the row's decision, its mark, and the first column in which the next row may choose otherwise.
+// What a turn gives: the row's decision, its mark, the first column in which the next row may choose otherwise, and the mark that is kept for it: what the
+// policies say, whoever asks.
 pub struct Turn {
     pub d: Decision,
     pub mark: u64,
     pub from: usize,
+    pub kept: u64,
 }
 
 // The system may do all.
@@ -41,7 +46,7 @@ fn unless_system(system: bool, m: Marked) -> Marked
 // A row's turn. `looks` has what each policy looks at, `notes` what is kept of the rows before; `choices` and `values` are the row's, and then the next row's.
 pub fn take_turn<'a>(
     walk: Walk,
-    looks: &[u8; 3 * MOST_POLICIES],
+    looks: &[u8; LOOKS],
     notes: &mut [u8; NOTES],
     choices: &mut [u8; MOST_COLUMNS],
     values: &mut [usize; MOST_COLUMNS],
@@ -50,16 +55,18 @@ pub fn take_turn<'a>(
     text: &'a [u8],
     table: &[u8],
     s: &'a [u8],
-    starts: &[usize; MOST_COLUMNS],
+    places: &[u16; PLACES],
     action: &'a [u8],
 ) -> Turn
-    requires { ⌜ Walked (now text) (now table) (now s) walk (now starts) (now grid) (now ends) (now looks) ⌝ }
+    requires { ⌜ Walked (now text) (now table) (now s) walk (keptHeads (now places)) (now grid) (now ends) (now looks) ⌝ }
     requires { ⌜ Somewhere (now s) (walk .p) (now grid) (now ends) (now choices) (now values) ⌝ }
     requires { ⌜ length (now notes) ≡ notesSize ⌝ }
+    requires { ⌜ Underway walk (policiesAt (now table) (walk .entries)) (now looks) ⌝ }
+    requires { ⌜ PlacesOf (now s) (walk .p) (walk .n) (now places) ⌝ }
     ensures { λ r. ⌜ ((q : Request) (row : ℕ) → row < rowsIn (now (s .entry)) (walk .p)
-        → AtRow (now (text .entry)) (now (table .entry)) (now (s .entry)) walk (now (starts .entry)) (now (grid .entry)) (now (ends .entry))
-        (now (looks .entry)) (now (action .entry)) q row (now (choices .entry)) (now (values .entry)) (walk .from) (now (notes .entry))
-        → Turned (now (text .entry)) (now (table .entry)) (now (s .entry)) walk (now (starts .entry)) (now (grid .entry)) (now (ends .entry))
+        → AtRow (now (text .entry)) (now (table .entry)) (now (s .entry)) walk (keptHeads (now (places .entry))) (now (grid .entry)) (now (ends .entry))
+        (now (looks .entry)) (now (action .entry)) q row (now (choices .entry)) (now (values .entry)) (walk .from) (now (notes .entry)) (walk .mark)
+        → Turned (now (text .entry)) (now (table .entry)) (now (s .entry)) walk (keptHeads (now (places .entry))) (now (grid .entry)) (now (ends .entry))
         (now (looks .entry)) (now (action .entry)) q row r (now (choices .exit)) (now (values .exit)) (now (notes .exit))) ⌝ }
 {
     let decided = decision_from(
@@ -70,10 +77,11 @@ pub fn take_turn<'a>(
         text,
         table,
         s,
-        starts,
+        places,
         values,
         action,
     );
+    let kept = decided.mark;
     let marked = unless_system(walk.system, decided);
     let from = step(grid, ends, choices, values);
     let d = marked.d;
@@ -81,5 +89,6 @@ pub fn take_turn<'a>(
         d: d,
         mark: marked.mark,
         from: from,
+        kept: kept,
     }
 }

@@ -3,6 +3,7 @@ pub mod ReadLaws
 pub mod BagForms
 pub mod ViewLaws
 pub mod RowLaws
+pub mod PlacedLaws
 pub mod RowForms
 pub mod Opened
 pub mod Examples

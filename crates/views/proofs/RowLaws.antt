@@ -1,7 +1,7 @@
 -- A row that is made of a question's places stands in its bytes, and its view is the look-up in the row's bag. Assumes nothing.
 use Prim.Native.Nat.{ℕ, _+_, _<_, _≤_}
 use mathlib.Core.List.{List, [], map}
-use mathlib.Core.Path.{_≡_, refl, sym, _∙_, ap}
+use mathlib.Core.Path.{_≡_, refl, sym, _∙_, ap, subst}
 use borrow.Author.Tests.{lt-ltb}
 use native.Mathlib.Omega.{arith}
 use lib.Dec.{T}
@@ -23,6 +23,8 @@ use Rattle.questions.proofs.PlaceLaws.{firstOf, first-is, column-of}
 use Rattle.views.specs.Meaning.{present, look, hasPath, Chosen, rowBag, columnsFirst}
 use Rattle.views.specs.Values.{datumIn, StandsFor, baseBag, chosenMeant}
 use Rattle.views.specs.Rows.{chosenAt, chosenOf, baseValue, rowValue, rowView, RowStands, columnsOf, bagOfRow, Chooses}
+use Rattle.lookups.specs.Index.{keptSections}
+use Rattle.views.specs.Places.{keptColumns, keptHeads, placedView, RowAt, BagPlaced}
 use Rattle.views.proofs.RowBag.{row-view, has-in-row}
 use Rattle.views.proofs.ReadLaws.{look-means, columns-mean, base-filled}
 use Rattle.views.proofs.ViewLaws.{listed-alike, columns-have}
@@ -118,3 +120,15 @@ plain-stands s p heads values w = record { sections = w; few = omega arith; name
 pub plain-bag : (s : List ℕ) (p : Sections) (at : ℕ) (choices : List ℕ) → bagOfRow s p 0 at choices ≡ baseBag s p
 unfolding bagOfRow columnsOf rowBag
 plain-bag s p at choices = refl
+
+-- the same by its places
+pub plain-placed : (s places values : List ℕ) → BagPlaced s places → RowAt s places values
+plain-placed s places values b = record {
+  stands = subst (λ (n : ℕ). RowStands s (keptSections places) n (keptHeads places) values) (sym (b .plain)) (plain-stands s (keptSections places) (keptHeads places) values (b .sections));
+  indexed = b .indexed;
+}
+
+-- and the view of that row is what the bag shows
+pub plain-view : (s places values : List ℕ) → keptColumns places ≡ 0 → placedView s places values ≡ look (baseBag s (keptSections places))
+unfolding rowView chosenOf columnsFirst
+plain-view s places values e = ap (λ (n : ℕ). rowView s (keptSections places) n (keptHeads places) values) e

@@ -1,3 +1,4 @@
 pub mod Meaning
 pub mod Values
 pub mod Rows
+pub mod Places

@@ -7,17 +7,21 @@ ghost use lib.Dec.{eqb, ltb};
 ghost use lib.ListN.{length, getD};
 ghost use Rattle.slices.specs.Same.{same};
 ghost use Rattle.bags.specs.Reading.{byte};
+ghost use Rattle.bags.specs.Sizes.{mostBagBytes};
 ghost use Rattle.tokens.specs.Blanks.{unblanked};
 ghost use Rattle.questions.specs.Columns.{columnPath, countAt};
 ghost use Rattle.questions.specs.Sizes.{mostColumns, mostCandidates};
-ghost use Rattle.views.specs.Rows.{rowValue, RowStands};
-use bags::sections::Sections;
-use lookups::finding::base_value;
+ghost use Rattle.lookups.specs.Values.{ShownAt};
+ghost use Rattle.views.specs.Places.{keptHeads, placedValue, RowAt, WithColumns};
 use lookups::finding::same_path;
-use lookups::values::Value;
-use lookups::values::value_from;
+use lookups::index::PLACES;
+use lookups::index::place_in;
+use lookups::index::wide;
 use questions::sizes::MOST_CANDIDATES;
 use questions::sizes::MOST_COLUMNS;
+
+// Where the number of columns is kept among the places; the columns' own follow.
+const COLUMNS: usize = 195;
 
 // Whether the column at `head` names this attribute.
 pub fn names(s: &[u8], head: usize, root: u8, path: &[u8]) -> bool
@@ -31,32 +35,54 @@ pub fn names(s: &[u8], head: usize, root: u8, path: &[u8]) -> bool
     false
 }
 
-// The attribute in the row of these sections, and of `n` columns at `heads` with the chosen candidates at `values`.
-// The path is that of the rule text, blanks and all.
+// The place of column number `i`, from 0 on.
+fn head_of(places: &[u16; PLACES], i: usize) -> usize
+    requires { ⌜ i < mostColumns ⌝ }
+    ensures { λ r. ⌜ r ≡ getD (keptHeads (now (places .entry))) i 0 ⌝ }
+{
+    wide(places[COLUMNS + 1 + i])
+}
+
+// The places of a row: those of its base, and of its `n` columns.
+pub fn with_columns(base: [u16; PLACES], n: usize, heads: &[usize; MOST_COLUMNS]) -> [u16; PLACES]
+    requires { ⌜ n ≤ mostColumns ⌝ }
+    requires { ⌜ ((i : ℕ) → i < mostColumns → getD (now heads) i 0 ≤ mostBagBytes) ⌝ }
+    ensures { λ r. ⌜ WithColumns base n (now (heads .entry)) r ⌝ }
+{
+    let mut places = base;
+    places[COLUMNS] = n as u16;
+    let mut i = 0;
+    while i < MOST_COLUMNS {
+        places[COLUMNS + 1 + i] = heads[i] as u16;
+        i += 1;
+    }
+    places
+}
+
+// Where the attribute in the row of these places stands, with the chosen candidates at `values`: the place of its kind byte, or the end of the bytes where
+// it is absent. The path is that of the rule text, blanks and all.
 pub fn attribute(
     s: &[u8],
-    p: Sections,
-    n: usize,
-    heads: &[usize; MOST_COLUMNS],
+    places: &[u16; PLACES],
     values: &[usize; MOST_COLUMNS],
     root: u8,
     path: &[u8],
-) -> Value
-    requires { ⌜ RowStands (now s) p n (now heads) (now values) ⌝ }
-    ensures { λ r. ⌜ r ≡ rowValue (now (s .entry)) p n (now (heads .entry)) (now (values .entry)) root (unblanked (now (path .entry))) ⌝ }
+) -> usize
+    requires { ⌜ RowAt (now s) (now places) (now values) ⌝ }
+    ensures { λ r. ⌜ ShownAt (now (s .entry)) r
+        (placedValue (now (s .entry)) (now (places .entry)) (now (values .entry)) root (unblanked (now (path .entry)))) ⌝ }
 {
-    let mut left = n;
+    let mut left = wide(places[COLUMNS]);
     let mut i = 0;
     while 0 < left {
-        let head = heads[i];
+        let head = head_of(places, i);
         if names(s, head, root, path) {
-            let k = values[i];
-            return value_from(s, k);
+            return values[i];
         }
         i += 1;
         left -= 1;
     }
-    base_value(s, p, root, path)
+    place_in(s, places, root, path)
 }
 
 // The places of the chosen candidates, from those of all, by column and choice.

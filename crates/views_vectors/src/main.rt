@@ -6,17 +6,20 @@ ghost use mathlib.Core.Path.{_≡_};
 ghost use Prim.Native.Nat.{ℕ, _<_, _≤_};
 ghost use lib.Dec.{T};
 ghost use lib.Ieee.Scale.{finite};
-ghost use lib.ListN.{getD};
+ghost use lib.ListN.{length, getD};
 ghost use Rattle.tokens.specs.Table.{classTable};
 ghost use Rattle.lookups.specs.Values.{ValueWhole};
 ghost use Rattle.questions.specs.Questions.{Question};
+ghost use Rattle.questions.specs.Sizes.{mostQuestionBytes};
 use bags::sections::Divided;
 use bags::sections::Sections;
 use bags::values::LIST;
 use bags::values::STRING;
 use libc::STDOUT_FILENO;
+use lookups::index::index_of;
 use lookups::steps::value_next;
 use lookups::values::Value;
+use lookups::values::value_at;
 use questions::places::heads;
 use questions::places::places;
 use questions::question_sections;
@@ -24,6 +27,7 @@ use tokens::classes::class_table;
 use vectors::place_at;
 use views::attribute;
 use views::chosen;
+use views::with_columns;
 
 // A value's line.
 fn report(s: &[u8], v: Value)
@@ -62,7 +66,7 @@ fn are_candidates(grid: [[usize; 8]; 6], n: usize, choices: &[u8; 6]) -> bool
 
 // The attribute in the row of these choices.
 fn row(s: &[u8], p: Sections, choices: &[u8; 6], root: u8, path: &[u8])
-    requires { ⌜ Question (now s) p ⌝ }
+    requires { ⌜ Question (now s) p × (length (now s) ≤ mostQuestionBytes) ⌝ }
 {
     let at = p.end;
     let n = s[at] as usize;
@@ -71,7 +75,10 @@ fn row(s: &[u8], p: Sections, choices: &[u8; 6], root: u8, path: &[u8])
     if are_candidates(grid, n, choices) {
         let starts = heads(s, first, n);
         let values = chosen(grid, n, choices);
-        report(s, attribute(s, p, n, &starts, &values, root, path));
+        let base = index_of(s, p);
+        let found = with_columns(base, n, &starts);
+        let k = attribute(s, &found, &values, root, path);
+        report(s, value_at(s, k));
     } else {
         io::write_all(STDOUT_FILENO, b"-\n");
     }

@@ -1,4 +1,6 @@
-// Reserved words: the kind of a word, and whether it is reserved.
+// Reserved words: the kind of a word, and whether it is reserved; and the one that stands at a place of a text.
+pub mod standing;
+
 ghost use mathlib.Core.Path.{_≡_};
 ghost use mathlib.Core.Bool.{cond, _||_};
 ghost use lib.ListN.{length};

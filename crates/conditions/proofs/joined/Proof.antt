@@ -7,20 +7,11 @@ use borrow.Author.Needs.{needs}
 use Rattle.conditions.proofs.joined.Statement.{statement}
 use Rattle.conditions.proofs.joined.Tie as tie
 
-append-requires : tie.Need-append-requires
-append-requires c κs = search needs
-
-add-t13 : tie.Need-add-t13
-add-t13 c = search needs
-
-same-length : tie.Need-same-length
-same-length c = search needs
-
 returns : tie.Need-returns
-returns c = record { first = λ (e : _ ≡ false). absurd (let t = c .before .before .before .before .if1 .taken in let z : _≡_ {A = ℕ} 0 1 = cc in omega arith); later = λ e. (refl, c .before .before .append .ensures .0, c .before .before .append .ensures .1) }
+returns c = record { first = λ (e : _ ≡ false). absurd (let t = c .before .before .before .before .if1 .taken in let z : _≡_ {A = ℕ} 0 1 = cc in omega arith); later = λ e. c .before .before .closed .ensures }
 
 returns-2 : tie.Need-returns-2
-returns-2 c = record { first = λ e. (refl, refl, refl); later = λ (e : _ ≡ true). absurd (let t = c .if1 .left in let z : _≡_ {A = ℕ} 0 1 = cc in omega arith) }
+returns-2 c = record { first = λ e. (refl, refl); later = λ (e : _ ≡ true). absurd (let t = c .if1 .left in let z : _≡_ {A = ℕ} 0 1 = cc in omega arith) }
 
 pub joined-spec : {M : Type 1} → statement M
-joined-spec = tie.close (tie.spec append-requires add-t13 same-length returns returns-2)
+joined-spec = tie.close (tie.spec (λ c κs. search needs) (λ c. search needs) returns returns-2)

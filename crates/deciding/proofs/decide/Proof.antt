@@ -1,6 +1,7 @@
 -- `deciding::decide` meets its contract: test by test, in document 01's order. Assumes nothing.
 use Rattle.deciding.proofs.Answering.{untyped, typed-form, typed-number, the-system, refused-21, refused-22, refused-23, refused-24, as-held}
 use Rattle.bags.proofs.SectionLaws.{bag-divided, is-none, sections-at}
+use Rattle.bags.proofs.Exactly.{bag-exactly}
 use Rattle.meaning.specs.Targets.{isSystem, isSubject, isAction, isResource}
 use borrow.Author.Tests.{not-true, not-false}
 use mathlib.Core.Bool.{true, false}
@@ -45,10 +46,11 @@ returns-4 c =
 held-requires : tie.Need-held-requires
 held-requires c κs =
     let last = c .before .before .before .before .before .before .before in
-    let second = last .before .before .before .before in (
+    let second = last .before .before .before .before in
+    let b = bag-divided _ _ (sym (c .before .before .before .before .bag-sections .ensures) ∙ c .before .before .p .given .1) in (
       c .before .before .before .before .before .before .class-table .ensures,
       (
-        sections-at _ _ (bag-divided _ _ (sym (c .before .before .before .before .bag-sections .ensures) ∙ c .before .before .p .given .1) .1),
+        (sections-at _ _ (b .1), bag-exactly _ .0 (b .0) .1 .most),
         record {
           subject-type = typed-number _ _ _ (second .before .subject-type .ensures) (second .if2 .left);
           resource-type = typed-number _ _ _ (last .before .resource-type .ensures) (last .if4 .left);

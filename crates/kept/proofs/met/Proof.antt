@@ -1,7 +1,7 @@
 -- `kept::met` meets its contract: the note says, or the policy is met and noted. Assumes nothing.
 use mathlib.Core.Path.{sym, _∙_}
 use lib.ListN.{length-set}
-use Rattle.kept.proofs.Noting.{met-noted, met-anew}
+use Rattle.kept.proofs.Noting.{met-noted, met-anew, last-read, policy-read}
 use native.Mathlib.Omega.{arith}
 use borrow.Author.Needs.{needs}
 use Rattle.kept.proofs.met.Statement.{statement}
@@ -14,16 +14,19 @@ returns c =
     ((λ sat here old. met-noted _ _ _ (start .args .note .i) (forgot .0) (forgot .1) (start .args .note .choice) sat old (start .pre .0 .1) (c .if1 .taken)), forgot .1)
 
 satisfied-where-requires : tie.Need-satisfied-where-requires
-satisfied-where-requires c κs = let pre = c .before .before .before .before .before .before .before .before .before .before .pre in (pre .1 .0, pre .1 .1)
+satisfied-where-requires c κs =
+    let start = c .before .before .before .before .before .before .before .before .before .before .before .before in
+    (last-read (start .args .text .now) (start .args .table .now) (c .before .end-of .ensures) (c .entry-at .ensures) (start .pre .1 .0), start .pre .1 .1)
 
 returns-2 : tie.Need-returns-2
 returns-2 c =
-    let forget = c .before .before .before .before .before .forget in
-    let start = c .before .before .before .before .before .before .before .before .before .before .before .before in (
+    let forget = c .before .before .before .before .before .before .before .forget in
+    let start = c .before .before .before .before .before .before .before .before .before .before .before .before .before .before in
+    let read = policy-read (start .args .table .now) (c .before .before .before .end-of .ensures) (c .before .before .entry-at .ensures) in (
       (λ sat here old.
           rw (c .note-of .ensures)
           (met-anew _ _ (forget .last .1 .0) (start .args .note .i) (forget .ensures .0) (forget .ensures .1) (start .args .note .choice) sat old (start .pre .0 .0) (start .pre .0 .1)
-          (c .before .satisfied-where .result) (c .before .satisfied-where .ensures ∙ sym here))),
+          (c .before .satisfied-where .result) ((rw read at (c .before .satisfied-where .ensures)) ∙ sym here))),
       simp length-set (forget .ensures .1),
     )
 
@@ -37,6 +40,9 @@ met-spec =
     (λ c. search needs)
     (λ c. search needs)
     returns
+    (λ c κs. search needs)
+    (λ c. search needs)
+    (λ c κs. search needs)
     satisfied-where-requires
     (λ c κs. search needs)
     (λ c. search needs)

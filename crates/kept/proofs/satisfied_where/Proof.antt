@@ -9,11 +9,11 @@ returns : tie.Need-returns
 returns c = let e : c .before .before .before .before .before .args .aimed ≡ false = not-true _ (c .if1 .taken) in rw e
 
 condition-holds-requires : tie.Need-condition-holds-requires
-condition-holds-requires c κs = c .before .before .before .before .before .pre
+condition-holds-requires c κs = c .before .before .before .before .before .before .before .before .before .pre
 
 returns-2 : tie.Need-returns-2
 returns-2 c =
-    let e : c .before .before .before .before .before .before .args .aimed ≡ true = not-false _ (c .before .if1 .left) in
+    let e : c .before .before .before .before .before .before .before .before .before .before .args .aimed ≡ true = not-false _ (c .before .before .before .before .before .if1 .left) in
     c .condition-holds .ensures ∙ rw e
 
 pub satisfied-where-spec : {M : Type 1} → statement M

@@ -13,17 +13,17 @@ attribute-value-requires c κs = (c .before .before .before .pre .0 .lies, c .be
 
 returns : tie.Need-returns
 returns c = λ action.
-    given-one _ (has-is _ _ _ _ _ _ (c .before .before .before .before .before .before .before .pre .1 .1 .1) action _ _ (c .before .before .before .before .before .before .before .pre .0) (c .before .before .before .attribute-value .ensures) _ (c .before .before .is-present .ensures))
-    (of-no-list _ _ _ _ _ _ (c .before .before .before .before .before .before .before .pre .1 .1 .1) action _ _ (c .before .before .before .before .before .before .before .pre .0) (c .before .before .before .attribute-value .ensures) (λ l. literalsListed (c .before .before .before .before .before .before .before .args .text .now) (c .before .before .before .before .before .before .before .args .any) l (literalsAt (c .before .before .before .before .before .before .before .args .count) (c .before .before .before .before .before .before .before .args .table .now) (c .before .before .before .before .before .before .before .args .at))) (c .before .if1 .taken))
+    given-one _ (has-is _ _ _ _ (c .before .before .before .before .before .before .before .pre .1 .1 .1) action _ _ (c .before .before .before .before .before .before .before .pre .0) (c .before .before .before .attribute-value .ensures) _ (c .before .before .is-present .ensures))
+    (of-no-list _ _ _ _ (c .before .before .before .before .before .before .before .pre .1 .1 .1) action _ _ (c .before .before .before .before .before .before .before .pre .0) (c .before .before .before .attribute-value .ensures) (λ l. literalsListed (c .before .before .before .before .before .before .before .args .text .now) (c .before .before .before .before .before .before .before .args .any) l (literalsAt (c .before .before .before .before .before .before .before .args .count) (c .before .before .before .before .before .before .before .args .table .now) (c .before .before .before .before .before .before .before .args .at))) (c .before .if1 .taken))
     (c .given-of .ensures)
 
 literals-listed-requires : tie.Need-literals-listed-requires
-literals-listed-requires c κs = (c .before .before .before .before .before .before .pre .1 .0, (c .before .before .before .before .before .before .pre .1 .1 .0, attribute-list _ _ _ _ _ _ (c .before .before .before .before .before .before .pre .1 .1 .1) _ _ (c .before .before .attribute-value .ensures) (c .if1 .left)))
+literals-listed-requires c κs = (c .before .before .before .before .before .before .pre .1 .0, (c .before .before .before .before .before .before .pre .1 .1 .0, attribute-list _ _ _ _ (c .before .before .before .before .before .before .pre .1 .1 .1) _ _ (c .before .before .attribute-value .ensures) (c .if1 .left)))
 
 returns-2 : tie.Need-returns-2
 returns-2 c = λ action.
-    given-one _ (has-is _ _ _ _ _ _ (c .before .before .before .before .before .before .before .before .pre .1 .1 .1) action _ _ (c .before .before .before .before .before .before .before .before .pre .0) (c .before .before .before .before .attribute-value .ensures) _ (c .before .before .before .is-present .ensures))
-    (of-list _ _ _ _ _ _ (c .before .before .before .before .before .before .before .before .pre .1 .1 .1) action _ _ (c .before .before .before .before .before .before .before .before .pre .0) (c .before .before .before .before .attribute-value .ensures) (λ l. literalsListed (c .before .before .before .before .before .before .before .before .args .text .now) (c .before .before .before .before .before .before .before .before .args .any) l (literalsAt (c .before .before .before .before .before .before .before .before .args .count) (c .before .before .before .before .before .before .before .before .args .table .now) (c .before .before .before .before .before .before .before .before .args .at))) _ (c .before .before .if1 .left) (c .before .literals-listed .ensures))
+    given-one _ (has-is _ _ _ _ (c .before .before .before .before .before .before .before .before .pre .1 .1 .1) action _ _ (c .before .before .before .before .before .before .before .before .pre .0) (c .before .before .before .before .attribute-value .ensures) _ (c .before .before .before .is-present .ensures))
+    (of-list _ _ _ _ (c .before .before .before .before .before .before .before .before .pre .1 .1 .1) action _ _ (c .before .before .before .before .before .before .before .before .pre .0) (c .before .before .before .before .attribute-value .ensures) (λ l. literalsListed (c .before .before .before .before .before .before .before .before .args .text .now) (c .before .before .before .before .before .before .before .before .args .any) l (literalsAt (c .before .before .before .before .before .before .before .before .args .count) (c .before .before .before .before .before .before .before .before .args .table .now) (c .before .before .before .before .before .before .before .before .args .at))) _ (c .before .before .if1 .left) (c .before .literals-listed .ensures))
     (c .given-of2 .ensures)
 
 pub contains-literals-spec : {M : Type 1} → statement M

@@ -15,31 +15,31 @@ attribute-value-requires c κs = (c .before .before .before .pre .1 .0 .lies, c 
 
 returns : tie.Need-returns
 returns c =
-    given-two _ _ (operand-met _ _ _ _ _ _ (c .before .before .before .before .before .before .before .before .pre .1 .1 .0) _ _ _ (c .before .before .before .before .before .before .before .before .pre .0) (c .before .before .before .before .before .before .before .before .pre .1 .1 .1) _ (c .before .before .before .is-present .ensures))
-    (has-is _ _ _ _ _ _ (c .before .before .before .before .before .before .before .before .pre .1 .1 .0) _ _ _ (c .before .before .before .before .before .before .before .before .pre .1 .0) (c .before .before .before .before .attribute-value .ensures) _ (c .before .before .is-present2 .ensures))
-    (of-no-string _ _ _ _ _ _ (c .before .before .before .before .before .before .before .before .pre .1 .1 .0) _ _ _ (c .before .before .before .before .before .before .before .before .pre .0) (c .before .before .before .before .before .before .before .before .pre .1 .1 .1) (λ x. ifTexts (meantPath (c .before .before .before .before .before .before .before .before .args .text .now) (c .before .before .before .before .before .before .before .before .args .s .now) (c .before .before .before .before .before .before .before .before .args .p) (c .before .before .before .before .before .before .before .before .args .n) (c .before .before .before .before .before .before .before .before .args .heads .now) (c .before .before .before .before .before .before .before .before .args .values .now) (c .before .before .before .before .before .before .before .before .args .action .now) (c .before .before .before .before .before .before .before .before .args .b)) (λ l. amongStrings l x)) (c .before .if1 .taken))
+    given-two _ _ (operand-met _ _ _ _ (c .before .before .before .before .before .before .before .before .pre .1 .1 .0) _ _ _ (c .before .before .before .before .before .before .before .before .pre .0) (c .before .before .before .before .before .before .before .before .pre .1 .1 .1) _ (c .before .before .before .is-present .ensures))
+    (has-is _ _ _ _ (c .before .before .before .before .before .before .before .before .pre .1 .1 .0) _ _ _ (c .before .before .before .before .before .before .before .before .pre .1 .0) (c .before .before .before .before .attribute-value .ensures) _ (c .before .before .is-present2 .ensures))
+    (of-no-string _ _ _ _ (c .before .before .before .before .before .before .before .before .pre .1 .1 .0) _ _ _ (c .before .before .before .before .before .before .before .before .pre .0) (c .before .before .before .before .before .before .before .before .pre .1 .1 .1) (λ x. ifTexts (meantPath (c .before .before .before .before .before .before .before .before .args .text .now) (c .before .before .before .before .before .before .before .before .args .s .now) (c .before .before .before .before .before .before .before .before .args .places .now) (c .before .before .before .before .before .before .before .before .args .values .now) (c .before .before .before .before .before .before .before .before .args .action .now) (c .before .before .before .before .before .before .before .before .args .b)) (λ l. amongStrings l x)) (c .before .if1 .taken))
     (c .given-of .ensures)
 
 returns-2 : tie.Need-returns-2
 returns-2 c =
-    given-two _ _ (operand-met _ _ _ _ _ _ (c .before .before .before .before .before .before .before .before .before .pre .1 .1 .0) _ _ _ (c .before .before .before .before .before .before .before .before .before .pre .0) (c .before .before .before .before .before .before .before .before .before .pre .1 .1 .1) _ (c .before .before .before .before .is-present .ensures))
-    (has-is _ _ _ _ _ _ (c .before .before .before .before .before .before .before .before .before .pre .1 .1 .0) _ _ _ (c .before .before .before .before .before .before .before .before .before .pre .1 .0) (c .before .before .before .before .before .attribute-value .ensures) _ (c .before .before .before .is-present2 .ensures))
-    (of-string _ _ _ _ _ _ (c .before .before .before .before .before .before .before .before .before .pre .1 .1 .0) _ _ _ (c .before .before .before .before .before .before .before .before .before .pre .0) (c .before .before .before .before .before .before .before .before .before .pre .1 .1 .1) (λ x. ifTexts (meantPath (c .before .before .before .before .before .before .before .before .before .args .text .now) (c .before .before .before .before .before .before .before .before .before .args .s .now) (c .before .before .before .before .before .before .before .before .before .args .p) (c .before .before .before .before .before .before .before .before .before .args .n) (c .before .before .before .before .before .before .before .before .before .args .heads .now) (c .before .before .before .before .before .before .before .before .before .args .values .now) (c .before .before .before .before .before .before .before .before .before .args .action .now) (c .before .before .before .before .before .before .before .before .before .args .b)) (λ l. amongStrings l x)) _ _ (c .before .before .if1 .left) refl
-    (of-no-list _ _ _ _ _ _ (c .before .before .before .before .before .before .before .before .before .pre .1 .1 .0) _ _ _ (c .before .before .before .before .before .before .before .before .before .pre .1 .0) (c .before .before .before .before .before .attribute-value .ensures) _ (c .before .if2 .taken)))
+    given-two _ _ (operand-met _ _ _ _ (c .before .before .before .before .before .before .before .before .before .pre .1 .1 .0) _ _ _ (c .before .before .before .before .before .before .before .before .before .pre .0) (c .before .before .before .before .before .before .before .before .before .pre .1 .1 .1) _ (c .before .before .before .before .is-present .ensures))
+    (has-is _ _ _ _ (c .before .before .before .before .before .before .before .before .before .pre .1 .1 .0) _ _ _ (c .before .before .before .before .before .before .before .before .before .pre .1 .0) (c .before .before .before .before .before .attribute-value .ensures) _ (c .before .before .before .is-present2 .ensures))
+    (of-string _ _ _ _ (c .before .before .before .before .before .before .before .before .before .pre .1 .1 .0) _ _ _ (c .before .before .before .before .before .before .before .before .before .pre .0) (c .before .before .before .before .before .before .before .before .before .pre .1 .1 .1) (λ x. ifTexts (meantPath (c .before .before .before .before .before .before .before .before .before .args .text .now) (c .before .before .before .before .before .before .before .before .before .args .s .now) (c .before .before .before .before .before .before .before .before .before .args .places .now) (c .before .before .before .before .before .before .before .before .before .args .values .now) (c .before .before .before .before .before .before .before .before .before .args .action .now) (c .before .before .before .before .before .before .before .before .before .args .b)) (λ l. amongStrings l x)) _ _ (c .before .before .if1 .left) refl
+    (of-no-list _ _ _ _ (c .before .before .before .before .before .before .before .before .before .pre .1 .1 .0) _ _ _ (c .before .before .before .before .before .before .before .before .before .pre .1 .0) (c .before .before .before .before .before .attribute-value .ensures) _ (c .before .if2 .taken)))
     (c .given-of2 .ensures)
 
 operand-string-requires : tie.Need-operand-string-requires
-operand-string-requires c κs = (c .before .before .before .before .before .before .before .before .pre .0, operand-whole _ _ _ _ _ _ (c .before .before .before .before .before .before .before .before .pre .1 .1 .0) _ _ (c .before .before .before .before .before .before .before .before .pre .1 .1 .1))
+operand-string-requires c κs = (c .before .before .before .before .before .before .before .before .pre .0, operand-whole _ _ _ _ (c .before .before .before .before .before .before .before .before .pre .1 .1 .0) _ _ (c .before .before .before .before .before .before .before .before .pre .1 .1 .1))
 
 in-list-requires : tie.Need-in-list-requires
-in-list-requires c κs = attribute-list _ _ _ _ _ _ (c .before .before .before .before .before .before .before .before .before .pre .1 .1 .0) _ _ (c .before .before .before .before .before .attribute-value .ensures) (c .before .if2 .left)
+in-list-requires c κs = attribute-list _ _ _ _ (c .before .before .before .before .before .before .before .before .before .pre .1 .1 .0) _ _ (c .before .before .before .before .before .attribute-value .ensures) (c .before .if2 .left)
 
 returns-3 : tie.Need-returns-3
 returns-3 c =
-    given-two _ _ (operand-met _ _ _ _ _ _ (c .before .before .before .before .before .before .before .before .before .before .before .pre .1 .1 .0) _ _ _ (c .before .before .before .before .before .before .before .before .before .before .before .pre .0) (c .before .before .before .before .before .before .before .before .before .before .before .pre .1 .1 .1) _ (c .before .before .before .before .before .before .is-present .ensures))
-    (has-is _ _ _ _ _ _ (c .before .before .before .before .before .before .before .before .before .before .before .pre .1 .1 .0) _ _ _ (c .before .before .before .before .before .before .before .before .before .before .before .pre .1 .0) (c .before .before .before .before .before .before .before .attribute-value .ensures) _ (c .before .before .before .before .before .is-present2 .ensures))
-    (of-string _ _ _ _ _ _ (c .before .before .before .before .before .before .before .before .before .before .before .pre .1 .1 .0) _ _ _ (c .before .before .before .before .before .before .before .before .before .before .before .pre .0) (c .before .before .before .before .before .before .before .before .before .before .before .pre .1 .1 .1) (λ x. ifTexts (meantPath (c .before .before .before .before .before .before .before .before .before .before .before .args .text .now) (c .before .before .before .before .before .before .before .before .before .before .before .args .s .now) (c .before .before .before .before .before .before .before .before .before .before .before .args .p) (c .before .before .before .before .before .before .before .before .before .before .before .args .n) (c .before .before .before .before .before .before .before .before .before .before .before .args .heads .now) (c .before .before .before .before .before .before .before .before .before .before .before .args .values .now) (c .before .before .before .before .before .before .before .before .before .before .before .args .action .now) (c .before .before .before .before .before .before .before .before .before .before .before .args .b)) (λ l. amongStrings l x)) _ _ (c .before .before .before .before .if1 .left) (c .before .before .operand-string .ensures)
-    (of-list _ _ _ _ _ _ (c .before .before .before .before .before .before .before .before .before .before .before .pre .1 .1 .0) _ _ _ (c .before .before .before .before .before .before .before .before .before .before .before .pre .1 .0) (c .before .before .before .before .before .before .before .attribute-value .ensures) (λ l. amongStrings l (c .before .before .operand-string .result .now)) _ (c .before .before .before .if2 .left) (c .before .in-list .ensures)))
+    given-two _ _ (operand-met _ _ _ _ (c .before .before .before .before .before .before .before .before .before .before .before .pre .1 .1 .0) _ _ _ (c .before .before .before .before .before .before .before .before .before .before .before .pre .0) (c .before .before .before .before .before .before .before .before .before .before .before .pre .1 .1 .1) _ (c .before .before .before .before .before .before .is-present .ensures))
+    (has-is _ _ _ _ (c .before .before .before .before .before .before .before .before .before .before .before .pre .1 .1 .0) _ _ _ (c .before .before .before .before .before .before .before .before .before .before .before .pre .1 .0) (c .before .before .before .before .before .before .before .attribute-value .ensures) _ (c .before .before .before .before .before .is-present2 .ensures))
+    (of-string _ _ _ _ (c .before .before .before .before .before .before .before .before .before .before .before .pre .1 .1 .0) _ _ _ (c .before .before .before .before .before .before .before .before .before .before .before .pre .0) (c .before .before .before .before .before .before .before .before .before .before .before .pre .1 .1 .1) (λ x. ifTexts (meantPath (c .before .before .before .before .before .before .before .before .before .before .before .args .text .now) (c .before .before .before .before .before .before .before .before .before .before .before .args .s .now) (c .before .before .before .before .before .before .before .before .before .before .before .args .places .now) (c .before .before .before .before .before .before .before .before .before .before .before .args .values .now) (c .before .before .before .before .before .before .before .before .before .before .before .args .action .now) (c .before .before .before .before .before .before .before .before .before .before .before .args .b)) (λ l. amongStrings l x)) _ _ (c .before .before .before .before .if1 .left) (c .before .before .operand-string .ensures)
+    (of-list _ _ _ _ (c .before .before .before .before .before .before .before .before .before .before .before .pre .1 .1 .0) _ _ _ (c .before .before .before .before .before .before .before .before .before .before .before .pre .1 .0) (c .before .before .before .before .before .before .before .attribute-value .ensures) (λ l. amongStrings l (c .before .before .operand-string .result .now)) _ (c .before .before .before .if2 .left) (c .before .in-list .ensures)))
     (c .given-of3 .ensures)
 
 pub operand-in-attribute-spec : {M : Type 1} → statement M

@@ -1,6 +1,7 @@
 -- `sheets::sheet` meets its contract: a case for each refusal, and what is said of the part that is lent on. Assumes nothing.
 use Rattle.sheets.proofs.Cases.{refused-25, refused-24, refused-26, listed-there}
 use Rattle.questions.proofs.ColumnLaws.{question-divided, no-question, question-is}
+use Rattle.views.proofs.PlacedLaws.{question-small}
 use mathlib.Core.Path.{sym, _∙_}
 use native.Mathlib.Omega.{arith}
 use borrow.Author.Needs.{needs}
@@ -37,6 +38,7 @@ page-for-requires c κs = (
   c .before .before .before .before .before .before .before .before .before .before .class-table .ensures,
   record {
     question = question-is _ _ (sym (c .before .before .before .before .before .before .before .before .question-sections .ensures) ∙ c .before .before .before .before .before .before .p .given .1);
+    short = question-small _ _ (sym (c .before .before .before .before .before .before .before .before .question-sections .ensures) ∙ c .before .before .before .before .before .before .p .given .1);
     all-rows = c .before .before .before .rows .ensures .0;
     few = c .before .before .before .rows .ensures .1;
     within = c .before .before .if3 .left;

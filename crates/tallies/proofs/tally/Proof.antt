@@ -1,6 +1,7 @@
 -- `tallies::tally` meets its contract: a case for each refusal, and a tally of the question. Assumes nothing.
 use Rattle.tallies.proofs.Cases.{refused-27, one-to-eight, refused-24, tallied-there}
 use Rattle.questions.proofs.ColumnLaws.{question-divided, no-question, question-is}
+use Rattle.views.proofs.PlacedLaws.{question-small}
 use mathlib.Core.Path.{sym, _∙_}
 use borrow.Author.Needs.{needs}
 use Rattle.tallies.proofs.tally.Statement.{statement}
@@ -12,7 +13,7 @@ returns c = refused-27 _ _ _ _ _ _ (c .if1 .taken)
 tally-asked-requires : tie.Need-tally-asked-requires
 tally-asked-requires c κs = (
   c .before .before .before .before .before .before .before .class-table .ensures,
-  (question-is _ _ (sym (c .before .before .before .before .before .question-sections .ensures) ∙ c .before .before .before .p .given .1), one-to-eight _ (c .before .before .before .before .before .before .before .before .if1 .left) .1),
+  ((question-is _ _ (sym (c .before .before .before .before .before .question-sections .ensures) ∙ c .before .before .before .p .given .1), question-small _ _ (sym (c .before .before .before .before .before .question-sections .ensures) ∙ c .before .before .before .p .given .1)), one-to-eight _ (c .before .before .before .before .before .before .before .before .if1 .left) .1),
 )
 
 returns-2 : tie.Need-returns-2

@@ -8,16 +8,16 @@ use Rattle.tokens.specs.declared.reader.Token.{Token}
 use Rattle.token_reader.proofs.string.Statement.{statement}
 use Rattle.token_reader.proofs.string.Tie as tie
 
--- the string up to the run's end, at the place after the call of `run_end`
-abbrev to-end : tie.After-run-end → Token
-to-end c = let args = c .before .before .args in stringTo (now (args .text)) (args .start) (c .run-end .result)
+-- the string up to the run's end, at the place after the call of `long_run_end`
+abbrev to-end : tie.After-long-run-end → Token
+to-end c = let args = c .before .before .args in stringTo (now (args .text)) (args .start) (c .long-run-end .result)
 
-abbrev Right : tie.After-run-end → Token → Type 0
+abbrev Right : tie.After-long-run-end → Token → Type 0
 Right c r = let args = c .before .before .args in r ≡ stringToken (now (args .text)) (args .start)
 
-ended : (c : tie.After-run-end) (r : Token) → r ≡ to-end c → Right c r
+ended : (c : tie.After-long-run-end) (r : Token) → r ≡ to-end c → Right c r
 unfolding stringToken
-ended c r e = let args = c .before .before .args in e ∙ ap (stringTo (now (args .text)) (args .start)) (c .run-end .ensures .place)
+ended c r e = let args = c .before .before .args in e ∙ ap (stringTo (now (args .text)) (args .start)) (c .long-run-end .ensures .place)
 
 returns : tie.Need-returns
 returns c = ended (c .before) _ (simp (le-leb _ _ (c .if1 .taken)))

@@ -1,80 +1,65 @@
--- `token_reader::token_from` meets its contract: the tests decide `tokenBy` at the first byte's class. Assumes nothing.
-use Rattle.tokens.proofs.LoneLaws.{lone-token}
-use borrow.Author.Tests.{eq-eqb, ne-eqb}
+-- `token_reader::token_from` meets its contract: the bits of the entry decide `tokenFrom`. Assumes nothing.
+use mathlib.Core.Path.{_∙_}
+use mathlib.Core.List.{List}
+use Prim.Native.Nat.{ℕ, _<_}
 use denote.Ref.{now}
-use mathlib.Core.Path.{sym, _∙_}
+use native.Mathlib.Omega.{arith}
+use lib.ListN.{getD}
 use borrow.Author.Needs.{needs}
+use Rattle.tokens.proofs.EntryLaws.{lone-here, letter-here, digit-here, mark-here, none-here}
 use Rattle.token_reader.proofs.token_from.Statement.{statement}
 use Rattle.token_reader.proofs.token_from.Tie as tie
 
+-- the text and the place
+abbrev text : tie.After-shared-slice-known → List ℕ
+text c = now (c .before .args .text)
+
+abbrev start : tie.After-shared-slice-known → ℕ
+start c = c .before .args .start
+
+-- a byte is below 256
+byte : (c : tie.After-shared-slice-known) → getD (text c) (start c) 0 < 256
+byte c = omega (arith, c .shared-slice-known .given (start c))
+
+shared-slice-read-one-byte : tie.Need-shared-slice-read-one-byte
+shared-slice-read-one-byte c = lone-here (text (c .before .before)) (start (c .before .before)) _ (byte (c .before .before)) (c .before .before .before .pre .2) (c .before .if1 .taken) .0
+
 returns : tie.Need-returns
-returns c =
-    let args = c .before .before .before .before .before .args in
-    c .one-byte .ensures ∙ sym (lone-token (now (args .text)) (args .start) (sym (c .before .before .is-of .ensures) ∙ c .before .if1 .taken))
+returns c = c .one-byte .ensures ∙ lone-here (text (c .before .before .before)) (start (c .before .before .before)) _ (byte (c .before .before .before)) (c .before .before .before .before .pre .2) (c .before .before .if1 .taken) .1
+
+word-requires : tie.Need-word-requires
+word-requires c κs = let h = letter-here (text (c .before .before)) (start (c .before .before)) _ (byte (c .before .before)) (c .before .before .before .pre .2) (c .if2 .taken) in (c .before .before .before .pre .0, h .0, h .1)
 
 returns-2 : tie.Need-returns-2
-returns-2 c =
-    simp (sym (c .before .before .is-of2 .ensures) ∙ c .before .if2 .taken)
-    (c .word .ensures)
+returns-2 c = c .word .ensures ∙ letter-here (text (c .before .before .before)) (start (c .before .before .before)) _ (byte (c .before .before .before)) (c .before .before .before .before .pre .2) (c .before .if2 .taken) .2
+
+number-requires : tie.Need-number-requires
+number-requires c κs = (c .before .before .before .before .pre .0, digit-here (text (c .before .before .before)) (start (c .before .before .before)) _ (byte (c .before .before .before)) (c .before .before .before .before .pre .2) (c .before .if2 .left) (c .if3 .taken) .0)
 
 returns-3 : tie.Need-returns-3
-returns-3 c =
-    simp (sym (c .before .before .before .before .is-of2 .ensures) ∙ c .before .before .before .if2 .left, sym (c .before .before .is-of3 .ensures) ∙ c .before .if3 .taken)
-    (c .number .ensures)
+returns-3 c = c .number .ensures ∙ digit-here (text (c .before .before .before .before)) (start (c .before .before .before .before)) _ (byte (c .before .before .before .before)) (c .before .before .before .before .before .pre .2) (c .before .before .if2 .left) (c .before .if3 .taken) .1
+
+from-mark-requires : tie.Need-from-mark-requires
+from-mark-requires c κs = (c .before .before .before .before .before .pre .0, mark-here (text (c .before .before .before .before)) (start (c .before .before .before .before)) _ (byte (c .before .before .before .before)) (c .before .before .before .before .before .pre .2) (c .before .before .if2 .left) (c .before .if3 .left) (c .if4 .taken) .0)
 
 returns-4 : tie.Need-returns-4
-returns-4 c =
-    let no-letter = c .before .before .before .before .before in
-    let no-digit = c .before .before .before in
-    simp (
-      sym (no-letter .before .is-of2 .ensures) ∙ no-letter .if2 .left,
-      sym (no-digit .before .is-of3 .ensures) ∙ no-digit .if3 .left,
-      sym (c .before .before .is-of4 .ensures) ∙ c .before .if4 .taken,
-    )
-    (c .from-mark .ensures)
+returns-4 c = c .from-mark .ensures ∙ mark-here (text (c .before .before .before .before .before)) (start (c .before .before .before .before .before)) _ (byte (c .before .before .before .before .before)) (c .before .before .before .before .before .before .pre .2) (c .before .before .before .if2 .left) (c .before .before .if3 .left) (c .before .if4 .taken) .1
 
 returns-5 : tie.Need-returns-5
-returns-5 c =
-    let no-letter = c .before .before .before .before .before .before in
-    let no-digit = c .before .before .before .before in
-    simp (
-      sym (no-letter .before .is-of2 .ensures) ∙ no-letter .if2 .left,
-      sym (no-digit .before .is-of3 .ensures) ∙ no-digit .if3 .left,
-      sym (c .before .before .before .is-of4 .ensures) ∙ c .before .before .if4 .left,
-      eq-eqb _ _ (c .before .if5 .taken),
-    )
-    (c .one-byte2 .ensures)
-
-returns-6 : tie.Need-returns-6
-returns-6 c =
-    let no-letter = c .before .before .before .before .before .before in
-    let no-digit = c .before .before .before .before in
-    simp (
-      sym (no-letter .before .is-of2 .ensures) ∙ no-letter .if2 .left,
-      sym (no-digit .before .is-of3 .ensures) ∙ no-digit .if3 .left,
-      sym (c .before .before .before .is-of4 .ensures) ∙ c .before .before .if4 .left,
-      ne-eqb _ _ (c .before .if5 .left),
-    )
-    (c .one-byte3 .ensures)
+returns-5 c = c .no-token .ensures ∙ none-here (text (c .before .before .before .before .before)) (start (c .before .before .before .before .before)) _ (byte (c .before .before .before .before .before)) (c .before .before .before .before .before .before .pre .2) (c .before .before .before .if2 .left) (c .before .before .if3 .left) (c .before .if4 .left)
 
 pub token-from-spec : {M : Type 1} → statement M
 token-from-spec =
     tie.close
     (tie.spec
-    (λ c. search needs)
-    (λ c κs. search needs)
+    shared-slice-read-one-byte
     (λ c κs. search needs)
     returns
-    (λ c κs. search needs)
-    (λ c κs. search needs)
+    word-requires
     returns-2
-    (λ c κs. search needs)
-    (λ c κs. search needs)
+    number-requires
     returns-3
-    (λ c κs. search needs)
-    (λ c κs. search needs)
+    from-mark-requires
     returns-4
     (λ c κs. search needs)
-    (λ c κs. search needs)
-    returns-5
-    returns-6)
+    returns-5)

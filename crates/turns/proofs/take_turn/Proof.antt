@@ -13,15 +13,12 @@ decision-from-requires c κs =
     let pre = c .before .before .before .before .before .before .before .pre in
     let w = pre .0 in
     let at = pre .1 .0 in (
-      w .ready,
+      w .many,
       (
-        w .many,
+        w .few,
         (
-          w .few,
-          (
-            stands-there (w .question) (w .laid) (at .below) (at .standing),
-            (chosen-there (w .question) (w .laid) (at .below) (at .standing), (w .depths, pre .1 .1)),
-          ),
+          stands-there (w .question) (w .laid) (at .below) (at .standing),
+          (pre .1 .1 .1 .1, (chosen-there (w .question) (w .laid) (at .below) (at .standing), (w .depths, (w .ended, (pre .1 .1 .1 .0, pre .1 .1 .0))))),
         ),
       ),
     )
@@ -50,7 +47,8 @@ returns c =
         acts = at .acts;
         whose = at .whose;
         standing = stands-next (rw (as-many-rows (w .question) (w .laid)) below) (at .standing) (c .step .ensures);
-        kept = kept-next (w .many) (at .kept) decided (at .standing .values-are) (c .step .ensures);
+        within = c .step .ensures .moved .within;
+        kept = kept-next (at .kept) decided (at .standing .values-are) (c .step .ensures);
       };
     }
 

@@ -1,4 +1,3 @@
--- `views::attribute` meets its contract: the columns left and the base show what the row shows. Assumes nothing.
 use Prim.Native.Nat.{_+_}
 use borrow.Author.Needs.{needs}
 use lib.ListN.{getD}
@@ -6,54 +5,105 @@ use mathlib.Core.Path.{_≡_, refl, sym, _∙_}
 use native.Mathlib.Omega.{arith}
 use Rattle.tokens.specs.Blanks.{unblanked}
 use Rattle.tokens.specs.Table.{valuesFrom}
+use Rattle.lookups.specs.Index.{keptSections}
 use Rattle.views.proofs.ViewLaws.{columns-none, columns-here, columns-on}
 use Rattle.views.specs.Meaning.{columnsFirst}
+use Rattle.views.specs.Places.{keptColumns, keptHeads, placedValue}
 use Rattle.views.specs.Rows.{chosenAt, chosenOf, baseValue, rowValue}
 use Rattle.views.proofs.attribute.Statement.{statement}
 use Rattle.views.proofs.attribute.Tie as tie
+use Rattle.views.proofs.attribute.Reads as reads
+use Rattle.views.proofs.attribute.Lts as lts
+use Rattle.lookups.proofs.index.place_in.Reads as place-in-reads
+use Rattle.lookups.proofs.index.wide.Reads as wide-reads
+use Rattle.views.proofs.head_of.Reads as head-of-reads
+use Rattle.views.proofs.names.Reads as names-reads
 
 abbrev Inv-loop : tie.InvT-loop
-Inv-loop s p n heads values root path left₀ i₀ left i =
-    (columnsFirst (valuesFrom (λ i. chosenAt s (getD heads i 0) (getD values i 0)) i left) (baseValue s p) root (unblanked path) ≡ rowValue s p n heads values root (unblanked path))
-    × (i + left ≡ n)
+Inv-loop s places values root path left₀ i₀ left i =
+    (columnsFirst (valuesFrom (λ i. chosenAt s (getD (keptHeads places) i 0) (getD values i 0)) i left) (baseValue s (keptSections places)) root (unblanked path)
+    ≡ placedValue s places values root (unblanked path))
+    × (i + left ≡ keptColumns places)
 
 abbrev μ-loop : tie.MeasureT-loop
-μ-loop s p n heads values root path left₀ i₀ left i = left
+μ-loop s places values root path left₀ i₀ left i = left
 
+-- src/lib.rt:58:25
+element-copy-out-wide : tie.Need-element-copy-out-wide Inv-loop μ-loop
+element-copy-out-wide c = search needs
+
+-- src/lib.rt:58:9
+wide-requires : tie.Need-wide-requires Inv-loop μ-loop
+wide-requires c κs = search needs
+
+-- src/lib.rt:60:5
 loop-holds : tie.Need-loop-holds Inv-loop μ-loop
 unfolding rowValue chosenOf
-loop-holds c = (refl, omega arith)
+loop-holds c = (rw (c .wide .ensures) refl, omega (arith, c .wide .ensures))
 
+-- src/lib.rt:61:13
+head-of-requires : tie.Need-head-of-requires Inv-loop μ-loop
+head-of-requires c κs = omega (arith, c .before .before .before .before .before .before .pre .stands .few)
+
+-- src/lib.rt:62:12
 names-requires : tie.Need-names-requires Inv-loop μ-loop
-names-requires c κs = c .before .before .before .before .before .pre .named (c .before .before .loop .i) (omega arith)
+names-requires c κs = rw (c .head-of .ensures) (c .before .before .before .before .before .before .before .pre .stands .named (c .before .before .loop .i) (omega arith))
 
-value-from-requires : tie.Need-value-from-requires Inv-loop μ-loop
-value-from-requires c κs = c .before .before .before .before .before .before .before .before .pre .valued (c .before .before .before .before .before .loop .i) (omega arith)
+-- src/lib.rt:63:20
+mul-result : tie.Need-mul-result Inv-loop μ-loop
+mul-result c = search needs
 
+-- src/lib.rt:63:20
+element-copy-out-result : tie.Need-element-copy-out-result Inv-loop μ-loop
+element-copy-out-result c = search needs
+
+-- src/lib.rt:63:13
 returns : tie.Need-returns Inv-loop μ-loop
-returns c =
-    c .value-from .ensures
-    ∙ columns-here (λ i. chosenAt (c .before .before .before .before .before .before .before .before .before .args .s .now) (getD (c .before .before .before .before .before .before .before .before .before .args .heads .now) i 0) (getD (c .before .before .before .before .before .before .before .before .before .args .values .now) i 0)) (baseValue (c .before .before .before .before .before .before .before .before .before .args .s .now) (c .before .before .before .before .before .before .before .before .before .args .p))
-    (c .before .before .before .before .before .before .before .before .before .args .root) (unblanked (c .before .before .before .before .before .before .before .before .before .args .path .now)) (c .before .before .before .before .before .before .loop .left) (c .before .before .before .before .before .before .loop .i) (omega arith) (sym (c .before .before .before .names .ensures) ∙ c .before .before .if1 .taken)
-    ∙ c .before .before .before .before .before .before .loop .inv .0
+returns c = record {
+  is =
+      columns-here (λ i. chosenAt (c .before .before .before .before .before .before .before .before .before .before .args .s .now) (getD (keptHeads (c .before .before .before .before .before .before .before .before .before .before .args .places .now)) i 0) (getD (c .before .before .before .before .before .before .before .before .before .before .args .values .now) i 0)) (baseValue (c .before .before .before .before .before .before .before .before .before .before .args .s .now) (keptSections (c .before .before .before .before .before .before .before .before .before .before .args .places .now)))
+      (c .before .before .before .before .before .before .before .before .before .before .args .root) (unblanked (c .before .before .before .before .before .before .before .before .before .before .args .path .now)) (c .before .before .before .before .before .loop .left) (c .before .before .before .before .before .loop .i) (omega arith)
+      (rw (c .before .before .before .head-of .ensures) at (sym (c .before .before .names .ensures) ∙ c .before .if1 .taken))
+      ∙ c .before .before .before .before .before .loop .inv .0;
+  valued = λ h. c .before .before .before .before .before .before .before .before .before .before .pre .stands .valued (c .before .before .before .before .before .loop .i) (omega arith);
+}
 
+-- src/lib.rt:65:9
+add-i : tie.Need-add-i Inv-loop μ-loop
+add-i c = search needs
+
+-- src/lib.rt:66:9
+sub-left : tie.Need-sub-left Inv-loop μ-loop
+sub-left c = search needs
+
+-- src/lib.rt:60:5
+loop-less : tie.Need-loop-less Inv-loop μ-loop
+loop-less c = search needs
+
+-- src/lib.rt:60:5
 loop-again : tie.Need-loop-again Inv-loop μ-loop
 loop-again c = (
-  columns-on (λ i. chosenAt (c .before .before .before .before .before .before .before .args .s .now) (getD (c .before .before .before .before .before .before .before .args .heads .now) i 0) (getD (c .before .before .before .before .before .before .before .args .values .now) i 0)) (baseValue (c .before .before .before .before .before .before .before .args .s .now) (c .before .before .before .before .before .before .before .args .p))
-      (c .before .before .before .before .before .before .before .args .root) (unblanked (c .before .before .before .before .before .before .before .args .path .now)) (c .before .before .before .before .loop .left) (c .before .before .before .before .loop .i) (omega arith) (sym (c .before .names .ensures) ∙ c .if1 .left)
+  columns-on (λ i. chosenAt (c .before .before .before .before .before .before .before .before .before .args .s .now) (getD (keptHeads (c .before .before .before .before .before .before .before .before .before .args .places .now)) i 0) (getD (c .before .before .before .before .before .before .before .before .before .args .values .now) i 0)) (baseValue (c .before .before .before .before .before .before .before .before .before .args .s .now) (keptSections (c .before .before .before .before .before .before .before .before .before .args .places .now)))
+      (c .before .before .before .before .before .before .before .before .before .args .root) (unblanked (c .before .before .before .before .before .before .before .before .before .args .path .now)) (c .before .before .before .before .loop .left) (c .before .before .before .before .loop .i) (omega arith)
+      (rw (c .before .before .head-of .ensures) at (sym (c .before .names .ensures) ∙ c .if1 .left))
       ∙ c .before .before .before .before .loop .inv .0,
   omega arith,
 )
 
-base-value-requires : tie.Need-base-value-requires Inv-loop μ-loop
-base-value-requires c κs = c .before .before .before .before .pre .sections
+-- src/lib.rt:68:5
+place-in-requires : tie.Need-place-in-requires Inv-loop μ-loop
+place-in-requires c κs = (c .before .before .before .before .before .before .pre .stands .sections, c .before .before .before .before .before .before .pre .indexed)
 
+-- src/lib.rt:47:1
 returns-2 : tie.Need-returns-2 Inv-loop μ-loop
-returns-2 c =
-    c .base-value .ensures
-    ∙ sym (columns-none (λ i. chosenAt (c .before .before .before .before .before .args .s .now) (getD (c .before .before .before .before .before .args .heads .now) i 0) (getD (c .before .before .before .before .before .args .values .now) i 0)) (baseValue (c .before .before .before .before .before .args .s .now) (c .before .before .before .before .before .args .p))
-    (c .before .before .before .before .before .args .root) (unblanked (c .before .before .before .before .before .args .path .now)) (c .before .before .loop .left) (c .before .before .loop .i) (omega arith))
-    ∙ c .before .before .loop .inv .0
+returns-2 c = record {
+  is =
+      c .place-in .ensures .is
+      ∙ sym (columns-none (λ i. chosenAt (c .before .before .before .before .before .before .before .args .s .now) (getD (keptHeads (c .before .before .before .before .before .before .before .args .places .now)) i 0) (getD (c .before .before .before .before .before .before .before .args .values .now) i 0)) (baseValue (c .before .before .before .before .before .before .before .args .s .now) (keptSections (c .before .before .before .before .before .before .before .args .places .now)))
+      (c .before .before .before .before .before .before .before .args .root) (unblanked (c .before .before .before .before .before .before .before .args .path .now)) (c .before .before .loop .left) (c .before .before .loop .i) (omega arith))
+      ∙ c .before .before .loop .inv .0;
+  valued = c .place-in .ensures .valued;
+}
 
 pub attribute-spec : {M : Type 1} → statement M
 attribute-spec =
@@ -61,17 +111,17 @@ attribute-spec =
     (tie.spec
     Inv-loop
     μ-loop
+    element-copy-out-wide
+    wide-requires
     loop-holds
-    (λ c. search needs)
-    (λ c. search needs)
+    head-of-requires
     names-requires
-    (λ c. search needs)
-    (λ c. search needs)
-    value-from-requires
+    mul-result
+    element-copy-out-result
     returns
-    (λ c. search needs)
-    (λ c. search needs)
-    (λ c. search needs)
+    add-i
+    sub-left
+    loop-less
     loop-again
-    base-value-requires
+    place-in-requires
     returns-2)

@@ -1,7 +1,7 @@
 -- `compiling::policies::read_first` meets its contract: two tokens that must stand there, the part, and its comma. Assumes nothing.
 use Rattle.compiling.proofs.Gates.{gate, gate-first, opened, gate-done, gated}
-use Rattle.conditions.proofs.Earlier.{ready-at, told-as}
-use Rattle.parts.proofs.Writing.{turned-done, as-read, as-refused, next-lies, expected-done}
+use Rattle.conditions.proofs.Earlier.{ready-at}
+use Rattle.parts.proofs.Writing.{turned-done, as-read, as-refused, next-lies, expected-done, told-as}
 use Rattle.parts.proofs.Standing.{standing, turned-as, turned-bind}
 use Rattle.grammar.specs.Parser.{read-principal as principal-spec}
 use Rattle.reading.specs.Reader.{before, need}

@@ -1,7 +1,7 @@
 -- `compiling::policies::read_policy` meets its contract: its four parts in order. Assumes nothing.
 use Rattle.compiling.proofs.Gates.{policy-first, policy-second, policy-third, policy-last, policy-done}
-use Rattle.conditions.proofs.Earlier.{ready-at, told-as}
-use Rattle.parts.proofs.Writing.{done-as, turned-done, as-read, as-refused, free-small, next-lies, expected-done}
+use Rattle.conditions.proofs.Earlier.{ready-at}
+use Rattle.parts.proofs.Writing.{done-as, turned-done, as-read, as-refused, free-small, next-lies, expected-done, told-as}
 use Rattle.parts.proofs.Standing.{standing, turned-as, turned-bind}
 use Rattle.reading.specs.Reader.{before}
 use Rattle.reading.specs.Lexemes.{stream}

@@ -1,7 +1,7 @@
 -- `compiling::policies::read_second` meets its contract: a token that must stand there, the part, and its comma. Assumes nothing.
 use Rattle.compiling.proofs.Gates.{gate-first, opened, gated}
-use Rattle.conditions.proofs.Earlier.{ready-at, told-as}
-use Rattle.parts.proofs.Writing.{turned-done, as-read, as-refused, next-lies, expected-done}
+use Rattle.conditions.proofs.Earlier.{ready-at}
+use Rattle.parts.proofs.Writing.{turned-done, as-read, as-refused, next-lies, expected-done, told-as}
 use Rattle.parts.proofs.Standing.{standing, turned-as, turned-bind}
 use Rattle.grammar.specs.Parser.{read-action as action-spec}
 use Rattle.reading.specs.Reader.{before}

@@ -12,8 +12,8 @@ returns c = no-condition _ _ _ _ _ (c .if1 .taken)
 
 evaluate-requires : tie.Need-evaluate-requires
 evaluate-requires c κs =
-    let last = c .before .before .before .before .before .before .pre .0 in
-    (last .condition (let f = c .if1 .left in let e = last .ends in omega arith), c .before .before .before .before .before .before .pre .1)
+    let last = c .before .before .pre .0 in
+    (last .condition (let f = c .if1 .left in let e = last .ends in omega arith), c .before .before .pre .1)
 
 returns-2 : tie.Need-returns-2
 returns-2 c = by-condition _ _ _ _ _ (c .before .before .if1 .left) (c .is-yes .ensures ∙ ap isYes (c .before .evaluate .ensures))

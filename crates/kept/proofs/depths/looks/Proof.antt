@@ -11,13 +11,13 @@ use Rattle.deciding.proofs.Lowest.{last-there}
 use Rattle.kept.proofs.Depth.{depth-few, last-steady}
 use Rattle.meaning.proofs.Deciding.{numbered-few, numbered-some}
 use Rattle.kept.proofs.Numbering.{Left, all-left, none-there, fewer-left, last-numbered, one-left}
-use Rattle.kept.proofs.Noting.{Found, found-more, zeros-say}
+use Rattle.kept.proofs.Noting.{Found, found-more, zeros-say, ends-there}
 use Rattle.kept.proofs.depths.looks.Statement.{statement}
 use Rattle.kept.proofs.depths.looks.Tie as tie
 
 abbrev Inv-loop : tie.InvT-loop
 Inv-loop text table policies entries s n heads subject action resource types found₀ end₀ number₀ found end number =
-    Left text table entries end number × (end ≤ entries) × Found text s n heads (request subject action resource) (policiesAt table entries) number found
+    Left text table entries end number × (end ≤ entries) × Found text table s n heads (request subject action resource) (policiesAt table entries) number found
 
 abbrev μ-loop : tie.MeasureT-loop
 μ-loop text table policies entries s n heads subject action resource types found₀ end₀ number₀ found end number = end
@@ -46,9 +46,10 @@ loop-holds c =
       omega arith,
       record {
         long = refl;
-        few = λ i h. omega (arith, zeros-say 192 i);
+        few = λ i h. omega (arith, zeros-say 320 i);
         steady = λ m policy h l. absurd (let all = pre .1 .0 in omega (arith, numbered-few h));
         aimed = λ m policy h l. absurd (let all = pre .1 .0 in omega (arith, numbered-few h));
+        ended = λ m policy h l. absurd (let all = pre .1 .0 in omega (arith, numbered-few h));
       },
     )
 
@@ -84,27 +85,46 @@ add-found-2 c = omega (arith, few (c .before .before .before .before .before))
 array-write-found-3 : tie.Need-array-write-found-3 Inv-loop μ-loop
 array-write-found-3 c = omega (arith, few (c .before .before .before .before .before))
 
+low-of-requires : tie.Need-low-of-requires Inv-loop μ-loop
+low-of-requires c κs = last (c .before .before .before .before .before) .few
+
+add-found-3 : tie.Need-add-found-3 Inv-loop μ-loop
+add-found-3 c = omega (arith, few (c .before .before .before .before .before .before))
+
+array-write-found-4 : tie.Need-array-write-found-4 Inv-loop μ-loop
+array-write-found-4 c = omega (arith, few (c .before .before .before .before .before .before))
+
+high-of-requires : tie.Need-high-of-requires Inv-loop μ-loop
+high-of-requires c κs = last (c .before .before .before .before .before .before) .few
+
+add-found-4 : tie.Need-add-found-4 Inv-loop μ-loop
+add-found-4 c = omega (arith, few (c .before .before .before .before .before .before .before))
+
+array-write-found-5 : tie.Need-array-write-found-5 Inv-loop μ-loop
+array-write-found-5 c = omega (arith, few (c .before .before .before .before .before .before .before))
+
 loop-less : tie.Need-loop-less Inv-loop μ-loop
-loop-less c = let l = last (c .before .before .before .before .before) in let b = l .begins in let e = l .ends in omega arith
+loop-less c = let l = last (c .before .before .before .before .before .before .before) in let b = l .begins in let e = l .ends in omega arith
 
 loop-again : tie.Need-loop-again Inv-loop μ-loop
 loop-again c =
-    let met = c .before .before .before .before .before in
+    let met = c .before .before .before .before .before .before .before in
     let args = start met .args in
     let pre = start met .pre in
     let loop = turn met .loop in
     let left = loop .inv .0 in
-    let own = c .before .before .before .before .depth in
-    let other = c .before .before .before .depth2 in (
+    let own = c .before .before .before .before .before .before .depth in
+    let other = c .before .before .before .before .before .depth2 in
+    let zero = c .before .before .before .from-zero in (
       fewer-left left (last met),
       (let b = last met .begins in let e = last met .ends in let l = loop .inv .1 in omega arith),
-      rw (c .one-if .ensures)
-          (found-more (args .text .now) (args .s .now) (args .n) (args .heads .now) _ _ (loop .number) (loop .found)
-          (policyAt (args .table .now) (loop .end) (met .entry-at .result)) (c .before .from-zero .result) (other .result) (c .before .before .target-matches .result)
+      rw (c .before .before .one-if .ensures, c .before .low-of .ensures, c .high-of .ensures)
+          (found-more (args .text .now) (args .table .now) (args .s .now) (args .n) (args .heads .now) _ _ (loop .number) (loop .found)
+          (policyAt (args .table .now) (loop .end) (met .entry-at .result)) (zero .result) (other .result) (c .before .before .before .before .target-matches .result) (loop .end)
           (one met) (rw (← pre .1 .0) (pre .1 .1 .0)) (last-numbered left (last met)) (loop .inv .2)
-          (rw (c .before .from-zero .ensures, own .ensures) (omega (arith, depth-few (args .text .now) (entryAt (args .table .now)) (args .s .now) (args .n) (args .heads .now) 0 (pre .1 .1 .1 .0 .few) (loop .end - 1 - met .entry-at .result .second) (met .entry-at .result .second) 0 (omega arith))))
-          (rw (c .before .from-zero .ensures, other .ensures) (last-steady (left .ready) (met .entry-at .ensures) (last met) _ _ _ _))
-          (c .before .before .target-matches .ensures)),
+          (rw (zero .ensures, own .ensures) (omega (arith, depth-few (args .text .now) (entryAt (args .table .now)) (args .s .now) (args .n) (args .heads .now) 0 (pre .1 .1 .1 .0 .few) (loop .end - 1 - met .entry-at .result .second) (met .entry-at .result .second) 0 (omega arith))))
+          (rw (zero .ensures, other .ensures) (last-steady (left .ready) (met .entry-at .ensures) (last met) _ _ _ _))
+          (c .before .before .before .before .target-matches .ensures) (ends-there (args .text .now) (args .table .now) (met .entry-at .ensures) (last met))),
     )
 
 returns : tie.Need-returns Inv-loop μ-loop
@@ -112,7 +132,10 @@ returns c =
     let z = none-there (c .before .loop .inv .0) (c .loop-test .left) in
     let found = c .before .loop .inv .2 in (
       record { few = found .few; steady = λ m policy h. found .steady m policy h (omega (arith, numbered-some h)) },
-      record { aimed = λ m policy h. found .aimed m policy h (omega (arith, numbered-some h)) },
+      (
+        record { aimed = λ m policy h. found .aimed m policy h (omega (arith, numbered-some h)) },
+        record { ended = λ m policy h. found .ended m policy h (omega (arith, numbered-some h)) },
+      ),
     )
 
 pub looks-spec : {M : Type 1} → statement M
@@ -137,6 +160,12 @@ looks-spec =
     (λ c κs. search needs)
     add-found-2
     array-write-found-3
+    low-of-requires
+    add-found-3
+    array-write-found-4
+    high-of-requires
+    add-found-4
+    array-write-found-5
     loop-less
     loop-again
     returns)

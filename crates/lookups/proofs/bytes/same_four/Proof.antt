@@ -8,7 +8,7 @@ returns : tie.Need-returns
 returns c =
     let known = c .before .before in
     let start = known .before .before in
-    four-decides (start .args .a .now) (start .args .b .now) (start .args .i) _ _ (λ k. omega (arith, known .before .shared-slice-known .given k)) (λ k. omega (arith, known .shared-slice-known2 .given k)) (c .before .word .ensures) (c .word2 .ensures)
+    four-decides (start .args .a .now) (start .args .b .now) (start .args .i) _ _ (λ k. omega (arith, known .before .shared-slice-known .given k)) (λ k. omega (arith, known .shared-slice-known2 .given k)) (c .before .four-from .ensures) (c .four-from2 .ensures)
 
 pub same-four-spec : {M : Type 1} → statement M
 same-four-spec =

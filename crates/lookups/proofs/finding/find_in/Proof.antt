@@ -5,6 +5,7 @@ use Rattle.lookups.specs.Lookups.{lookIn, bagEntryAt}
 use Rattle.tokens.specs.Blanks.{unblanked}
 use Rattle.lookups.proofs.FindLaws.{look-done, look-here, look-on}
 use Rattle.lookups.proofs.BagLaws.{entry-valued}
+use Rattle.lookups.proofs.StepLaws.{past-end}
 use Rattle.bags.specs.Sections.{entryEnd}
 use Rattle.bags.specs.Reading.{many, each}
 use Rattle.bags.proofs.SectionLaws.{Entry, entry-at}
@@ -46,14 +47,13 @@ add-kind-at c = omega (arith, whole (c .before) .named)
 is-named-requires : tie.Need-is-named-requires Inv-loop μ-loop
 is-named-requires c κs = (omega (arith, whole (c .before) .named), (whole (c .before) .path, c .before .before .before .lead-of .ensures))
 
-value-from-requires : tie.Need-value-from-requires Inv-loop μ-loop
-value-from-requires c κs = entry-valued _ _ _ (one (c .before .before .before) .ends)
-
 returns : tie.Need-returns Inv-loop μ-loop
-returns c =
-    c .value-from .ensures
-    ∙ look-here absent _ (bagEntryAt (c .before .before .before .before .before .before .before .before .before .args .s .now)) _ _ _ (omega arith) _ (one (c .before .before .before .before) .ends) (sym (c .before .before .is-named .ensures) ∙ c .before .if1 .taken)
-    ∙ c .before .before .before .before .before .loop .inv .1
+returns c = record {
+  is =
+      look-here absent _ (bagEntryAt (c .before .before .before .before .before .before .before .before .args .s .now)) _ _ _ (omega arith) _ (one (c .before .before .before) .ends) (sym (c .before .is-named .ensures) ∙ c .if1 .taken)
+      ∙ c .before .before .before .before .loop .inv .1;
+  valued = λ h. entry-valued _ _ _ (one (c .before .before .before) .ends);
+}
 
 shared-slice-read-value-next : tie.Need-shared-slice-read-value-next Inv-loop μ-loop
 shared-slice-read-value-next c = omega (arith, whole (c .before .before .before .before) .named)
@@ -74,7 +74,10 @@ loop-again c =
     )
 
 returns-2 : tie.Need-returns-2 Inv-loop μ-loop
-returns-2 c = c .absent-value .ensures ∙ look-done absent _ (bagEntryAt (c .before .before .before .before .before .before .args .s .now)) _ _ _ (omega arith) ∙ c .before .before .loop .inv .1
+returns-2 c = record {
+  is = past-end _ ∙ look-done absent _ (bagEntryAt (c .before .before .before .before .before .args .s .now)) _ _ _ (omega arith) ∙ c .before .loop .inv .1;
+  valued = λ h. absurd (omega arith);
+}
 
 pub find-in-spec : {M : Type 1} → statement M
 find-in-spec =
@@ -89,7 +92,6 @@ find-in-spec =
     add-start
     add-kind-at
     is-named-requires
-    value-from-requires
     returns
     shared-slice-read-value-next
     add-value-next
@@ -97,5 +99,4 @@ find-in-spec =
     (λ c. search needs)
     (λ c. search needs)
     loop-again
-    (λ c κs. search needs)
     returns-2)

@@ -17,11 +17,14 @@ part-attribute-end c = omega (arith, c .before .before .before .pre .0 .some, c 
 attribute-requires : tie.Need-attribute-requires
 attribute-requires c κs = c .before .before .before .before .pre .1
 
+value-at-requires : tie.Need-value-at-requires
+value-at-requires c κs = c .attribute .ensures .valued
+
 returns : tie.Need-returns
-returns c = c .attribute .ensures ∙ read-bag _ _ _ _ _ _ _ (c .before .before .if1 .taken)
+returns c = c .value-at .ensures ∙ c .before .attribute .ensures .is ∙ read-bag _ _ _ _ _ (c .before .before .before .if1 .taken)
 
 returns-2 : tie.Need-returns-2
-returns-2 c = read-action _ _ _ _ _ _ _ (c .if1 .left)
+returns-2 c = read-action _ _ _ _ _ (c .if1 .left)
 
 pub attribute-value-spec : {M : Type 1} → statement M
 attribute-value-spec =
@@ -31,5 +34,6 @@ attribute-value-spec =
     part-attribute-start
     part-attribute-end
     attribute-requires
+    value-at-requires
     returns
     returns-2)

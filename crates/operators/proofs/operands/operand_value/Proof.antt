@@ -8,13 +8,13 @@ attribute-value-requires : tie.Need-attribute-value-requires
 attribute-value-requires c κs = (path-placed _ _ (c .if1 .taken) (c .before .before .before .pre .0) .lies, c .before .before .before .pre .1)
 
 returns : tie.Need-returns
-returns c = c .attribute-value .ensures ∙ read-attribute _ _ _ _ _ _ _ (c .before .if1 .taken)
+returns c = c .attribute-value .ensures ∙ read-attribute _ _ _ _ _ (c .before .if1 .taken)
 
 literal-value-requires : tie.Need-literal-value-requires
 literal-value-requires c κs = literal-placed _ _ (c .if1 .left) (c .before .before .before .pre .0)
 
 returns-2 : tie.Need-returns-2
-returns-2 c = c .literal-value .ensures ∙ read-literal _ _ _ _ _ _ _ (c .before .if1 .left)
+returns-2 c = c .literal-value .ensures ∙ read-literal _ _ _ _ _ (c .before .if1 .left)
 
 pub operand-value-spec : {M : Type 1} → statement M
 operand-value-spec =

@@ -1,7 +1,8 @@
 -- `sheets::writing::write_rows` meets its contract: the rows passed are written, and the walk stands at the row. Assumes nothing.
 use borrow.Author.Needs.{needs}
+use Rattle.views.specs.Places.{keptHeads}
 use Rattle.turns.specs.Turns.{AtRow}
-use Rattle.turns.proofs.RowLaws.{choices-small, stands-first, kept-first, ends-few, policy-fits, walked-gone, at-gone, at-back}
+use Rattle.turns.proofs.RowLaws.{choices-small, stands-first, kept-first, ends-few, policy-fits, walked-gone, underway-gone, at-gone, at-back}
 use Rattle.placing.specs.Said.{wordsOf}
 use Rattle.sheets.specs.Asked.{Asked, WalkFor}
 use Rattle.table.specs.Recorded.{recorded}
@@ -13,7 +14,7 @@ use Rattle.meaning.specs.Targets.{Request}
 use Rattle.meaning.specs.declared.Decision.{Decision}
 use Rattle.meaning.specs.Decisions.{isAllowed, policyOf}
 use Rattle.stored.specs.ReadBack.{policiesAt}
-use lib.ListN.{length, length-drop, length-take}
+use lib.ListN.{length, getD, length-drop, length-take}
 use native.Mathlib.Omega.{arith}
 use Prim.Native.Nat.{ℕ, _≤_, _<_, _*_, _+_, _-_}
 use mathlib.Core.List.{List}
@@ -22,21 +23,21 @@ use Rattle.sheets.proofs.writing.write_rows.Statement.{statement}
 use Rattle.sheets.proofs.writing.write_rows.Tie as tie
 
 abbrev Inv-loop : tie.InvT-loop
-Inv-loop walk looks text table s starts ends action all start part₀ grid p choices₀ values₀ notes₀ from₀ written₀ at₀ row₀ part choices values notes from written at row =
+Inv-loop walk looks text table s places ends action all start part₀ grid p choices₀ values₀ notes₀ lates from₀ kept₀ written₀ at₀ row₀ part choices values notes from kept written at row =
     (all ≤ 262144) × (row ≤ all) × (start + written ≤ row) × (at ≡ rowSize * written) × (length part ≡ length part₀)
     × ((q : Request) → WalkFor text table walk looks action q
     → Progress (decisionAt (recorded table) s (walk .p) q (wordsOf text (policiesAt table (walk .entries)))) (rowMark (recorded table) s (walk .p) q (wordsOf text (policiesAt table (walk .entries))))
     (listed (decisionAt (recorded table) s (walk .p) q (wordsOf text (policiesAt table (walk .entries)))) all start)
     part₀ written part (listed (decisionAt (recorded table) s (walk .p) q (wordsOf text (policiesAt table (walk .entries)))) all row)
-    × AtRow text table s walk starts grid ends looks action q row choices values from notes)
+    × AtRow text table s walk (keptHeads places) grid ends looks action q row choices values from notes kept)
 
 abbrev μ-loop : tie.MeasureT-loop
-μ-loop walk looks text table s starts ends action all start part₀ grid p choices₀ values₀ notes₀ from₀ written₀ at₀ row₀ part choices values notes from written at row = all - row
+μ-loop walk looks text table s places ends action all start part₀ grid p choices₀ values₀ notes₀ lates from₀ kept₀ written₀ at₀ row₀ part choices values notes from kept written at row = all - row
 
 -- ---- the frames: where the call starts, and the loop's turn in which a row is decided
 
 abbrev start : tie.At-loop Inv-loop μ-loop → tie.Start Inv-loop μ-loop
-start c = c .before .before .before .before .before .before .before .before .before .before
+start c = c .before .before .before .before .before .before .before .before .before .before .before
 
 abbrev turn : tie.After-take-turn Inv-loop μ-loop → tie.At-loop Inv-loop μ-loop
 turn c = c .before .before .before .before .before .before
@@ -53,9 +54,12 @@ choices-of-requires c κs = let w = c .before .before .before .before .before .b
 chosen-requires : tie.Need-chosen-requires Inv-loop μ-loop
 chosen-requires c κs = let w = c .before .before .before .before .before .before .before .before .pre .0 .walked in (omega arith, λ i h. choices-small _ _ _ (c .before .choices-of .ensures) (ends-few (w .question) (w .laid)) i h)
 
+lates-requires : tie.Need-lates-requires Inv-loop μ-loop
+lates-requires c κs = c .before .before .before .before .before .before .before .before .before .pre .0 .walked .few
+
 loop-holds : tie.Need-loop-holds Inv-loop μ-loop
 loop-holds c =
-    let pre = c .before .before .before .before .before .before .before .before .before .pre in (
+    let pre = c .before .before .before .before .before .before .before .before .before .before .pre in (
       pre .0 .asked .few,
       pre .0 .asked .within,
       omega arith,
@@ -66,26 +70,47 @@ loop-holds c =
         record {
           acts = f .acts;
           whose = f .whose;
-          standing = stands-first (c .before .before .choices-of .ensures) (omega arith) (c .chosen .ensures);
-          kept = kept-first (c .chosen .result) (omega arith) (f .aims);
+          standing = stands-first (c .before .before .before .choices-of .ensures) (omega arith) (c .before .chosen .ensures);
+          within = omega arith;
+          kept = kept-first (c .before .chosen .result) (omega arith) (f .aims);
         },
       ),
     )
+
+-- the first column in which the row may choose otherwise
+within : (c : tie.At-loop Inv-loop μ-loop) → c .loop .from < 6
+within c = let pre = start c .pre in c .loop .inv .5 (pre .1 .0 .q) (pre .1 .0 .walk-for) .1 .within
+
+-- the mark of the policies to which it or a later one can matter
+abbrev late : tie.At-loop Inv-loop μ-loop → ℕ
+late c = getD (c .before .lates .result) (c .loop .from) 0
+
+mul-late : tie.Need-mul-late Inv-loop μ-loop
+mul-late c = omega (arith, within (c .before))
+
+array-read-late : tie.Need-array-read-late Inv-loop μ-loop
+array-read-late c = omega (arith, within (c .before))
 
 take-turn-requires : tie.Need-take-turn-requires Inv-loop μ-loop
 take-turn-requires c κs =
     let l = c .before .before .before .before .before in
     let pre = start l .pre in
-    let at = l .loop .inv .5 (pre .1 .q) (pre .1 .walk-for) .1 in (
-      walked-gone (start l .args .walk) (l .loop .from) (pre .0 .walked),
-      (record { row = l .loop .row; below = there (pre .0 .asked) (c .before .before .before .before .loop-test .taken); standing = at .standing }, at .kept .carried .long),
+    let at = l .loop .inv .5 (pre .1 .0 .q) (pre .1 .0 .walk-for) .1 in (
+      walked-gone (start l .args .walk) (l .loop .from) (late l) (l .loop .kept) (pre .0 .walked),
+      (
+        record { row = l .loop .row; below = there (pre .0 .asked) (c .before .before .before .before .loop-test .taken); standing = at .standing },
+        (
+          at .kept .carried .long,
+          (underway-gone (start l .args .walk) (l .loop .from) (late l) (l .loop .kept) refl (pre .0 .walked) (l .before .lates .ensures (l .loop .from) (within l)) (at .kept .carried .below), pre .1 .1),
+        ),
+      ),
     )
 
 sub-if2 : tie.Need-sub-if2 Inv-loop μ-loop
 sub-if2 c =
     let l = turn (c .before .before) in
     let pre = start l .pre in
-    omega (arith, l .loop .inv .5 (pre .1 .q) (pre .1 .walk-for) .0 .room)
+    omega (arith, l .loop .inv .5 (pre .1 .0 .q) (pre .1 .0 .walk-for) .0 .room)
 
 returns : tie.Need-returns Inv-loop μ-loop
 returns c = λ q f.
@@ -93,7 +118,7 @@ returns c = λ q f.
     let l = turn call in
     let inv = l .loop .inv .5 q f in
     let below = call .before .before .before .before .before .loop-test .taken in
-    let turned = call .take-turn .ensures q (l .loop .row) (there (start l .pre .0 .asked) below) (at-gone (start l .args .walk) (l .loop .from) (inv .1)) in
+    let turned = call .take-turn .ensures q (l .loop .row) (there (start l .pre .0 .asked) below) (at-gone (start l .args .walk) (l .loop .from) (late l) (l .loop .kept) (inv .1)) in
     turn-full _ _ _ _ _ _ _ _ below (inv .0) (sym (c .before .before .is-allowed .ensures ∙ ap isAllowed (turned .decided)) ∙ c .before .if1 .taken) (omega arith)
 
 put-row-requires : tie.Need-put-row-requires Inv-loop μ-loop
@@ -101,8 +126,8 @@ put-row-requires c κs =
     let call = c .before .before .before .before in
     let l = turn call in
     let pre = start l .pre in
-    let inv = l .loop .inv .5 (pre .1 .q) (pre .1 .walk-for) in
-    let turned = call .take-turn .ensures (pre .1 .q) (l .loop .row) (there (pre .0 .asked) (call .before .before .before .before .before .loop-test .taken)) (at-gone (start l .args .walk) (l .loop .from) (inv .1)) in (
+    let inv = l .loop .inv .5 (pre .1 .0 .q) (pre .1 .0 .walk-for) in
+    let turned = call .take-turn .ensures (pre .1 .0 .q) (l .loop .row) (there (pre .0 .asked) (call .before .before .before .before .before .loop-test .taken)) (at-gone (start l .args .walk) (l .loop .from) (late l) (l .loop .kept) (inv .1)) in (
       simp (length-take, length-drop) (omega arith),
       subst (λ (d : Decision). policyOf d < 256) (sym (turned .decided)) (policy-fits _ _ _ _ _ _ _ (fits (pre .0 .walked .many) (pre .0 .walked .few))),
     )
@@ -119,10 +144,10 @@ loop-again c =
       omega arith,
       c .before .part .given .1 ∙ inv .4,
       λ q f.
-          let turned = call .take-turn .ensures q (l .loop .row) (there (start l .pre .0 .asked) below) (at-gone (start l .args .walk) (l .loop .from) (inv .5 q f .1)) in (
+          let turned = call .take-turn .ensures q (l .loop .row) (there (start l .pre .0 .asked) below) (at-gone (start l .args .walk) (l .loop .from) (late l) (l .loop .kept) (inv .5 q f .1)) in (
             turn-yes _ _ _ _ _ _ _ _ below (inv .5 q f .0) (sym (c .before .before .before .before .before .before .is-allowed .ensures ∙ ap isAllowed (turned .decided)) ∙ c .before .before .before .before .before .if1 .taken) (l .loop .at) (inv .3) (omega arith)
                 (c .before .before .put-row .last .0) (rw (← turned .decided, ← turned .marked) (c .before .before .put-row .ensures)),
-            at-back (start l .args .walk) (l .loop .from) (turned .next),
+            at-back (start l .args .walk) (l .loop .from) (late l) (l .loop .kept) (turned .next),
           ),
     )
 
@@ -138,9 +163,9 @@ loop-again-2 c =
       inv .3,
       inv .4,
       λ q f.
-          let turned = call .take-turn .ensures q (l .loop .row) (there (start l .pre .0 .asked) below) (at-gone (start l .args .walk) (l .loop .from) (inv .5 q f .1)) in (
+          let turned = call .take-turn .ensures q (l .loop .row) (there (start l .pre .0 .asked) below) (at-gone (start l .args .walk) (l .loop .from) (late l) (l .loop .kept) (inv .5 q f .1)) in (
             turn-no _ _ _ _ _ _ _ _ below (inv .5 q f .0) (sym (c .before .is-allowed .ensures ∙ ap isAllowed (turned .decided)) ∙ c .if1 .left),
-            at-back (start l .args .walk) (l .loop .from) (turned .next),
+            at-back (start l .args .walk) (l .loop .from) (late l) (l .loop .kept) (turned .next),
           ),
     )
 
@@ -155,7 +180,10 @@ write-rows-spec =
     μ-loop
     choices-of-requires
     chosen-requires
+    lates-requires
     loop-holds
+    mul-late
+    array-read-late
     take-turn-requires
     (λ c. omega arith)
     (λ c κs. search needs)

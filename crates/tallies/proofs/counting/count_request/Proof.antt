@@ -25,11 +25,17 @@ looks-requires c κs =
       ),
     )
 
+effects-requires : tie.Need-effects-requires
+effects-requires c κs =
+    let pre = c .before .before .before .before .before .before .before .before .before .before .before .before .pre in
+    let rules = rules-are (c .before .before .before .before .is-system .result) _ _ (c .before .before .before .rules-for .ensures) (pre .0 .rules) in
+    (record { text = _; ready = rules .ready }, rw (← rules .many) (rules .few))
+
 count-rows-requires : tie.Need-count-rows-requires
 count-rows-requires c κs =
-    let pre = c .before .before .before .before .before .before .before .before .before .before .before .before .before .before .before .pre in
-    let rules = rules-are (c .before .before .before .before .before .before .before .is-system .result) _ _ (c .before .before .before .before .before .before .rules-for .ensures) (pre .0 .rules) in (
-      record {
+    let pre = c .before .before .before .before .before .before .before .before .before .before .before .before .before .before .before .before .pre in
+    let rules = rules-are (c .before .before .before .before .before .before .before .before .is-system .result) _ _ (c .before .before .before .before .before .before .before .rules-for .ensures) (pre .0 .rules) in (
+      rw (pre .1 .1 .1 .1) (record {
         asked = pre .0 .asked;
         walked = record {
           question = pre .0 .asked .question;
@@ -37,16 +43,18 @@ count-rows-requires c κs =
           ready = rules .ready;
           many = rules .many;
           few = rules .few;
-          depths = c .before .before .before .looks .ensures .0;
+          depths = c .before .before .before .before .looks .ensures .0;
+          ended = c .before .before .before .before .looks .ensures .1 .1;
+          permits = c .before .before .before .effects .ensures;
         };
-      },
-      (record { q = request _ _ _; walk-for = record { acts = refl; whose = c .before .before .before .before .before .before .before .is-system .ensures; aims = c .before .before .before .looks .ensures .1 } }, pre .1 .1),
+      }),
+      (record { q = request _ _ _; walk-for = record { acts = refl; whose = c .before .before .before .before .before .before .before .before .is-system .ensures; aims = c .before .before .before .before .looks .ensures .1 .0 } }, (pre .1 .1 .0, pre .1 .1 .1 .0)),
     )
 
 returns : tie.Need-returns
 returns c =
-    c .before .before .count-rows .ensures (request _ _ _) (record { acts = refl; whose = c .before .before .before .before .before .before .before .before .before .before .is-system .ensures; aims = c .before .before .before .before .before .before .looks .ensures .1 })
-    ∙ counts-are (c .before .before .before .before .before .before .before .before .before .before .is-system .result) _ _ (c .before .before .before .before .before .before .before .before .before .rules-for .ensures) (request _ _ _) (c .before .before .before .before .before .before .before .before .before .before .is-system .ensures) _ _ _ _ _
+    c .before .before .count-rows .ensures (request _ _ _) (record { acts = refl; whose = c .before .before .before .before .before .before .before .before .before .before .before .is-system .ensures; aims = c .before .before .before .before .before .before .before .looks .ensures .1 .0 })
+    ∙ counts-are (c .before .before .before .before .before .before .before .before .before .before .before .is-system .result) _ _ (c .before .before .before .before .before .before .before .before .before .before .rules-for .ensures) (request _ _ _) (c .before .before .before .before .before .before .before .before .before .before .before .is-system .ensures) _ _ _ _ _
 
 pub count-request-spec : {M : Type 1} → statement M
 count-request-spec =
@@ -57,6 +65,7 @@ count-request-spec =
     (λ c κs. search needs)
     (λ c κs. search needs)
     looks-requires
+    effects-requires
     count-rows-requires
     (λ c. search needs)
     returns)

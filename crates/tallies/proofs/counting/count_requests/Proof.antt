@@ -15,18 +15,18 @@ use Rattle.tallies.proofs.counting.count_requests.Statement.{statement}
 use Rattle.tallies.proofs.counting.count_requests.Tie as tie
 
 abbrev Inv-loop : tie.InvT-loop
-Inv-loop asking text table s starts grid ends many requests counts₀ at₀ k₀ counts at k =
+Inv-loop asking text table s starts placed grid ends many requests counts₀ at₀ k₀ counts at k =
     (k ≤ many) × (at ≤ length requests) × (firstWrong (requestsOf (many - k) (drop at requests)) ≡ 0)
     × Filled (groupBy text table s asking) (requestsOf many requests) counts k (requestsOf (many - k) (drop at requests))
 
 abbrev μ-loop : tie.MeasureT-loop
-μ-loop asking text table s starts grid ends many requests counts₀ at₀ k₀ counts at k = many - k
+μ-loop asking text table s starts placed grid ends many requests counts₀ at₀ k₀ counts at k = many - k
 
 loop-holds : tie.Need-loop-holds Inv-loop μ-loop
 loop-holds c =
     let pre = c .before .before .before .before .before .pre in
     let z : c .before .before .before .before .before .args .many - 0 ≡ c .before .before .before .before .before .args .many = omega arith in
-    (omega arith, omega arith, rw z (pre .1 .1 .0), rw (z, pre .1 .1 .1) (filled-none _ (λ q. group-long _ _) _))
+    (omega arith, omega arith, rw z (pre .1 .1 .0), rw (z, pre .1 .1 .1 .0) (filled-none _ (λ q. group-long _ _) _))
 
 request-at-requires : tie.Need-request-at-requires Inv-loop μ-loop
 request-at-requires c κs = c .before .loop .inv .1
@@ -49,7 +49,7 @@ count-request-requires c κs =
       pre .0,
       (
         none-wrong _ _ (sym (ap firstWrong e) ∙ l .inv .2) .0,
-        ap (λ (n : ℕ). take n (drop (68 * l .k) (l .counts))) size ∙ filled-lent _ (λ q. group-long _ _) (l .inv .3) (omega (arith, pre .1 .0)),
+        (ap (λ (n : ℕ). take n (drop (68 * l .k) (l .counts))) size ∙ filled-lent _ (λ q. group-long _ _) (l .inv .3) (omega (arith, pre .1 .0)), pre .1 .1 .1 .1),
       ),
     )
 
@@ -69,7 +69,7 @@ loop-again c =
     )
 
 same-length : tie.Need-same-length Inv-loop μ-loop
-same-length c = c .before .loop .inv .3 .whole ∙ sym (ap length (c .before .before .before .before .before .before .before .pre .1 .1 .1) ∙ length-replicate {A = ℕ} 612 0)
+same-length c = c .before .loop .inv .3 .whole ∙ sym (ap length (c .before .before .before .before .before .before .before .pre .1 .1 .1 .0) ∙ length-replicate {A = ℕ} 612 0)
 
 returns : tie.Need-returns Inv-loop μ-loop
 unfolding requestsOf
@@ -103,7 +103,7 @@ count-requests-spec =
     (λ c. search needs)
     part-count-request-end-4
     count-request-requires
-    (λ c. omega arith)
+    (λ c. omega (arith, c .before .before .before .before .before .before .before .before .before .before .before .before .before .before .before .pre .1 .0))
     (λ c. omega arith)
     loop-again
     same-length
