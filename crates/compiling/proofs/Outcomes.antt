@@ -23,10 +23,10 @@ use Rattle.table.specs.Recorded.{recorded}
 use Rattle.table.proofs.Holding.{length-bytesOf, held-starts, puts-front}
 use Rattle.parts.specs.Answers.{TurnedAway, refusalAt}
 use Rattle.parts.specs.declared.answers.Refusal.{Refusal}
-use Rattle.compiling.specs.Whole.{Complete, Told, complete, lost}
+use Rattle.policies.specs.Whole.{Complete, Told, complete, lost}
 use Rattle.compiling.specs.Outcome.{roomFor, said, compiledBytes, foundBy, foundOf, tableBy, tableUnder, heldBy, heldOf, beginsBy, beginsOf}
-use Rattle.compiling.specs.declared.policies.Whole.{Whole}
-use Rattle.compiling.specs.declared.policies.Whole.the-variants.{All, Lost}
+use Rattle.policies.specs.declared.Whole.{Whole}
+use Rattle.policies.specs.declared.Whole.the-variants.{All, Lost}
 use Rattle.compiling.specs.declared.Found.{Found}
 use Rattle.compiling.specs.declared.Found.the-variants as found
 use Rattle.compiling.specs.declared.Found.the-variants.{Accepted, Unfit}

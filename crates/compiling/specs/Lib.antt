@@ -1,3 +1,1 @@
-pub mod Whole
 pub mod Outcome
-pub mod Promise

@@ -1,5 +1,5 @@
 -- What compiling answers and leaves in the table, and whether a table begins right, as functions of the version, the text and the table that is lent.
--- Promise.antt says what these functions promise. Definitions only.
+-- Crate compiling_promise says what these functions promise. Definitions only.
 use mathlib.Core.Path.{_≡_}
 use mathlib.Core.Bool.{Bool, false}
 use mathlib.Core.List.{List, _++_}

@@ -1,6 +1,4 @@
 // Compiling: a rule text into the table that is lent, and whether a table begins with what its text compiles to.
-pub mod policies;
-
 ghost use mathlib.Core.Path.{_≡_};
 ghost use Prim.Native.Nat.{_≤_};
 ghost use lib.ListN.{length};
@@ -8,11 +6,11 @@ ghost use Rattle.tokens.specs.Table.{classTable};
 ghost use Rattle.compiling.specs.declared.Found.the-variants.{Turned};
 ghost use Rattle.compiling.specs.declared.Compiled.the-variants.{Refused};
 ghost use Rattle.compiling.specs.Outcome.{nowhere, foundOf, toldOf, compiledUnder, tableUnder, heldOf, beginsOf, CompiledInto};
-use crate::policies::Whole;
-use crate::policies::read_all;
 use grammar::Version;
 use parts::answers::Refusal;
 use places::place_of;
+use policies::Whole;
+use policies::read_all;
 use table::ENTRY_SIZE;
 use table::recorded;
 use tokens::classes::class_table;

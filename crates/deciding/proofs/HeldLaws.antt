@@ -16,10 +16,10 @@ use Rattle.stored.specs.ReadBack.{policiesAt}
 use Rattle.stored.specs.Ready.{ReadyPolicies}
 use Rattle.stored.proofs.Theorems.{compiled-says, compiled-ready}
 use Rattle.compiling.specs.Outcome.{said, heldOf}
-use Rattle.compiling.specs.Promise.{HeldRightly, TableHolds}
+use Rattle.compiling_promise.specs.Promise.{HeldRightly, TableHolds}
 use Rattle.compiling.specs.declared.Held.the-variants.{Right, Wrong}
 use Rattle.compiling.proofs.Outcomes.{right-begins, wrong-begins}
-use Rattle.compiling.proofs.Promised.{held-rightly}
+use Rattle.compiling_promise.proofs.Promised.{held-rightly}
 use Rattle.bags.specs.declared.sections.Sections.{Sections}
 use Rattle.views.specs.Meaning.{View, look, columnsFirst}
 use Rattle.views.specs.Values.{baseBag}

@@ -1,5 +1,4 @@
-pub mod Bits
-pub mod Lowest
+pub mod MarkLaws
 pub mod Counting
 pub mod HeldLaws
 pub mod Answering

@@ -1,5 +1,5 @@
 -- One word for proofs that compute: who unfolds it sees through what decide answers. Assumes nothing.
-use Rattle.compiling.proofs.Opened.{compiling-opened}
+use Rattle.compiling_promise.proofs.Opened.{compiling-opened}
 use Rattle.meaning.proofs.Opened.{meaning-opened}
 use Rattle.views.proofs.Opened.{views-opened}
 use Rattle.deciding.specs.Answers.{decideAnswer, decideSaid, policiesIn, viewIn}

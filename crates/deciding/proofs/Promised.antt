@@ -5,8 +5,8 @@ use mathlib.Core.List.{List}
 use Prim.Native.Nat.{ℕ}
 use native.Mathlib.Omega.{arith}
 use Rattle.compiling.specs.Outcome.{beginsOf}
-use Rattle.compiling.specs.Promise.{Begun, BeginsExactly}
-use Rattle.compiling.proofs.Promised.{begins-exactly}
+use Rattle.compiling_promise.specs.Promise.{Begun, BeginsExactly}
+use Rattle.compiling_promise.proofs.Promised.{begins-exactly}
 use Rattle.bags.proofs.Exactly.{bag-exactly, not-a-bag}
 use Rattle.bags.specs.Sections.{isBag}
 use Rattle.meaning.specs.Targets.{Request, isSystem, isSubject, isAction, isResource}

@@ -6,7 +6,7 @@ use mathlib.Core.Bool.{true, false}
 use mathlib.Core.List.{List}
 use Prim.Native.Nat.{ℕ}
 use Rattle.table.specs.Recorded.{recorded}
-use Rattle.compiling.specs.Promise.{Begun}
+use Rattle.compiling_promise.specs.Promise.{Begun}
 use Rattle.bags.specs.Forms.{ABag, NoBag}
 use Rattle.meaning.specs.Targets.{Request, isSystem, isSubject, isAction, isResource}
 use Rattle.deciding.specs.Answers.{wordsIn, decideAnswer, decideSaid}

@@ -1,9 +1,7 @@
 // What the policies of a table decide over a bag, with their mark, and whether a policy's condition holds in a row of attributes: the bytes s with their
 // places, and what is chosen for the columns at `values`.
 ghost use mathlib.Core.Path.{_≡_};
-ghost use mathlib.Core.Bool.{cond};
-ghost use mathlib.Core.List.{List};
-ghost use Prim.Native.Nat.{_+_, _*_, _^_, _≤_, _<_};
+ghost use Prim.Native.Nat.{_≤_};
 ghost use lib.ListN.{length};
 ghost use Rattle.tokens.specs.Sizes.{mostPolicies};
 ghost use Rattle.bags.specs.Sections.{Sectioned};
@@ -13,24 +11,22 @@ ghost use Rattle.stored.specs.Ready.{ReadyPolicies, Last};
 ghost use Rattle.views.specs.Meaning.{look};
 ghost use Rattle.views.specs.Values.{baseBag};
 ghost use Rattle.bags.specs.Sizes.{mostBagBytes};
-ghost use Rattle.lookups.specs.Index.{keptSections};
+ghost use Rattle.slots.specs.Slots.{keptSections};
 ghost use Rattle.views.specs.Places.{placedView, RowAt, BagPlaced};
-ghost use Rattle.grammar.specs.Policies.{PolicyOf};
-ghost use Rattle.placing.specs.Said.{Word, policyWords, wordsOf};
+ghost use Rattle.placing.specs.Said.{policyWords, wordsOf};
 ghost use Rattle.meaning.specs.Values.{withAction};
 ghost use Rattle.meaning.specs.Conditions.{isYes};
-ghost use Rattle.meaning.specs.Targets.{Request};
-ghost use Rattle.meaning.specs.Decisions.{Terms, under, conditionHolds, satisfied, byNumbers, policiesDecide, markOf, policiesMarked};
+ghost use Rattle.meaning.specs.Decisions.{under, conditionHolds, satisfied, policiesMarked};
 ghost use Rattle.targets.specs.Matching.{request, TypesOf};
-ghost use Rattle.deciding.specs.Marks.{lowestOf, permitsOf};
 use bags::sections::Sections;
 use evaluating::evaluate;
-use lookups::index::PLACES;
-use lookups::index::index_of;
-use meaning::Decision;
+use marks::by_marks;
+use marks::mark_with;
 use meaning::Marked;
 use meaning::Verdict;
 use questions::sizes::MOST_COLUMNS;
+use slots::KEPT;
+use slots::index_of;
 use table::Entry;
 use table::entries;
 use table::entry_at;
@@ -55,7 +51,7 @@ pub fn condition_holds<'a>(
     end: usize,
     x: Entry,
     s: &&'a [u8],
-    places: &[u16; PLACES],
+    places: &[u16; KEPT],
     values: &[usize; MOST_COLUMNS],
     action: &&'a [u8],
 ) -> bool
@@ -80,7 +76,7 @@ fn is_satisfied<'a>(
     end: usize,
     x: Entry,
     bag: &&'a [u8],
-    places: &[u16; PLACES],
+    places: &[u16; KEPT],
     none: &[usize; MOST_COLUMNS],
     subject: &[u8],
     action: &&'a [u8],
@@ -99,58 +95,6 @@ fn is_satisfied<'a>(
     }
     // a bag is a row without columns
     condition_holds(text, table, end, x, bag, places, none, action)
-}
-
-// The decision by the lowest-numbered satisfied forbid and permit, 0 where there is none.
-pub fn by_numbers(forbid: usize, permit: usize) -> Decision
-    ensures { λ r. ⌜ r ≡ byNumbers forbid permit ⌝ }
-{
-    if 0 < forbid {
-        return Decision::Forbidden(forbid);
-    }
-    if 0 < permit {
-        return Decision::Allowed(permit);
-    }
-    Decision::Nothing
-}
-
-// A bit: set where the policy is satisfied.
-fn bit_of(hit: bool) -> u64
-    ensures { λ r. ⌜ r ≡ cond hit 1 0 ⌝ }
-{
-    if hit { 1 } else { 0 }
-}
-
-// The mark with one policy more, which stands before those that are met: their bits are shifted by one, and its own is the lowest.
-pub fn mark_with(hit: bool, mark: u64) -> u64
-    requires { ⌜ cond hit 1 0 + 2 * mark < 2 ^ mostPolicies ⌝ }
-    ensures { λ r. ⌜ r ≡ cond hit 1 0 + 2 * mark ⌝ }
-{
-    let bit = bit_of(hit);
-    (mark << 1) | bit
-}
-
-// The number of a mark's lowest bit that is set, from 1 on; 0 where none is.
-pub fn lowest(mark: u64) -> usize
-    ensures { λ r. ⌜ r ≡ lowestOf mark ⌝ }
-{
-    if mark == 0 {
-        return 0;
-    }
-    u64::trailing_zeros(mark) as usize + 1
-}
-
-// The decision by the marks of the satisfied policies and of the permits: the lowest-numbered satisfied forbid decides, else the lowest-numbered satisfied
-// permit.
-pub fn by_marks(mark: u64, permits: u64) -> Decision
-    ensures { λ r. ⌜ ((terms : Terms) (q : Request) (ps : List (PolicyOf Word)) → length ps ≤ mostPolicies → mark ≡ markOf terms q ps
-        → permits ≡ permitsOf ps → r ≡ policiesDecide terms q ps) ⌝ }
-{
-    let allowing = mark & permits;
-    let forbidding = mark - allowing;
-    let forbid = lowest(forbidding);
-    let permit = lowest(allowing);
-    by_numbers(forbid, permit)
 }
 
 // What the policies decide whose entries end before number `entries`, over the bag, with their mark. They are met from the last to the first; those left end

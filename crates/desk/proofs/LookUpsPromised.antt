@@ -31,7 +31,7 @@ use Rattle.lookups.specs.declared.Answer.the-variants.{Found, Refused}
 use Rattle.lookups.proofs.Answers.{refused, found, string-inside}
 use Rattle.lookups.proofs.BagLaws.{bag-whole}
 use Rattle.lookups.proofs.FindLaws.{bag-is-base}
-use Rattle.lookups.proofs.IndexLaws.{found-section}
+use Rattle.slots.proofs.SlotLaws.{found-section}
 use Rattle.views.specs.Meaning.{text}
 use Rattle.views.specs.Values.{datumOf, datumIn, stringAt, baseBag}
 use Rattle.views.proofs.ReadLaws.{look-means}

@@ -1,8 +1,8 @@
 -- The desk's page of promises holds: specs/Promises.antt, record by record. Assumes nothing.
 use mathlib.Core.Path.{sym, _∙_, ap, subst}
 use Rattle.slices.proofs.Parts.{one-part}
-use Rattle.compiling.specs.Promise.{NoPoliciesNoVersion, BeginsExactly}
-use Rattle.compiling.proofs.Promised.{no-policies-no-version, begins-exactly}
+use Rattle.compiling_promise.specs.Promise.{NoPoliciesNoVersion, BeginsExactly}
+use Rattle.compiling_promise.proofs.Promised.{no-policies-no-version, begins-exactly}
 use Rattle.meaning.proofs.Versions.{missing-exactly, second-exactly, satisfied-second}
 use Rattle.bags.proofs.Exactly.{not-a-bag}
 use Rattle.views.specs.Meaning.{View}
@@ -64,6 +64,9 @@ versions = record {
   records = texts.records;
   one-version = λ version text table ps s some b. texts.one-version version table ps some b;
   no-policies-no-version = no-policies-no-version;
+  any-table = λ text table none. requests.any-table text none table;
+  outcomes-alike = requests.outcomes-alike;
+  marks-alike = requests.marks-alike;
   missing-exactly = missing-exactly;
   second-exactly = second-exactly;
   satisfied-second = satisfied-second;

@@ -25,7 +25,7 @@ use Rattle.reading.proofs.Listed.{tokens-are}
 use Rattle.grammar.specs.Lowest.{Applies, no-token, reserved, bare, no-type, not-admitted, limit, AppliesAt, token, end}
 use Rattle.placing.specs.Placed.{Each, none-left, and-each}
 use Rattle.placing.proofs.EachLaws.{each-right}
-use Rattle.compiling.specs.Promise.{tokenStart, firstLength, RefusedThere, Lengths}
+use Rattle.compiling_promise.specs.Promise.{tokenStart, firstLength, RefusedThere, Lengths}
 use Rattle.compiling.specs.declared.Spot.{Spot}
 
 -- ---- the kinds of a text's tokens, and their bytes

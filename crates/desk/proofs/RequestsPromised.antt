@@ -13,9 +13,11 @@ use lib.ListN.{length}
 use Rattle.tokens.specs.Bytes.{oneOf}
 use Rattle.tokens.proofs.TokenLaws.{never, or-cases}
 use Rattle.grammar.specs.Policies.{PolicyOf, Policy}
+use Rattle.grammar.specs.declared.Version.the-variants.{First}
 use Rattle.table.specs.Recorded.{recorded}
 use Rattle.compiling.specs.Outcome.{said}
-use Rattle.compiling.specs.Promise.{Begun}
+use Rattle.compiling_promise.specs.Promise.{Begun, NoPoliciesNoVersion}
+use Rattle.compiling_promise.proofs.Promised.{no-policies-no-version}
 use Rattle.bags.specs.Sections.{isBag}
 use Rattle.bags.specs.Forms.{Contents, BagBytes, ABag, NoBag}
 use Rattle.bags.proofs.Laid.{laid-whole}
@@ -25,7 +27,7 @@ use Rattle.views.proofs.BagForms.{bag-shows}
 use Rattle.placing.specs.Said.{Word, wordsOf}
 use Rattle.placing.proofs.Theorems.{policies-placed}
 use Rattle.meaning.specs.Targets.{Request, isSystem}
-use Rattle.meaning.specs.Decisions.{Terms, under, Numbered, first, later, SomeSatisfied, LowestSatisfied, NamesPolicy, the-system as nobody, a-forbid, a-permit, none-named, byNumbers, policiesDecide, decisionOf, outcomeOf, policyOf, isAllowed, satisfied, markOf, decidedMark, markedOf, effectsOf, decidedBy, MarksExactly, for-the-system, for-another}
+use Rattle.meaning.specs.Decisions.{Terms, under, Numbered, first, later, SomeSatisfied, LowestSatisfied, NamesPolicy, the-system as nobody, a-forbid, a-permit, none-named, byNumbers, policiesDecide, decisionOf, outcomeOf, policyOf, isAllowed, satisfied, markOf, decidedMark, markedOf, effectsOf, decidedBy, BitSet, SatisfiedAt, MarksExactly, for-the-system, for-another}
 use Rattle.meaning.specs.Decisions as meaning
 use Rattle.meaning.specs.declared.Decision.{Decision}
 use Rattle.meaning.specs.declared.Decision.the-variants.{Allowed, Forbidden, Nothing, System}
@@ -287,6 +289,43 @@ pub words-decide : (text text′ table table′ bag : List ℕ) (q : Request) �
     → Begun text′ table′ → decideSays text table bag q ≡ decideSays text′ table′ bag q
 unfolding decideSays AnsweredAlike
 words-decide text text′ table table′ bag q a v b b′ = rw (answered-alike text text′ table table′ bag q (alike-words a) v b b′)
+
+-- ---- a text without policies
+
+module _ (text : List ℕ) (none : Says text []) where
+  pub any-table : (table : List ℕ) → Begun text table
+  unfolding NoPoliciesNoVersion
+  any-table table = record {
+    short = none .short;
+    value = [];
+    belongs = none .belongs;
+    version = First;
+    begins = rw (no-policies-no-version First) (record { rest = table; is = refl });
+  }
+
+  -- whatever else it says, no policy has a number
+  nobody-there : (ps : List Policy) → Says text ps → {n : ℕ} {p : PolicyOf Word} → Numbered n p (wordsOf text ps) → ⊥
+  unfolding wordsOf
+  nobody-there ps s h = meaning-proofs.nowhere (rw (one-reading text ps [] s none) at h)
+
+  module _ (terms terms′ : Terms) (q : Request) where
+    none-satisfied : (ps : List Policy) → Says text ps → (permits : Bool) → SomeSatisfied terms′ q (wordsOf text ps) permits → ⊥
+    none-satisfied ps s permits h = nobody-there ps s (h .satisfied-as .numbered)
+
+    pub outcomes-alike : (outcome policy : ℕ) → OutcomeIs text terms q outcome policy → OutcomeIs text terms′ q outcome policy
+    outcomes-alike _ _ (by-permit {n} {ps} other s no-forbid low) = absurd (nobody-there ps s (low .satisfied-as .numbered))
+    outcomes-alike _ _ (by-forbid {n} {ps} other s low) = absurd (nobody-there ps s (low .satisfied-as .numbered))
+    outcomes-alike _ _ (by-none {ps} other s no-forbid no-permit) = by-none other s (none-satisfied ps s false) (none-satisfied ps s true)
+    outcomes-alike _ _ (by-system is) = by-system is
+
+    pub marks-alike : (mark : ℕ) → MarkIs text terms q mark → MarkIs text terms′ q mark
+    marks-alike _ (every-bit {mark} {ps} other s bits) =
+        every-bit other s
+        (λ n. (
+          (λ (b : BitSet mark n). absurd (nobody-there ps s (bits n .0 b .numbered))),
+          λ (t : SatisfiedAt terms′ q (wordsOf text ps) n). absurd (nobody-there ps s (t .numbered)),
+        ))
+    marks-alike _ (no-bit is) = no-bit is
 
 -- ---- deciding
 

@@ -11,7 +11,7 @@ use lib.ListN.{length, take, drop}
 use lib.Seq.{take-at}
 use Rattle.tokens.proofs.TokenLaws.{never}
 use Rattle.table.specs.Recorded.{recorded}
-use Rattle.compiling.specs.Promise.{Begun}
+use Rattle.compiling_promise.specs.Promise.{Begun}
 use Rattle.bags.specs.Forms.{Contents, BagBytes}
 use Rattle.questions.specs.Forms.{Column, QuestionBytes, NoQuestion}
 use Rattle.questions.specs.Questions.{isQuestion, product}

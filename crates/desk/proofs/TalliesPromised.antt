@@ -9,7 +9,7 @@ use native.Mathlib.Omega.{arith}
 use lib.ListN.{length, getD, take, drop, replicate, length-append, length-map, length-replicate, getD-replicate}
 use Rattle.grammar.specs.declared.Version.{Version}
 use Rattle.table.specs.Recorded.{recorded}
-use Rattle.compiling.specs.Promise.{Begun}
+use Rattle.compiling_promise.specs.Promise.{Begun}
 use Rattle.bags.specs.Forms.{Contents}
 use Rattle.questions.specs.Forms.{Column, QuestionBytes}
 use Rattle.questions.specs.Questions.{product}

@@ -22,12 +22,12 @@ use Rattle.table.specs.Recorded.{recorded}
 use Rattle.grammar.proofs.Exactly.{says-exactly, says-once}
 use Rattle.placing.proofs.Theorems.{policies-placed}
 use Rattle.compiling.specs.Outcome.{spot, nowhere, roomFor, compiledBytes, said, compiledUnder, compiledOf, compileSaid, tableBy, tableUnder, tableAfter}
-use Rattle.compiling.specs.Promise.{UnderItsNumber, NoVersion, OtherVersion, VersionRecorded, AcceptedExactly, UnfitExactly, RefusedThere, RefusedExactly, NothingChanged, ZerosElsewhere, CompiledBegins, BeginsExactly, EnoughRoom, NoPoliciesNoBytes}
+use Rattle.compiling_promise.specs.Promise.{UnderItsNumber, NoVersion, OtherVersion, VersionRecorded, AcceptedExactly, UnfitExactly, RefusedThere, RefusedExactly, NothingChanged, ZerosElsewhere, CompiledBegins, BeginsExactly, EnoughRoom, NoPoliciesNoBytes}
 use Rattle.compiling.specs.declared.Spot.{Spot}
 use Rattle.compiling.specs.declared.Compiled.{Compiled}
 use Rattle.compiling.specs.declared.Compiled.the-variants.{Policies, Refused}
-use Rattle.compiling.proofs.Promised as compiling-proofs
-use Rattle.compiling.proofs.Promised.{under-its-number, other-version, version-recorded, accepted, unfit, refused-there, nothing-changed, zeros-elsewhere}
+use Rattle.compiling_promise.proofs.Promised as compiling-proofs
+use Rattle.compiling_promise.proofs.Promised.{under-its-number, other-version, version-recorded, accepted, unfit, refused-there, nothing-changed, zeros-elsewhere}
 use Rattle.desk.specs.Answers.{compiledAs, spotSaid, compileSays, compileLeaves, saysUnder, leavesUnder, beginsSays}
 use Rattle.desk.specs.Promises.{Says, Belongs}
 use Rattle.desk.proofs.RefusalNumbers.{token-number}

@@ -8,7 +8,7 @@ use lib.ListN.{length, take}
 use Rattle.slices.specs.Ascii.{bytes}
 use Rattle.grammar.specs.declared.Version.{Version}
 use Rattle.grammar.specs.declared.Version.the-variants.{First, Second}
-use Rattle.compiling.specs.Promise.{bytesFor}
+use Rattle.compiling_promise.specs.Promise.{bytesFor}
 use Rattle.compiling.specs.Outcome.{roomFor}
 use Rattle.meaning.specs.Targets.{Request}
 use Rattle.bags.specs.Forms.{Contents, BagBytes}

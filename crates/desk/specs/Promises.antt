@@ -22,7 +22,7 @@ use Rattle.grammar.specs.declared.Version.the-variants.{First, Second}
 use Rattle.slices.specs.Parts.{Begins}
 use Rattle.table.specs.Recorded.{recorded}
 use Rattle.compiling.specs.Outcome.{roomFor, compiledBytes, spot, nowhere}
-use Rattle.compiling.specs.Promise.{RefusedThere, Lengths, NoVersion, Begun}
+use Rattle.compiling_promise.specs.Promise.{RefusedThere, Lengths, NoVersion, Begun}
 use Rattle.compiling.specs.declared.Spot.{Spot}
 use Rattle.bags.specs.Forms.{Contents, BagBytes, NoBag}
 use Rattle.bags.specs.Reading.{byte}
@@ -203,8 +203,13 @@ pub record Versions : Type 0 where
   -- begin right (`begins-exactly`), and gets 20
   pub one-version : (version : Version) (text table : List ℕ) (ps : List Policy) → Says text ps → (ps ≡ [] → ⊥) → Begins (compiledBytes version ps) table
       → recorded table ≡ version
-  -- a text without policies has no version: it uses no bytes under each
+  -- a text without policies has no version: it uses no bytes under each, every table begins right for it, and outcome, policy and mark are the same on any
+  -- terms, so under each version
   pub no-policies-no-version : (version : Version) → compiledBytes version [] ≡ []
+  pub any-table : (text table : List ℕ) → Says text [] → Begun text table
+  pub outcomes-alike : (text : List ℕ) → Says text [] → (terms terms′ : Terms) (q : Request) (outcome policy : ℕ) → OutcomeIs text terms q outcome policy
+      → OutcomeIs text terms′ q outcome policy
+  pub marks-alike : (text : List ℕ) → Says text [] → (terms terms′ : Terms) (q : Request) (mark : ℕ) → MarkIs text terms q mark → MarkIs text terms′ q mark
   -- under version 2 a condition is missing exactly where an absent attribute is met in it by any operator but `has`
   pub missing-exactly : MissingExactly
   -- it is true exactly where version 1 calls it true and nothing that was met is absent, and false likewise

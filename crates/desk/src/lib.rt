@@ -9,6 +9,7 @@ ghost use Rattle.desk.specs.Promises.{CompileAllows, SheetAllows, String
 use compiling::Compiled;
 use meaning::Decision;
 use meaning::Marked;
+use tallies::COUNTS;
 
 // What compiling answers: the refusal with its line and column and how many bytes its token has, or the policies and the bytes of the table that they use.
 #[repr(C)]
@@ -243,7 +244,7 @@ pub extern "C" fn desk_tally<'a>(
     question: &'a [u8],
     many: usize,
     requests: &'a [u8],
-    counts: &mut [u32; 612],
+    counts: &mut [u32; COUNTS],
 ) -> u32
     ensures { λ r. ⌜ TallyAllows (now (text .entry)) (now (table .entry)) (now (question .entry)) many (now (requests .entry)) (now (counts .entry))
         (now (counts .exit)) r ⌝ }

@@ -17,8 +17,8 @@ use Rattle.stored.proofs.Evaluating.{node-of}
 use Rattle.meaning.specs.Conditions.{settled, settledIf, choiceOf}
 use Rattle.meaning.specs.declared.Verdict.{Verdict}
 use Rattle.meaning.specs.declared.Verdict.the-variants.{Yes, No, Missing}
-use Rattle.evaluating.specs.declared.Way.{Way}
-use Rattle.evaluating.specs.Ways.{partMet, endedBy, goneOn, enteredAt, comeBack, afterYes, afterNo, afterMissing, afterPart, insidePart}
+use Rattle.ways.specs.declared.Way.{Way}
+use Rattle.ways.specs.Ways.{partMet, endedBy, goneOn, enteredAt, comeBack, afterYes, afterNo, afterMissing, afterPart, insidePart}
 use Rattle.evaluating.proofs.Verdicts.{unchanged, by-negation, by-both, by-either, by-none, Joining, counts-itself}
 
 -- ---- the way falls: there are fewer entries than 65536

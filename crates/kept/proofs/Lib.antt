@@ -1,5 +1,1 @@
-pub mod Agreeing
-pub mod Naming
-pub mod Depth
-pub mod Numbering
 pub mod Noting

@@ -1,6 +1,5 @@
 // Which policies are satisfied in a row, kept from row to row: only those are met to which a changed column can matter, and evaluated where a choice has no
 // note yet.
-pub mod depths;
 pub mod late;
 
 ghost use mathlib.Core.Path.{_≡_};
@@ -19,19 +18,20 @@ ghost use Rattle.placing.specs.Said.{policyWords};
 ghost use Rattle.meaning.specs.Values.{withAction};
 ghost use Rattle.meaning.specs.Targets.{Request};
 ghost use Rattle.meaning.specs.Decisions.{under, conditionHolds};
-ghost use Rattle.kept.specs.Notes.{Depths, endAt, policyEnding, LastEnding, Ends, Underway, RowSays, ChosenThere, Met, Kept, DecidedFrom, notesSize};
-use crate::depths::AIMS;
-use crate::depths::LOOKS;
-use crate::depths::end_of;
-use crate::depths::wide;
+ghost use Rattle.depths.specs.Looks.{Depths, endAt, policyEnding, LastEnding, Ends};
+ghost use Rattle.kept.specs.Notes.{Underway, RowSays, ChosenThere, Met, Kept, DecidedFrom, notesSize};
 use bags::sections::Sections;
-use deciding::row::by_marks;
 use deciding::row::condition_holds;
-use deciding::row::lowest;
-use lookups::index::PLACES;
+use depths::AIMS;
+use depths::LOOKS;
+use depths::end_of;
+use depths::wide;
+use marks::by_marks;
+use marks::lowest;
 use meaning::Marked;
 use questions::sizes::MOST_CANDIDATES;
 use questions::sizes::MOST_COLUMNS;
+use slots::KEPT;
 use table::Entry;
 use table::entry_at;
 use tokens::sizes::MOST_POLICIES;
@@ -94,7 +94,7 @@ fn satisfied_where<'a>(
     end: usize,
     x: Entry,
     s: &'a [u8],
-    places: &[u16; PLACES],
+    places: &[u16; KEPT],
     values: &[usize; MOST_COLUMNS],
     action: &'a [u8],
 ) -> bool
@@ -118,7 +118,7 @@ fn met<'a>(
     text: &'a [u8],
     table: &[u8],
     s: &'a [u8],
-    places: &[u16; PLACES],
+    places: &[u16; KEPT],
     values: &[usize; MOST_COLUMNS],
     action: &'a [u8],
 ) -> bool
@@ -171,7 +171,7 @@ pub fn decision_from<'a>(
     text: &'a [u8],
     table: &[u8],
     s: &'a [u8],
-    places: &[u16; PLACES],
+    places: &[u16; KEPT],
     values: &[usize; MOST_COLUMNS],
     action: &'a [u8],
 ) -> Marked

@@ -5,4 +5,3 @@ pub mod Answers
 pub mod Opened
 pub mod Examples
 pub mod WordLaws
-pub mod IndexLaws

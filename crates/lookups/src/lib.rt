@@ -14,7 +14,6 @@ use tokens::classes::class_table;
 
 pub mod bytes;
 pub mod finding;
-pub mod index;
 pub mod steps;
 pub mod values;
 

@@ -32,7 +32,7 @@ pub numbered-few : {A : Type 0} {m : ℕ} {p : A} {ps : List A} → Numbered m p
 numbered-few first = omega arith
 numbered-few (later h) = let l = numbered-few h in omega arith
 
-nowhere : {A : Type 0} {m : ℕ} {p : A} → Numbered m p [] → ⊥
+pub nowhere : {A : Type 0} {m : ℕ} {p : A} → Numbered m p [] → ⊥
 nowhere = elim [ ]
 
 module _ {A : Type 0} (test : A → Bool) where

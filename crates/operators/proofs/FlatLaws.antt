@@ -17,7 +17,8 @@ use Rattle.stored.proofs.Nodes.{as-has, as-compare, as-like, as-among, as-withi
 use Rattle.meaning.specs.Values.{attributeValue, operandValue}
 use Rattle.meaning.specs.Conditions.{told, settledIf, compared, likened, inAttribute, had, verdict}
 use Rattle.meaning.specs.declared.Verdict.{Verdict}
-use Rattle.operators.specs.Operands.{whichBy, givenAmong, givenListed, leftAt}
+use Rattle.operands.specs.Operands.{whichBy}
+use Rattle.operators.specs.Verdicts.{givenAmong, givenListed, leftAt}
 use Rattle.operators.proofs.VerdictLaws.{constant-says, compare-says, like-says, among-says, within-says, contains-says, has-says}
 use Rattle.operators.proofs.VerdictLaws.{constant-counts, compare-counts, like-counts, among-counts, within-counts, contains-counts, has-counts}
 

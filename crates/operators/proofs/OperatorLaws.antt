@@ -8,25 +8,15 @@ use Rattle.views.specs.Meaning.{Datum, present}
 use Rattle.views.specs.Values.{listAt, datumOf}
 use Rattle.views.specs.Places.{placedView, RowAt}
 use Rattle.grammar.specs.Policies.{Comparator.Equal, Literal, text as textLiteral, number as numberLiteral, truth}
-use Rattle.placing.specs.Placed.{quotedAt, PathPlaced, OperandPlaced, unblankedAt}
+use Rattle.placing.specs.Placed.{PathPlaced, OperandPlaced, unblankedAt}
 use Rattle.placing.specs.Said.{literalWords}
 use Rattle.table.specs.declared.Entry.{Entry}
 use Rattle.stored.specs.ReadBack.{spanOfEntry, rootOfKind, literalOfEntry, operandOfEntry, comparatorOfKind}
 use Rattle.meaning.specs.Values.{withAction, literalValue, attributeValue, ifText, ifTexts, compares}
 use Rattle.meaning.specs.Conditions.{some}
-use Rattle.operators.specs.Operands.{attributeRead, literalRead, operandRead, stringOf, meant}
-use Rattle.operators.proofs.ValueLaws.{equal-13, datum-text, datum-texts, not-text, not-texts}
-use Rattle.operators.proofs.OperandLaws.{stringUnder, attribute-is, literal-is, literal-meant, operand-is}
-
--- a literal's value beside another
-pub literal-compares : (t : List ℕ) (k : ℕ) (o : Entry) (v w : Value) (x y : List ℕ) (r : Bool) → w ≡ literalRead t o → (o .kind ≡ 9 → y ≡ quotedAt t (spanOfEntry o))
-    → ((l m : List (List ℕ)) → r ≡ compares (comparatorOfKind k) (datumOf v x l) (datumOf w y m)) → (l : List (List ℕ))
-    → r ≡ compares (comparatorOfKind k) (datumOf v x l) (literalValue (literalWords t (literalOfEntry o)))
-literal-compares t k o v w x y r e q f l = f l l ∙ rw (literal-is t o w y l e q)
-
--- 13 is the kind of `==`
-pub same-by-13 : {r : Bool} (d e : Datum) → r ≡ compares (comparatorOfKind 13) d e → r ≡ compares Equal d e
-same-by-13 d e h = h ∙ rw (← equal-13 13 refl)
+use Rattle.operands.specs.Operands.{attributeRead, operandRead, stringOf, meant}
+use Rattle.operands.proofs.ValueLaws.{datum-text, datum-texts, not-text, not-texts}
+use Rattle.operands.proofs.OperandLaws.{stringUnder, attribute-is, literal-meant, operand-is}
 
 literal-there : (t : List ℕ) (l : Literal) → present (literalValue (literalWords t l)) ≡ true
 unfolding literalValue literalWords

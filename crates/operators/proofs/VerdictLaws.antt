@@ -12,7 +12,7 @@ use Rattle.meaning.specs.Conditions.{told, given, givenBoth, settled, settledIf
 use Rattle.meaning.specs.declared.Verdict.{Verdict}
 use Rattle.meaning.specs.declared.Verdict.the-variants.{Yes, No, Missing}
 use Rattle.meaning.proofs.WordLaws.{some-words, asked-words}
-use Rattle.operators.specs.Operands.{givenAmong}
+use Rattle.operators.specs.Verdicts.{givenAmong}
 
 pub told-yes : (b : Bool) → b ≡ true → Yes ≡ told b
 unfolding told

@@ -1,1 +1,1 @@
-pub mod Operands
+pub mod Verdicts

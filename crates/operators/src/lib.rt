@@ -13,32 +13,30 @@ ghost use Rattle.stored.specs.ReadBack.{spanOfEntry, rootOfKind, comparatorOfKi
 ghost use Rattle.stored.specs.Ready.{Room, Node};
 ghost use Rattle.meaning.specs.Conditions.{told, compared, likened, inAttribute};
 ghost use Rattle.meaning.specs.declared.Verdict.the-variants.{Missing};
-ghost use Rattle.operators.specs.Operands.{operandRead, meant, meantPath, verdictSeen, givenAmong, givenListed, leftAt};
-use crate::lists::among_literals;
-use crate::lists::in_list;
-use crate::lists::literal_holds;
-use crate::lists::literals_listed;
-use crate::operands::attribute_value;
-use crate::operands::operand_string;
-use crate::operands::operand_value;
-use crate::operands::quoted;
-use crate::values::is_present;
-use crate::values::values_hold;
-use lookups::index::PLACES;
+ghost use Rattle.operands.specs.Operands.{operandRead, meant, meantPath};
+ghost use Rattle.operators.specs.Verdicts.{verdictSeen, givenAmong, givenListed, leftAt};
 use lookups::values::Value;
 use lookups::values::value_at;
 use meaning::Verdict;
+use operands::attribute_value;
+use operands::lists::among_literals;
+use operands::lists::in_list;
+use operands::lists::literal_holds;
+use operands::lists::literals_listed;
+use operands::operand_string;
+use operands::operand_value;
+use operands::quoted;
+use operands::values::is_present;
+use operands::values::values_hold;
 use questions::sizes::MOST_COLUMNS;
+use slots::KEPT;
 use table::Entry;
 use table::entries;
 use table::entry_in;
 use views::attribute;
 
-// Kinds of entries have names (table::entries, docs/TABLE.md), and so have kinds of values, which are a bag's (bags::values).
-
-pub mod lists;
-pub mod operands;
-pub mod values;
+// Kinds of entries have names (table::entries, docs/TABLE.md), and so have kinds of values, which are a bag's (bags::values). The slices come by reference
+// and are handed on so: a reference is one word, a slice two, and there are many of them.
 
 // Yes where b, else no.
 fn told_of(b: bool) -> Verdict
@@ -62,23 +60,24 @@ fn given_of(met: bool, holds: bool) -> Verdict
 
 // Whether a root has the path of the entry o.
 fn has_attribute(
-    text: &[u8],
+    text: &&[u8],
     o: Entry,
-    s: &[u8],
-    places: &[u16; PLACES],
+    s: &&[u8],
+    places: &[u16; KEPT],
     values: &[usize; MOST_COLUMNS],
 ) -> bool
-    requires { ⌜ PathPlaced (now text) (rootOfKind (o .kind)) (spanOfEntry o) ⌝ }
-    requires { ⌜ RowAt (now s) (now places) (now values) ⌝ }
+    requires { ⌜ PathPlaced (now (now text)) (rootOfKind (o .kind)) (spanOfEntry o) ⌝ }
+    requires { ⌜ RowAt (now (now s)) (now places) (now values) ⌝ }
     ensures { λ r. ⌜ ((action : List ℕ) → r ≡ present
-        (meantPath (now (text .entry)) (now (s .entry)) (now (places .entry)) (now (values .entry)) action o)) ⌝ }
+        (meantPath (now (now (text .entry))) (now (now (s .entry))) (now (places .entry)) (now (values .entry)) action o)) ⌝ }
 {
     let root = o.kind;
     if (entries::PRINCIPAL <= root) & (root <= entries::ENV) {
         let start = o.first;
         let end = o.second;
-        let k = attribute(s, places, values, root, &text[start..end]);
-        let v = value_at(s, k);
+        let whole = *text;
+        let k = attribute(*s, places, values, root, &whole[start..end]);
+        let v = value_at(*s, k);
         return is_present(v);
     }
     true
@@ -86,107 +85,109 @@ fn has_attribute(
 
 // Two operands, with the comparator of an entry's kind. The first was read: v.
 fn compare_operands<'a>(
-    text: &'a [u8],
+    text: &&'a [u8],
     kind: u8,
     a: Entry,
     b: Entry,
-    s: &'a [u8],
-    places: &[u16; PLACES],
+    s: &&'a [u8],
+    places: &[u16; KEPT],
     values: &[usize; MOST_COLUMNS],
     v: Value,
-    action: &'a [u8],
+    action: &&'a [u8],
 ) -> Verdict
-    requires { ⌜ OperandPlaced (now text) (operandOfEntry a) ⌝ }
-    requires { ⌜ OperandPlaced (now text) (operandOfEntry b) ⌝ }
-    requires { ⌜ RowAt (now s) (now places) (now values) ⌝ }
-    requires { ⌜ v ≡ operandRead (now text) (now s) (now places) (now values) a ⌝ }
+    requires { ⌜ OperandPlaced (now (now text)) (operandOfEntry a) ⌝ }
+    requires { ⌜ OperandPlaced (now (now text)) (operandOfEntry b) ⌝ }
+    requires { ⌜ RowAt (now (now s)) (now places) (now values) ⌝ }
+    requires { ⌜ v ≡ operandRead (now (now text)) (now (now s)) (now places) (now values) a ⌝ }
     ensures { λ r. ⌜ r ≡ compared (comparatorOfKind kind)
-        (meant (now (text .entry)) (now (s .entry)) (now (places .entry)) (now (values .entry)) (now (action .entry)) a)
-        (meant (now (text .entry)) (now (s .entry)) (now (places .entry)) (now (values .entry)) (now (action .entry)) b) ⌝ }
+        (meant (now (now (text .entry))) (now (now (s .entry))) (now (places .entry)) (now (values .entry)) (now (now (action .entry))) a)
+        (meant (now (now (text .entry))) (now (now (s .entry))) (now (places .entry)) (now (values .entry)) (now (now (action .entry))) b) ⌝ }
 {
     let met = is_present(v);
-    let x = operand_string(text, s, action, a, v);
+    let x = operand_string(text, *s, action, a, v);
     let sort = b.kind;
     if entries::ACTION < sort {
         return given_of(met, literal_holds(text, kind, b, v, x));
     }
     let w = attribute_value(text, s, places, values, b);
     let both = met & is_present(w);
-    let y = operand_string(text, s, action, b, w);
+    let y = operand_string(text, *s, action, b, w);
     given_of(both, values_hold(kind, v, x, w, y))
 }
 
 // An operand, read as v, `like` the pattern of the entry o.
 fn like_operand<'a>(
-    text: &'a [u8],
+    text: &&'a [u8],
     o: Entry,
     a: Entry,
-    s: &'a [u8],
-    places: &[u16; PLACES],
+    s: &&'a [u8],
+    places: &[u16; KEPT],
     values: &[usize; MOST_COLUMNS],
     v: Value,
-    action: &'a [u8],
+    action: &&'a [u8],
 ) -> Verdict
-    requires { ⌜ OperandPlaced (now text) (operandOfEntry a) ⌝ }
-    requires { ⌜ StringPlaced (now text) (spanOfEntry o) ⌝ }
-    requires { ⌜ RowAt (now s) (now places) (now values) ⌝ }
-    requires { ⌜ v ≡ operandRead (now text) (now s) (now places) (now values) a ⌝ }
-    ensures { λ r. ⌜ r ≡ likened (meant (now (text .entry)) (now (s .entry)) (now (places .entry)) (now (values .entry)) (now (action .entry)) a)
-        (quotedAt (now (text .entry)) (spanOfEntry o)) ⌝ }
+    requires { ⌜ OperandPlaced (now (now text)) (operandOfEntry a) ⌝ }
+    requires { ⌜ StringPlaced (now (now text)) (spanOfEntry o) ⌝ }
+    requires { ⌜ RowAt (now (now s)) (now places) (now values) ⌝ }
+    requires { ⌜ v ≡ operandRead (now (now text)) (now (now s)) (now places) (now values) a ⌝ }
+    ensures { λ r. ⌜ r ≡ likened
+        (meant (now (now (text .entry))) (now (now (s .entry))) (now (places .entry)) (now (values .entry)) (now (now (action .entry))) a)
+        (quotedAt (now (now (text .entry))) (spanOfEntry o)) ⌝ }
 {
     let met = is_present(v);
     let kind = v.kind;
     if kind != bags::values::STRING {
         return given_of(met, false);
     }
-    let x = operand_string(text, s, action, a, v);
+    let x = operand_string(text, *s, action, a, v);
     given_of(met, patterns::like(quoted(text, o), x))
 }
 
 // An operand, read as v, `in` the list of the `count` literals from entry `at` on.
 fn operand_in_list<'a>(
-    text: &'a [u8],
-    table: &[u8],
+    text: &&'a [u8],
+    table: &&[u8],
     count: usize,
     at: usize,
     a: Entry,
-    s: &'a [u8],
-    places: &[u16; PLACES],
+    s: &&'a [u8],
+    places: &[u16; KEPT],
     values: &[usize; MOST_COLUMNS],
     v: Value,
-    action: &'a [u8],
+    action: &&'a [u8],
 ) -> Verdict
-    requires { ⌜ OperandPlaced (now text) (operandOfEntry a) ⌝ }
-    requires { ⌜ Each (LiteralPlaced (now text)) (literalsAt count (now table) at) ⌝ }
-    requires { ⌜ at + count ≤ entriesIn (now table) ⌝ }
-    requires { ⌜ RowAt (now s) (now places) (now values) ⌝ }
-    requires { ⌜ v ≡ operandRead (now text) (now s) (now places) (now values) a ⌝ }
-    ensures { λ r. ⌜ r ≡ givenAmong (now (text .entry))
-        (meant (now (text .entry)) (now (s .entry)) (now (places .entry)) (now (values .entry)) (now (action .entry)) a)
-        (literalsAt count (now (table .entry)) at) ⌝ }
+    requires { ⌜ OperandPlaced (now (now text)) (operandOfEntry a) ⌝ }
+    requires { ⌜ Each (LiteralPlaced (now (now text))) (literalsAt count (now (now table)) at) ⌝ }
+    requires { ⌜ at + count ≤ entriesIn (now (now table)) ⌝ }
+    requires { ⌜ RowAt (now (now s)) (now places) (now values) ⌝ }
+    requires { ⌜ v ≡ operandRead (now (now text)) (now (now s)) (now places) (now values) a ⌝ }
+    ensures { λ r. ⌜ r ≡ givenAmong (now (now (text .entry)))
+        (meant (now (now (text .entry))) (now (now (s .entry))) (now (places .entry)) (now (values .entry)) (now (now (action .entry))) a)
+        (literalsAt count (now (now (table .entry))) at) ⌝ }
 {
     let met = is_present(v);
-    let x = operand_string(text, s, action, a, v);
-    given_of(met, among_literals(text, table, count, at, v, x))
+    let x = operand_string(text, *s, action, a, v);
+    given_of(met, among_literals(text, *table, count, at, v, x))
 }
 
 // An operand, read as v, `in` the attribute of the entry b.
 fn operand_in_attribute<'a>(
-    text: &'a [u8],
+    text: &&'a [u8],
     a: Entry,
     b: Entry,
-    s: &'a [u8],
-    places: &[u16; PLACES],
+    s: &&'a [u8],
+    places: &[u16; KEPT],
     values: &[usize; MOST_COLUMNS],
     v: Value,
-    action: &'a [u8],
+    action: &&'a [u8],
 ) -> Verdict
-    requires { ⌜ OperandPlaced (now text) (operandOfEntry a) ⌝ }
-    requires { ⌜ PathPlaced (now text) (rootOfKind (b .kind)) (spanOfEntry b) ⌝ }
-    requires { ⌜ RowAt (now s) (now places) (now values) ⌝ }
-    requires { ⌜ v ≡ operandRead (now text) (now s) (now places) (now values) a ⌝ }
-    ensures { λ r. ⌜ r ≡ inAttribute (meant (now (text .entry)) (now (s .entry)) (now (places .entry)) (now (values .entry)) (now (action .entry)) a)
-        (meantPath (now (text .entry)) (now (s .entry)) (now (places .entry)) (now (values .entry)) (now (action .entry)) b) ⌝ }
+    requires { ⌜ OperandPlaced (now (now text)) (operandOfEntry a) ⌝ }
+    requires { ⌜ PathPlaced (now (now text)) (rootOfKind (b .kind)) (spanOfEntry b) ⌝ }
+    requires { ⌜ RowAt (now (now s)) (now places) (now values) ⌝ }
+    requires { ⌜ v ≡ operandRead (now (now text)) (now (now s)) (now places) (now values) a ⌝ }
+    ensures { λ r. ⌜ r ≡ inAttribute
+        (meant (now (now (text .entry))) (now (now (s .entry))) (now (places .entry)) (now (values .entry)) (now (now (action .entry))) a)
+        (meantPath (now (now (text .entry))) (now (now (s .entry))) (now (places .entry)) (now (values .entry)) (now (now (action .entry))) b) ⌝ }
 {
     let w = attribute_value(text, s, places, values, b);
     let both = is_present(v) & is_present(w);
@@ -198,28 +199,29 @@ fn operand_in_attribute<'a>(
     if list_kind != bags::values::LIST {
         return given_of(both, false);
     }
-    let x = operand_string(text, s, action, a, v);
-    given_of(both, in_list(s, w.place, x))
+    let x = operand_string(text, *s, action, a, v);
+    given_of(both, in_list(*s, w.place, x))
 }
 
 // The attribute of the entry b contains any, or all, of the `count` literals from entry `at` on.
 fn contains_literals(
-    text: &[u8],
-    table: &[u8],
+    text: &&[u8],
+    table: &&[u8],
     any: bool,
     count: usize,
     at: usize,
     b: Entry,
-    s: &[u8],
-    places: &[u16; PLACES],
+    s: &&[u8],
+    places: &[u16; KEPT],
     values: &[usize; MOST_COLUMNS],
 ) -> Verdict
-    requires { ⌜ PathPlaced (now text) (rootOfKind (b .kind)) (spanOfEntry b) ⌝ }
-    requires { ⌜ Each (LiteralPlaced (now text)) (literalsAt count (now table) at) ⌝ }
-    requires { ⌜ at + count ≤ entriesIn (now table) ⌝ }
-    requires { ⌜ RowAt (now s) (now places) (now values) ⌝ }
-    ensures { λ r. ⌜ ((action : List ℕ) → r ≡ givenListed (now (text .entry)) any
-        (meantPath (now (text .entry)) (now (s .entry)) (now (places .entry)) (now (values .entry)) action b) (literalsAt count (now (table .entry)) at)) ⌝ }
+    requires { ⌜ PathPlaced (now (now text)) (rootOfKind (b .kind)) (spanOfEntry b) ⌝ }
+    requires { ⌜ Each (LiteralPlaced (now (now text))) (literalsAt count (now (now table)) at) ⌝ }
+    requires { ⌜ at + count ≤ entriesIn (now (now table)) ⌝ }
+    requires { ⌜ RowAt (now (now s)) (now places) (now values) ⌝ }
+    ensures { λ r. ⌜ ((action : List ℕ) → r ≡ givenListed (now (now (text .entry))) any
+        (meantPath (now (now (text .entry))) (now (now (s .entry))) (now (places .entry)) (now (values .entry)) action b)
+        (literalsAt count (now (now (table .entry))) at)) ⌝ }
 {
     let w = attribute_value(text, s, places, values, b);
     let met = is_present(w);
@@ -227,7 +229,7 @@ fn contains_literals(
     if kind != bags::values::LIST {
         return given_of(met, false);
     }
-    let holds = literals_listed(text, table, any, count, at, s, w.place);
+    let holds = literals_listed(text, *table, any, count, at, s, w.place);
     given_of(met, holds)
 }
 
@@ -250,35 +252,35 @@ fn left_at(end: usize, x: Entry) -> usize
 
 // The verdict of the condition whose last entry is x, number end - 1, and whose left operand, of the entry a, was read: v.
 fn left_verdict<'a>(
-    text: &'a [u8],
-    table: &[u8],
+    text: &&'a [u8],
+    table: &&[u8],
     end: usize,
     x: Entry,
     a: Entry,
-    s: &'a [u8],
-    places: &[u16; PLACES],
+    s: &&'a [u8],
+    places: &[u16; KEPT],
     values: &[usize; MOST_COLUMNS],
     v: Value,
-    action: &'a [u8],
+    action: &&'a [u8],
 ) -> Verdict
-    requires { ⌜ Node (now text) (now table) end x ⌝ }
+    requires { ⌜ Node (now (now text)) (now (now table)) end x ⌝ }
     requires { ⌜ (falseKind < x .kind) × (x .kind ≤ inAttributeKind) ⌝ }
-    requires { ⌜ a ≡ entryAt (now table) (leftAt end x) ⌝ }
-    requires { ⌜ RowAt (now s) (now places) (now values) ⌝ }
-    requires { ⌜ v ≡ operandRead (now text) (now s) (now places) (now values) a ⌝ }
-    ensures { λ r. ⌜ r ≡ verdictSeen false (now (text .entry)) (now (s .entry)) (now (places .entry)) (now (values .entry)) (now (action .entry))
-        (treeOf (now (table .entry)) end x) ⌝ }
+    requires { ⌜ a ≡ entryAt (now (now table)) (leftAt end x) ⌝ }
+    requires { ⌜ RowAt (now (now s)) (now places) (now values) ⌝ }
+    requires { ⌜ v ≡ operandRead (now (now text)) (now (now s)) (now places) (now values) a ⌝ }
+    ensures { λ r. ⌜ r ≡ verdictSeen false (now (now (text .entry))) (now (now (s .entry))) (now (places .entry)) (now (values .entry))
+        (now (now (action .entry))) (treeOf (now (now (table .entry))) end x) ⌝ }
 {
     let kind = x.kind;
     if kind <= entries::AT_MOST {
-        let b = entry_in(table, end - 2);
+        let b = entry_in(*table, end - 2);
         return compare_operands(text, kind, a, b, s, places, values, v, action);
     }
     if kind == entries::LIKE {
         return like_operand(text, x, a, s, places, values, v, action);
     }
     if kind == entries::IN_ATTRIBUTE {
-        let b = entry_in(table, end - 2);
+        let b = entry_in(*table, end - 2);
         return operand_in_attribute(text, a, b, s, places, values, v, action);
     }
     let count = x.first;
@@ -288,20 +290,20 @@ fn left_verdict<'a>(
 
 // The verdict of the condition without parts whose last entry is x, number end - 1.
 fn flat_of<'a>(
-    text: &'a [u8],
-    table: &[u8],
+    text: &&'a [u8],
+    table: &&[u8],
     end: usize,
     x: Entry,
-    s: &'a [u8],
-    places: &[u16; PLACES],
+    s: &&'a [u8],
+    places: &[u16; KEPT],
     values: &[usize; MOST_COLUMNS],
-    action: &'a [u8],
+    action: &&'a [u8],
 ) -> Verdict
-    requires { ⌜ Node (now text) (now table) end x ⌝ }
+    requires { ⌜ Node (now (now text)) (now (now table)) end x ⌝ }
     requires { ⌜ x .kind ≤ containsAnyKind ⌝ }
-    requires { ⌜ RowAt (now s) (now places) (now values) ⌝ }
-    ensures { λ r. ⌜ r ≡ verdictSeen false (now (text .entry)) (now (s .entry)) (now (places .entry)) (now (values .entry)) (now (action .entry))
-        (treeOf (now (table .entry)) end x) ⌝ }
+    requires { ⌜ RowAt (now (now s)) (now places) (now values) ⌝ }
+    ensures { λ r. ⌜ r ≡ verdictSeen false (now (now (text .entry))) (now (now (s .entry))) (now (places .entry)) (now (values .entry))
+        (now (now (action .entry))) (treeOf (now (now (table .entry))) end x) ⌝ }
 {
     let kind = x.kind;
     if kind <= entries::HAS_ACTION {
@@ -319,23 +321,22 @@ fn flat_of<'a>(
     if entries::CONTAINS_ALL <= kind {
         let count = x.first;
         let at = end - count - 1;
-        let a = entry_in(table, end - count - 2);
+        let a = entry_in(*table, end - count - 2);
         let any = kind == entries::CONTAINS_ANY;
         return contains_literals(text, table, any, count, at, a, s, places, values);
     }
-    let a = entry_in(table, left_at(end, x));
+    let a = entry_in(*table, left_at(end, x));
     let v = operand_value(text, s, places, values, a);
     left_verdict(text, table, end, x, a, s, places, values, v, action)
 }
 
-// The verdict of the condition without parts whose entries end before number `end`. The slices come by reference: this is called for every such condition, and
-// hands them on.
+// The verdict of the condition without parts whose entries end before number `end`.
 pub fn flat<'a>(
     text: &&'a [u8],
     table: &&[u8],
     end: usize,
     s: &&'a [u8],
-    places: &[u16; PLACES],
+    places: &[u16; KEPT],
     values: &[usize; MOST_COLUMNS],
     action: &&'a [u8],
 ) -> Verdict
@@ -346,5 +347,5 @@ pub fn flat<'a>(
         (now (now (action .entry))) (treeOf (now (now (table .entry))) end (entryAt (now (now (table .entry))) (end - 1))) ⌝ }
 {
     let x = entry_in(*table, end - 1);
-    flat_of(*text, *table, end, x, *s, places, values, *action)
+    flat_of(text, table, end, x, s, places, values, action)
 }

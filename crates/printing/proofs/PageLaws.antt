@@ -5,16 +5,19 @@ use mathlib.Core.List.{List}
 use Prim.Native.Nat.{ℕ, zero, suc, _+_, _-_, _*_, _≤_, _<_}
 use native.Mathlib.Omega.{arith}
 use borrow.Author.Tests.{le-leb}
-use lib.ListN.{length, length-take, length-drop}
+use lib.ListN.{length, take, drop, length-take, length-drop}
 use Rattle.questions.specs.Questions.{isQuestion}
 use Rattle.meaning.specs.Targets.{Request}
 use Rattle.meaning.specs.declared.Decision.{Decision}
+use Rattle.targets.specs.Matching.{request}
 use Rattle.pages.specs.Listing.{yesOf, listed, pageRows, nextRow, rowSize}
 use Rattle.pages.specs.declared.Page.{Page}
 use Rattle.pages.proofs.Listed.{next-lists, next-within, next-past}
 use Rattle.sheets.specs.Sheets.{rowsAsked, decisions, requestRefusal, refusalOf, unless, sheetAnswer, SheetListed}
 use Rattle.sheets.specs.declared.Answer.{Answer}
 use Rattle.sheets.specs.declared.Answer.the-variants.{Listed, Refused}
+use Rattle.request_lines.specs.Lines.{requestIn, EndsAt, GoesOnAt}
+use Rattle.request_lines.proofs.LineLaws.{lines-cut}
 use Rattle.printing.specs.declared.Printed.{Printed}
 use Rattle.printing.specs.declared.Printed.the-variants.{Rows, Refusal}
 use Rattle.printing.specs.Printed.{sheetRefusal, Accepted, PagePrinted, pageRoom, ListedBefore, allListed, printedFor}
@@ -128,3 +131,9 @@ module _ {text table s : List ℕ} {q : Request} {page after : List ℕ} {answer
 
   pub first-printed : PagePrinted text table s q rows 0 (record { written = written; next = next })
   first-printed = page-printed l first-accepted (omega arith) long e
+
+-- for the three lines that are cut
+pub printed-for-lines : (text table question : List ℕ) {s : List ℕ} {a b c d e : ℕ} {r : Printed}
+    → r ≡ printedFor text table question (request (take a s) (take (c - b) (drop b s)) (take (e - d) (drop d s)))
+    → EndsAt s 0 a → GoesOnAt s a b → EndsAt s b c → GoesOnAt s c d → EndsAt s d e → r ≡ printedFor text table question (requestIn s)
+printed-for-lines text table question p first on second on-again third = p ∙ ap (printedFor text table question) (lines-cut first on second on-again third)

@@ -1,15 +1,13 @@
 -- What is printed of a folder's sheet for a text that compiles: a refusal's number, or the number of rows and the listed rows, a page at a time. Definitions only.
 use mathlib.Core.Path.{_≡_}
 use mathlib.Core.Bool.{cond}
-use mathlib.Core.List.{List, [], _∷_, _++_}
-use Prim.Native.Nat.{ℕ, zero, suc, _+_, _*_, _≤_}
-use lib.ListN.{length, getD, take, drop}
+use mathlib.Core.List.{List}
+use Prim.Native.Nat.{ℕ, _+_, _*_, _≤_}
+use lib.ListN.{length}
 use Rattle.questions.specs.Sizes.{mostRows}
-use Rattle.folder.specs.Decimals.{numbersLine}
 use Rattle.questions.specs.Questions.{isQuestion}
 use Rattle.meaning.specs.Targets.{Request}
-use Rattle.pages.specs.Listing.{listed, pageRows, nextRow, rowSize}
-use Rattle.pages.specs.Lines.{littleEndian}
+use Rattle.pages.specs.Listing.{listed, pageRows, nextRow}
 use Rattle.pages.specs.declared.Page.{Page}
 use Rattle.sheets.specs.Sheets.{decisions, rowsAsked, requestRefusal, unless}
 use Rattle.printing.specs.declared.Printed.{Printed}
@@ -43,20 +41,6 @@ pub record ListedBefore (text table s : List ℕ) (q : Request) (rows start befo
   pub all : before + length (listed (decisions text table s q) rows start) ≡ allListed text table s q rows
   pub within : start ≤ rows
   pub few : before ≤ pageRoom * start + pageRoom
-
--- the line of the row whose bytes come first: row number, outcome, policy and mark, in decimal digits
-unfoldable pub rowAt : List ℕ → List ℕ
-rowAt s = numbersLine (littleEndian (take 4 s) ∷ getD s 4 0 ∷ getD s 5 0 ∷ littleEndian (take 8 (drop 6 s)) ∷ [])
-
--- the lines of so many rows
-unfoldable pub rowLines : ℕ → List ℕ → List ℕ
-rowLines zero s = []
-rowLines (suc n) s = rowAt s ++ rowLines n (drop rowSize s)
-
--- the buffer is filled with the lines of so many rows of a page
-pub record RowsPut (page : List ℕ) (written : ℕ) (new : List ℕ) (filled : ℕ) : Type 0 where
-  pub lines : take filled new ≡ rowLines written page
-  pub inside : filled ≤ length new
 
 -- what is printed of a sheet: its refusal's number, or how many rows there are and how many of them are listed
 unfoldable pub printedFor : List ℕ → List ℕ → List ℕ → Request → Printed

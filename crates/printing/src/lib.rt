@@ -1,23 +1,21 @@
 // A folder's sheet, printed: policy.txt, question.bin and request.txt are read, and the rows printed that are answered with yes, under the version that is named.
 ghost use mathlib.Core.Path.{_≡_};
-ghost use Prim.Native.Nat.{_+_, _*_, _≤_, _<_};
-ghost use lib.ListN.{length, take, drop};
-ghost use Rattle.pages.specs.Lines.{littleEndian};
+ghost use Prim.Native.Nat.{_*_, _≤_, _<_};
+ghost use lib.ListN.{length};
 ghost use Rattle.pages.specs.Listing.{rowSize};
-ghost use Rattle.folder.specs.Added.{Added};
 ghost use Rattle.targets.specs.Matching.{request};
-ghost use Rattle.printing.specs.Lines.{requestIn, EndsAt, GoesOnAt};
-ghost use Rattle.printing.specs.Printed.{Accepted, PagePrinted, ListedBefore, RowsPut, rowAt, pageRoom, allListed, printedFor};
-use cases::wide;
+ghost use Rattle.request_lines.specs.Lines.{requestIn};
+ghost use Rattle.printing.specs.Printed.{Accepted, PagePrinted, ListedBefore, pageRoom, allListed, printedFor};
 use compiling::Compiled;
 use compiling::compile;
-use folder::lines::put_four;
 use folder::lines::put_one;
 use folder::lines::put_refusal;
 use folder::read_file;
 use libc::STDOUT_FILENO;
 use pages::Page;
-use pages::ROW_SIZE;
+use request_lines::line_after;
+use request_lines::line_end;
+use row_lines::put_rows;
 use sheets::Answer;
 use sheets::row_count;
 use sheets::sheet;
@@ -26,29 +24,6 @@ use sheets::sheet;
 pub enum Printed {
     Rows(usize, usize),
     Refusal(u8),
-}
-
-// Where the line that starts at `at` ends: at its line feed, or where the bytes end.
-fn line_end(s: &[u8], at: usize) -> usize
-    requires { ⌜ at ≤ length (now s) ⌝ }
-    ensures { λ r. ⌜ EndsAt (now (s .entry)) at r ⌝ }
-{
-    let mut i = at;
-    while i < s.len() {
-        if s[i] == b'\n' {
-            return i;
-        }
-        i += 1;
-    }
-    i
-}
-
-// Where the next line starts: past the line feed, if there is one.
-fn line_after(s: &[u8], end: usize) -> usize
-    requires { ⌜ end ≤ length (now s) ⌝ }
-    ensures { λ r. ⌜ GoesOnAt (now (s .entry)) end r ⌝ }
-{
-    if end < s.len() { end + 1 } else { end }
 }
 
 fn print_refusal(number: u32, line: usize, column: usize, size: usize) {
@@ -64,59 +39,6 @@ fn print_one(word: &[u8], n: usize)
     let mut out = [0u8; 29];
     let end = put_one(&mut out, 0, word, n);
     io::write_all(STDOUT_FILENO, &out[..end]);
-}
-
-// The number in four bytes, the lowest first.
-fn number4(a: u8, b: u8, c: u8, d: u8) -> usize
-    ensures { λ r. ⌜ (r ≡ a + 256 * b + 65536 * c + 16777216 * d) × (r < 4294967296) ⌝ }
-{
-    wide(a) + 256 * wide(b) + 65536 * wide(c) + 16777216 * wide(d)
-}
-
-// The number in the four bytes from a place of a page on.
-fn four_at(page: &[u8], at: usize) -> usize
-    requires { ⌜ at + 4 ≤ length (now page) ⌝ }
-    ensures { λ r. ⌜ (r ≡ littleEndian (take 4 (drop at (now (page .entry))))) × (r < 4294967296) ⌝ }
-{
-    number4(page[at], page[at + 1], page[at + 2], page[at + 3])
-}
-
-// The number in the eight bytes from a place of a page on.
-fn eight_at(page: &[u8], at: usize) -> usize
-    requires { ⌜ at + 8 ≤ length (now page) ⌝ }
-    ensures { λ r. ⌜ (r ≡ littleEndian (take 8 (drop at (now (page .entry))))) × (r < 18446744073709551616) ⌝ }
-{
-    let low = four_at(page, at);
-    let high = four_at(page, at + 4);
-    low + 4294967296 * high
-}
-
-// The line of the row that lies at a byte of a page: row number, outcome, policy and mark.
-fn put_row(page: &[u8], at: usize, out: &mut [u8], filled: usize) -> usize
-    requires { ⌜ (at + rowSize ≤ length (now page)) × (filled + 84 ≤ length (now out)) ⌝ }
-    ensures { λ r. ⌜ Added (now (out .entry)) filled (rowAt (drop at (now (page .entry)))) (now (out .exit)) r × (r ≤ filled + 40) ⌝ }
-{
-    let row = four_at(page, at);
-    let outcome = wide(page[at + 4]);
-    let policy = wide(page[at + 5]);
-    let mark = eight_at(page, at + 6);
-    put_four(out, filled, row, outcome, policy, mark)
-}
-
-// The lines of so many rows of a page.
-fn put_rows(page: &[u8], written: usize, out: &mut [u8]) -> usize
-    requires { ⌜ (rowSize * written ≤ length (now page)) × (40 * written + 84 ≤ length (now out)) ⌝ }
-    ensures { λ r. ⌜ RowsPut (now (page .entry)) written (now (out .exit)) r ⌝ }
-{
-    let mut left = written;
-    let mut at = 0;
-    let mut filled = 0;
-    while 0 < left {
-        filled = put_row(page, at, out, filled);
-        at += ROW_SIZE;
-        left -= 1;
-    }
-    filled
 }
 
 // Prints so many rows of a page, at once.

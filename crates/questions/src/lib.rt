@@ -13,7 +13,7 @@ use bags::sections::sections_of;
 
 pub mod columns;
 mod elements;
-pub mod places;
+pub mod grid;
 pub mod sizes;
 
 // The sections of a question, or Broken where `s` is none. The count byte of the columns stands at the sections' end.

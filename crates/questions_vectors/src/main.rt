@@ -7,7 +7,7 @@ ghost use Rattle.questions.specs.Questions.{Question};
 use bags::sections::Divided;
 use bags::sections::Sections;
 use libc::STDOUT_FILENO;
-use questions::places::places;
+use questions::grid::places;
 use questions::question_sections;
 use tokens::classes::class_table;
 use vectors::place_at;

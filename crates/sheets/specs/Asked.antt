@@ -12,7 +12,7 @@ use Rattle.questions.specs.Sizes.{mostQuestionBytes, mostRows}
 use Rattle.meaning.specs.Targets.{Request, isSystem}
 use Rattle.targets.specs.Matching.{TypesOf}
 use Rattle.targets.specs.declared.Types.{Types}
-use Rattle.kept.specs.Notes.{Aims}
+use Rattle.depths.specs.Looks.{Aims}
 use Rattle.kept.specs.declared.Walk.{Walk}
 use Rattle.turns.specs.Turns.{Walked}
 use Rattle.sheets.specs.Sheets.{rowsIn}

@@ -7,7 +7,7 @@ use mathlib.Core.List.{List}
 use Prim.Native.Nat.{ℕ, _+_, _≤_, _<_}
 use lib.ListN.{length}
 use Rattle.table.specs.Recorded.{recorded}
-use Rattle.compiling.specs.Promise.{Begun}
+use Rattle.compiling_promise.specs.Promise.{Begun}
 use Rattle.bags.specs.Forms.{Contents}
 use Rattle.questions.specs.Questions.{product}
 use Rattle.questions.specs.Forms.{Column, QuestionBytes, NoQuestion}

@@ -20,7 +20,7 @@ use compiling::Held;
 use compiling::held_policies;
 use pages::Page;
 use pages::ROW_SIZE;
-use questions::places::rows;
+use questions::grid::rows;
 use questions::question_sections;
 use targets::Types;
 use targets::forms::is_action;

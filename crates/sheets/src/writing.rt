@@ -11,22 +11,22 @@ ghost use Rattle.sheets.specs.Asked.{Asked, RulesFor, RowsAsked, WalkFor
 use bags::sections::Sections;
 use choices::choices_of;
 use choices::lasts;
+use depths::LOOKS;
+use depths::looks;
 use kept::NOTES;
 use kept::Walk;
-use kept::depths::LOOKS;
-use kept::depths::looks;
 use kept::late::effects;
 use kept::late::lates;
 use listing::is_allowed;
 use listing::put_row;
-use lookups::index::PLACES;
-use lookups::index::index_of;
 use pages::Page;
 use pages::ROW_SIZE;
-use questions::places::heads;
-use questions::places::places;
+use questions::grid::heads;
+use questions::grid::places;
 use questions::sizes::MOST_CANDIDATES;
 use questions::sizes::MOST_COLUMNS;
+use slots::KEPT;
+use slots::index_of;
 use targets::Types;
 use turns::take_turn;
 use views::chosen;
@@ -46,7 +46,7 @@ fn write_rows<'a>(
     text: &'a [u8],
     table: &[u8],
     s: &'a [u8],
-    places: &[u16; PLACES],
+    places: &[u16; KEPT],
     grid: [[usize; MOST_CANDIDATES]; MOST_COLUMNS],
     ends: &[u8; MOST_COLUMNS],
     action: &'a [u8],
@@ -58,9 +58,12 @@ fn write_rows<'a>(
     requires { ⌜ WalkForSome (now text) (now table) walk (now looks) (now action) ⌝ }
     requires { ⌜ PlacesOf (now s) (walk .p) (walk .n) (now places) ⌝ }
     ensures { λ r. ⌜ ((q : Request) → WalkFor (now (text .entry)) (now (table .entry)) walk (now (looks .entry)) (now (action .entry)) q
-        → PageWritten (decisionAt (recorded (now (table .entry))) (now (s .entry)) (walk .p) q (wordsOf (now (text .entry)) (policiesAt (now (table .entry)) (walk .entries))))
-        (rowMark (recorded (now (table .entry))) (now (s .entry)) (walk .p) q (wordsOf (now (text .entry)) (policiesAt (now (table .entry)) (walk .entries)))) all start
-        (now (part .entry)) r (now (part .exit))) ⌝ }
+        → PageWritten
+        (decisionAt (recorded (now (table .entry))) (now (s .entry)) (walk .p) q
+        (wordsOf (now (text .entry)) (policiesAt (now (table .entry)) (walk .entries))))
+        (rowMark (recorded (now (table .entry))) (now (s .entry)) (walk .p) q
+        (wordsOf (now (text .entry)) (policiesAt (now (table .entry)) (walk .entries))))
+        all start (now (part .entry)) r (now (part .exit))) ⌝ }
 {
     let p = walk.p;
     let mut choices = choices_of(ends, start);
@@ -140,10 +143,12 @@ pub fn write_page<'a>(
 ) -> Page
     requires { ⌜ Asked (now s) p all start ⌝ }
     requires { ⌜ RulesFor rules (now text) (now table) (now subject) (now resource) types ⌝ }
-    ensures { λ r. ⌜ PageWritten (decisionAt (recorded (now (table .entry))) (now (s .entry)) p (request (now (subject .entry)) (now (action .entry)) (now (resource .entry)))
+    ensures { λ r. ⌜ PageWritten
+        (decisionAt (recorded (now (table .entry))) (now (s .entry)) p (request (now (subject .entry)) (now (action .entry)) (now (resource .entry)))
         (wordsOf (now (text .entry)) (policiesAt (now (table .entry)) (rules .entries))))
         (rowMark (recorded (now (table .entry))) (now (s .entry)) p (request (now (subject .entry)) (now (action .entry)) (now (resource .entry)))
-        (wordsOf (now (text .entry)) (policiesAt (now (table .entry)) (rules .entries)))) all start (now (part .entry)) r (now (part .exit)) ⌝ }
+        (wordsOf (now (text .entry)) (policiesAt (now (table .entry)) (rules .entries))))
+        all start (now (part .entry)) r (now (part .exit)) ⌝ }
 {
     let at = p.end;
     let n = s[at] as usize;

@@ -1,16 +1,17 @@
 -- From a condition's last entry to its parts, and from the last policy to those before it. Assumes nothing.
-use mathlib.Core.Path.{_≡_, sym, _∙_, subst}
+use mathlib.Core.Path.{_≡_, sym, ap, _∙_, subst}
 use mathlib.Core.List.{List, [], _∷_}
 use mathlib.Core.Option.{Option, some}
-use Prim.Native.Nat.{ℕ, _+_, _-_, _≤_, _<_}
+use Prim.Native.Nat.{ℕ, suc, _+_, _-_, _≤_, _<_}
 use native.Mathlib.Omega.{arith}
+use lib.ListN.{length, length-append}
 use Rattle.placing.specs.Placed.{Each, TreePlaced, a-negation, in-brackets, a-conjunction, a-disjunction, a-choice, PolicyPlaced, ConditionPlaced}
 use Rattle.placing.specs.Placed as placing
 use Rattle.grammar.specs.Policies.{Root, Root.Principal, Root.Resource, Root.Env, Root.Action, Comparator, Comparator.Equal, Comparator.NotEqual, Comparator.More, Comparator.AtLeast, Comparator.Less, Comparator.AtMost, Which, Which.All, Which.Any, Tree, Actions, Policy}
 use Rattle.table.specs.declared.Entry.{Entry}
 use Rattle.table.specs.Entries.{comparatorKind, whichKind, hasKind}
 use Rattle.stored.specs.Stored.{Stored, StoredPolicies, TreeByLast, is-true, is-false, is-comparison, is-like, is-among, is-within, is-contains, is-has, is-not, is-brackets, is-both, is-either, is-choice, ActionByLast, is-every, is-one-of, ConditionBetween, no-condition, a-condition}
-use Rattle.stored.specs.ReadBack.{treeBy, policiesBy}
+use Rattle.stored.specs.ReadBack.{treeBy, policyBy, policiesBy}
 use Rattle.stored.specs.Ready.{ReadyBy, PartReadyBy, Room, PartsBy, NodeBy, PoliciesReadyBy, LastBy}
 use Rattle.placing.proofs.EachLaws.{each-first, each-left, each-right}
 use Rattle.stored.proofs.Views.{view-of, stored-some, stored-few}
@@ -171,3 +172,21 @@ last-of {text} {at} {end = end} r n =
       before = ready-policies (let b = v .begins in let e = v .ends in omega arith) (k .before) (each-left (k .front) (k .last ∷ []) each);
       condition = condition-ready (omega arith) (v .condition) (p .condition);
     }
+
+-- the last policy left, of which x is the last entry
+pub last-there : {t : List ℕ} {at : ℕ → Entry} {many end : ℕ} {x : Entry} → PoliciesReadyBy t at many end → 0 < end → x ≡ at (end - 1) → LastBy t at many end x
+last-there r l e = rw e (last-of r l)
+
+-- how many are left before it
+module _ {t : List ℕ} {at : ℕ → Entry} {many end number : ℕ} {x : Entry} (last : LastBy t at many end x) (count : number ≡ length (policiesBy at end)) where
+  count-is : number ≡ suc (length (policiesBy at (x .first)))
+  count-is =
+      let l = length-append (policiesBy at (x .first)) (policyBy at end x ∷ []) in
+      let e = count ∙ ap length (last .is) in
+      omega arith
+
+  pub some-left : 1 ≤ number
+  some-left = let e = count-is in omega arith
+
+  pub number-falls : number - 1 ≡ length (policiesBy at (x .first))
+  number-falls = let e = count-is in omega arith

@@ -5,7 +5,7 @@ use mathlib.Core.Bool.{true}
 use mathlib.Core.List.{List, [], _∷_, _++_}
 use Prim.Native.Nat.{ℕ, zero, suc, _≤_, _<_}
 use lib.ListN.{length}
-use Rattle.compiling.specs.Promise.{Begun}
+use Rattle.compiling_promise.specs.Promise.{Begun}
 use Rattle.bags.specs.Forms.{Contents}
 use Rattle.questions.specs.Forms.{Column, QuestionBytes, NoQuestion}
 use Rattle.meaning.specs.Targets.{Request, isSystem}

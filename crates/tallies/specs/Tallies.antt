@@ -54,6 +54,10 @@ firstRefusal text table (q ∷ qs) = unless (requestRefusal text table q) (first
 abbrev pub groupCount : ℕ
 groupCount = 8
 
+-- how many counts these are
+abbrev pub countsSize : ℕ
+countsSize = 612
+
 -- a group for each request, and zeros for those that were not lent
 unfoldable pub groupsOf : ℕ → (Request → List ℕ) → List Request → List ℕ
 groupsOf zero group qs = []

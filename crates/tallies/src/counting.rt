@@ -13,23 +13,27 @@ ghost use Rattle.pages.specs.Tally.{groupSize, bumped, countedIn, Countable};
 ghost use Rattle.sheets.specs.Sheets.{rowsIn};
 ghost use Rattle.sheets.specs.Asked.{RowsAsked, WalkFor, WalkForSome};
 ghost use Rattle.tallies.specs.Lent.{requestsOf};
-ghost use Rattle.tallies.specs.Tallies.{groupCount, formRefusal, firstWrong, groupsOf, sumFrom, sumsOf, withSums};
+ghost use Rattle.tallies.specs.Tallies.{groupCount, countsSize, formRefusal, firstWrong, groupsOf, sumFrom, sumsOf, withSums};
 ghost use Rattle.tallies.specs.Counted.{RulesHeld, Surveyed, countedBy, groupBy, CountsFew};
+use crate::COUNTS;
 use crate::lent::request_at;
 use bags::sections::Sections;
 use choices::choices_of;
 use choices::lasts;
+use depths::LOOKS;
+use depths::looks;
+use kept::NOTES;
 use kept::Walk;
-use kept::depths::LOOKS;
-use kept::depths::looks;
 use kept::late::effects;
 use kept::late::lates;
-use lookups::index::PLACES;
-use lookups::index::index_of;
 use meaning::Decision;
-use questions::places::heads;
-use questions::places::places;
-use questions::places::rows;
+use questions::grid::heads;
+use questions::grid::places;
+use questions::grid::rows;
+use questions::sizes::MOST_CANDIDATES;
+use questions::sizes::MOST_COLUMNS;
+use slots::KEPT;
+use slots::index_of;
 use targets::Types;
 use targets::forms::is_system;
 use targets::forms::resource_type;
@@ -42,8 +46,6 @@ use views::with_columns;
 const GROUP: usize = 68;
 
 const EIGHT: usize = 544;
-
-const ALL: usize = 612;
 
 // How many policies and entries the table holds; none where no request asks for it.
 pub struct TableSize {
@@ -101,9 +103,9 @@ fn count_rows<'a>(
     text: &'a [u8],
     table: &[u8],
     s: &'a [u8],
-    places: &[u16; PLACES],
-    grid: &[[usize; 8]; 6],
-    ends: &[u8; 6],
+    places: &[u16; KEPT],
+    grid: &[[usize; MOST_CANDIDATES]; MOST_COLUMNS],
+    ends: &[u8; MOST_COLUMNS],
     action: &'a [u8],
     all: usize,
     group: &mut [u32],
@@ -117,8 +119,8 @@ fn count_rows<'a>(
 {
     let p = walk.p;
     let mut choices = choices_of(ends, 0);
-    let mut values = chosen(*grid, 6, &choices);
-    let mut notes = [0u8; 512];
+    let mut values = chosen(*grid, MOST_COLUMNS, &choices);
+    let mut notes = [0u8; NOTES];
     let lates = lates(looks, walk.policies);
     let mut from = 0;
     let mut kept = 0;
@@ -164,10 +166,10 @@ fn count_request<'a>(
     text: &'a [u8],
     table: &[u8],
     s: &'a [u8],
-    starts: &[usize; 6],
-    placed: &[u16; PLACES],
-    grid: &[[usize; 8]; 6],
-    ends: &[u8; 6],
+    starts: &[usize; MOST_COLUMNS],
+    placed: &[u16; KEPT],
+    grid: &[[usize; MOST_CANDIDATES]; MOST_COLUMNS],
+    ends: &[u8; MOST_COLUMNS],
     subject: &[u8],
     action: &'a [u8],
     resource: &[u8],
@@ -249,10 +251,10 @@ fn count_requests<'a>(
     text: &'a [u8],
     table: &[u8],
     s: &'a [u8],
-    starts: &[usize; 6],
-    placed: &[u16; PLACES],
-    grid: &[[usize; 8]; 6],
-    ends: &[u8; 6],
+    starts: &[usize; MOST_COLUMNS],
+    placed: &[u16; KEPT],
+    grid: &[[usize; MOST_CANDIDATES]; MOST_COLUMNS],
+    ends: &[u8; MOST_COLUMNS],
     many: usize,
     requests: &'a [u8],
     counts: &mut [u32],
@@ -260,7 +262,7 @@ fn count_requests<'a>(
     requires { ⌜ Surveyed (now text) (now table) (now s) asking (now starts) (now grid) (now ends) ⌝ }
     requires { ⌜ many ≤ groupCount ⌝ }
     requires { ⌜ firstWrong (requestsOf many (now requests)) ≡ 0 ⌝ }
-    requires { ⌜ now counts ≡ replicate 612 0 ⌝ }
+    requires { ⌜ now counts ≡ replicate countsSize 0 ⌝ }
     requires { ⌜ PlacesOf (now s) (asking .p) (asking .n) (now placed) × (keptHeads (now placed) ≡ now starts) ⌝ }
     ensures { λ _. ⌜ now (counts .exit) ≡ groupsOf groupCount (groupBy (now (text .entry)) (now (table .entry)) (now (s .entry)) asking)
         (requestsOf many (now (requests .entry))) ++ replicate groupSize 0 ⌝ }
@@ -298,7 +300,7 @@ fn count_requests<'a>(
 
 // The sum of the counts that the eight groups have at a place.
 fn sum_at(counts: &[u32], i: usize) -> u32
-    requires { ⌜ length (now counts) ≡ 612 ⌝ }
+    requires { ⌜ length (now counts) ≡ countsSize ⌝ }
     requires { ⌜ CountsFew (now counts) ⌝ }
     requires { ⌜ i < groupSize ⌝ }
     ensures { λ r. ⌜ r ≡ sumFrom groupCount (now (counts .entry)) i ⌝ }
@@ -316,7 +318,7 @@ fn sum_at(counts: &[u32], i: usize) -> u32
 
 // The last group: the sums.
 fn add_up(counts: &mut [u32])
-    requires { ⌜ length (now counts) ≡ 612 ⌝ }
+    requires { ⌜ length (now counts) ≡ countsSize ⌝ }
     requires { ⌜ CountsFew (now counts) ⌝ }
     ensures { λ _. ⌜ now (counts .exit) ≡ take 544 (now (counts .entry)) ++ sumsOf (now (counts .entry)) ⌝ }
 {
@@ -330,11 +332,11 @@ fn add_up(counts: &mut [u32])
 
 // All counts are 0.
 fn clear(counts: &mut [u32])
-    requires { ⌜ length (now counts) ≡ 612 ⌝ }
-    ensures { λ _. ⌜ now (counts .exit) ≡ replicate 612 0 ⌝ }
+    requires { ⌜ length (now counts) ≡ countsSize ⌝ }
+    ensures { λ _. ⌜ now (counts .exit) ≡ replicate countsSize 0 ⌝ }
 {
     let mut i = 0;
-    while i < ALL {
+    while i < COUNTS {
         counts[i] = 0;
         i += 1;
     }
@@ -351,7 +353,7 @@ pub fn count_all<'a>(
     requests: &'a [u8],
     counts: &mut [u32],
 )
-    requires { ⌜ length (now counts) ≡ 612 ⌝ }
+    requires { ⌜ length (now counts) ≡ countsSize ⌝ }
     requires { ⌜ Question (now s) p × (length (now s) ≤ mostQuestionBytes) ⌝ }
     requires { ⌜ RulesHeld (now text) (now table) (rules .policies) (rules .entries) ⌝ }
     requires { ⌜ many ≤ groupCount ⌝ }

@@ -23,6 +23,9 @@ use compiling::held_policies;
 use questions::question_sections;
 use tokens::classes::class_table;
 
+// How many counts a tally has: nine groups, one for each of eight requests and the sums.
+pub const COUNTS: usize = 612;
+
 // The policies and entries that the table holds, looked at only where a request asks for it.
 fn held_for(asked: bool, classes: &[u8; 256], text: &[u8], table: &[u8]) -> Held
     requires { ⌜ now classes ≡ classTable ⌝ }
@@ -43,7 +46,7 @@ fn tally_asked<'a>(
     p: Sections,
     many: usize,
     requests: &'a [u8],
-    counts: &mut [u32; 612],
+    counts: &mut [u32; COUNTS],
 ) -> u8
     requires { ⌜ now classes ≡ classTable ⌝ }
     requires { ⌜ Question (now s) p × (length (now s) ≤ mostQuestionBytes) ⌝ }
@@ -75,7 +78,7 @@ pub fn tally<'a>(
     question: &'a [u8],
     many: usize,
     requests: &'a [u8],
-    counts: &mut [u32; 612],
+    counts: &mut [u32; COUNTS],
 ) -> u8
     ensures { λ r. ⌜ Tallied (now (text .entry)) (now (table .entry)) (now (question .entry)) many (now (requests .entry)) (now (counts .entry)) r
         (now (counts .exit)) ⌝ }

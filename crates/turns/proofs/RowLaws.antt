@@ -33,12 +33,13 @@ use Rattle.meaning.specs.declared.Marked.{Marked}
 use Rattle.meaning.proofs.Deciding.{numbered-few, named-rightly}
 use Rattle.meaning.proofs.Marking.{mark-below}
 use Rattle.meaning.proofs.WordLaws.{mark-words, many-words}
-use Rattle.deciding.specs.Marks.{isSet}
-use Rattle.deciding.proofs.Bits.{marked-bit}
+use Rattle.marks.specs.Marks.{isSet}
+use Rattle.marks.proofs.Bits.{marked-bit}
 use Rattle.pages.specs.Rows.{countsOf, Combination, rowOf, choicesAt, countsBy, Few, Counted, Picked, RowPlaced, Moved}
-use Rattle.kept.specs.Notes.{ChosenThere, Aims, Late, Underway, Kept, DecidedFrom}
+use Rattle.depths.specs.Looks.{Aims}
+use Rattle.depths.proofs.Finding.{zeros-say}
+use Rattle.kept.specs.Notes.{ChosenThere, Late, Underway, Kept, DecidedFrom}
 use Rattle.kept.specs.declared.Walk.{Walk}
-use Rattle.kept.proofs.Noting.{zeros-say}
 use Rattle.pages.proofs.Combinations.{choices-combine, row-of-choices, choice-below}
 use Rattle.pages.proofs.Digits.{counts-length, count-is, rows-some}
 use Rattle.pages.proofs.SixColumns.{heads-counted, rows-are, row-chooses, lasts-few, six-rows, six-choices}

@@ -15,8 +15,9 @@ use Rattle.placing.specs.Said.{wordsOf}
 use Rattle.questions.specs.Sizes.{mostColumns, mostCandidates}
 use Rattle.meaning.specs.Targets.{Request, isSystem}
 use Rattle.pages.specs.Rows.{choicesAt, countsBy, Picked}
-use Rattle.deciding.specs.Marks.{permitsOf}
-use Rattle.kept.specs.Notes.{Depths, Ends, Kept}
+use Rattle.marks.specs.Marks.{permitsOf}
+use Rattle.depths.specs.Looks.{Depths, Ends}
+use Rattle.kept.specs.Notes.{Kept}
 use Rattle.kept.specs.declared.Walk.{Walk}
 use Rattle.turns.specs.Rows.{columnsIn, firstIn, rowsIn, decisionAt, rowMark}
 use Rattle.turns.specs.declared.Turn.{Turn}

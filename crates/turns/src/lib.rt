@@ -11,15 +11,15 @@ ghost use Rattle.kept.specs.Notes.{Underway, notesSize};
 ghost use Rattle.turns.specs.Rows.{rowsIn};
 ghost use Rattle.turns.specs.Turns.{Walked, Somewhere, AtRow, Turned};
 use choices::step;
+use depths::LOOKS;
 use kept::NOTES;
 use kept::Walk;
 use kept::decision_from;
-use kept::depths::LOOKS;
-use lookups::index::PLACES;
 use meaning::Decision;
 use meaning::Marked;
 use questions::sizes::MOST_CANDIDATES;
 use questions::sizes::MOST_COLUMNS;
+use slots::KEPT;
 
 // What a turn gives: the row's decision, its mark, the first column in which the next row may choose otherwise, and the mark that is kept for it: what the
 // policies say, whoever asks.
@@ -55,7 +55,7 @@ pub fn take_turn<'a>(
     text: &'a [u8],
     table: &[u8],
     s: &'a [u8],
-    places: &[u16; PLACES],
+    places: &[u16; KEPT],
     action: &'a [u8],
 ) -> Turn
     requires { ⌜ Walked (now text) (now table) (now s) walk (keptHeads (now places)) (now grid) (now ends) (now looks) ⌝ }

@@ -13,8 +13,8 @@ use Rattle.bags.specs.Sections.{sectionsOf}
 use Rattle.bags.specs.declared.After.the-variants.{At}
 use Rattle.bags.specs.declared.sections.Sections.{Sections}
 use Rattle.bags.specs.declared.sections.Divided.the-variants.{In}
-use Rattle.lookups.specs.Index.{keptSections, Indexed}
-use Rattle.lookups.proofs.IndexLaws.{sections-by-slots, indexed-by-slots}
+use Rattle.slots.specs.Slots.{keptSections, Indexed}
+use Rattle.slots.proofs.SlotLaws.{sections-by-slots, indexed-by-slots}
 use Rattle.questions.specs.Columns.{columnEnd}
 use Rattle.questions.specs.Questions.{follows, isQuestion, headOf}
 use Rattle.questions.proofs.ColumnLaws.{questionOnly, question-divided}

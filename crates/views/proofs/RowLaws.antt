@@ -23,7 +23,7 @@ use Rattle.questions.proofs.PlaceLaws.{firstOf, first-is, column-of}
 use Rattle.views.specs.Meaning.{present, look, hasPath, Chosen, rowBag, columnsFirst}
 use Rattle.views.specs.Values.{datumIn, StandsFor, baseBag, chosenMeant}
 use Rattle.views.specs.Rows.{chosenAt, chosenOf, baseValue, rowValue, rowView, RowStands, columnsOf, bagOfRow, Chooses}
-use Rattle.lookups.specs.Index.{keptSections}
+use Rattle.slots.specs.Slots.{keptSections}
 use Rattle.views.specs.Places.{keptColumns, keptHeads, placedView, RowAt, BagPlaced}
 use Rattle.views.proofs.RowBag.{row-view, has-in-row}
 use Rattle.views.proofs.ReadLaws.{look-means, columns-mean, base-filled}

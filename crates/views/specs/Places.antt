@@ -6,7 +6,7 @@ use mathlib.Core.Path.{_≡_}
 use lib.ListN.{length, getD, drop}
 use Rattle.bags.specs.Sections.{Sectioned}
 use Rattle.bags.specs.declared.sections.Sections.{Sections}
-use Rattle.lookups.specs.Index.{placesSize, keptSections, Indexed}
+use Rattle.slots.specs.Slots.{placesSize, keptSections, Indexed}
 use Rattle.lookups.specs.declared.values.Value.{Value}
 use Rattle.questions.specs.Sizes.{mostColumns}
 use Rattle.views.specs.Meaning.{View}

@@ -14,11 +14,11 @@ ghost use Rattle.questions.specs.Sizes.{mostColumns, mostCandidates};
 ghost use Rattle.lookups.specs.Values.{ShownAt};
 ghost use Rattle.views.specs.Places.{keptHeads, placedValue, RowAt, WithColumns};
 use lookups::finding::same_path;
-use lookups::index::PLACES;
-use lookups::index::place_in;
-use lookups::index::wide;
 use questions::sizes::MOST_CANDIDATES;
 use questions::sizes::MOST_COLUMNS;
+use slots::KEPT;
+use slots::place_in;
+use slots::wide;
 
 // Where the number of columns is kept among the places; the columns' own follow.
 const COLUMNS: usize = 195;
@@ -36,7 +36,7 @@ pub fn names(s: &[u8], head: usize, root: u8, path: &[u8]) -> bool
 }
 
 // The place of column number `i`, from 0 on.
-fn head_of(places: &[u16; PLACES], i: usize) -> usize
+fn head_of(places: &[u16; KEPT], i: usize) -> usize
     requires { ⌜ i < mostColumns ⌝ }
     ensures { λ r. ⌜ r ≡ getD (keptHeads (now (places .entry))) i 0 ⌝ }
 {
@@ -44,7 +44,7 @@ fn head_of(places: &[u16; PLACES], i: usize) -> usize
 }
 
 // The places of a row: those of its base, and of its `n` columns.
-pub fn with_columns(base: [u16; PLACES], n: usize, heads: &[usize; MOST_COLUMNS]) -> [u16; PLACES]
+pub fn with_columns(base: [u16; KEPT], n: usize, heads: &[usize; MOST_COLUMNS]) -> [u16; KEPT]
     requires { ⌜ n ≤ mostColumns ⌝ }
     requires { ⌜ ((i : ℕ) → i < mostColumns → getD (now heads) i 0 ≤ mostBagBytes) ⌝ }
     ensures { λ r. ⌜ WithColumns base n (now (heads .entry)) r ⌝ }
@@ -63,7 +63,7 @@ pub fn with_columns(base: [u16; PLACES], n: usize, heads: &[usize; MOST_COLUMNS]
 // it is absent. The path is that of the rule text, blanks and all.
 pub fn attribute(
     s: &[u8],
-    places: &[u16; PLACES],
+    places: &[u16; KEPT],
     values: &[usize; MOST_COLUMNS],
     root: u8,
     path: &[u8],

@@ -16,11 +16,11 @@ use borrow.Fn.PlainCycle.{Measures, is, falls, and}
 use Rattle.evaluating.proofs.evaluate_by.Reads as evaluate-by
 use Rattle.evaluating.proofs.evaluate_by.Kinds as evaluate-by-kinds
 use Rattle.evaluating.proofs.+evaluate_by.Lts-evaluate_by as evaluate-by-lts
-use Rattle.evaluating.proofs.after_part.Reads as after-part-reads
-use Rattle.evaluating.proofs.come_back.Reads as come-back-reads
-use Rattle.evaluating.proofs.entered.Reads as entered-reads
-use Rattle.evaluating.proofs.inside_part.Reads as inside-part-reads
-use Rattle.evaluating.proofs.part_met.Reads as part-met-reads
+use Rattle.ways.proofs.after_part.Reads as after-part-reads
+use Rattle.ways.proofs.come_back.Reads as come-back-reads
+use Rattle.ways.proofs.entered.Reads as entered-reads
+use Rattle.ways.proofs.inside_part.Reads as inside-part-reads
+use Rattle.ways.proofs.part_met.Reads as part-met-reads
 use Rattle.operators.proofs.flat.Reads as flat-reads
 use Rattle.evaluating.proofs.entry_of.Reads as entry-of-reads
 use Rattle.evaluating.proofs.+evaluate_by.{statement}

@@ -19,10 +19,11 @@ use Rattle.placing.specs.Said.{policyWords, wordsOf}
 use Rattle.meaning.specs.Targets.{Request}
 use Rattle.meaning.specs.Decisions.{under, satisfied, Numbered}
 use Rattle.meaning.proofs.WordLaws.{many-words}
-use Rattle.deciding.specs.Marks.{isSet}
-use Rattle.deciding.proofs.Bits.{lowest-some, lowest-set, set-below, taken-fits, numbered-there}
-use Rattle.deciding.proofs.Lowest.{permits-words}
-use Rattle.kept.specs.Notes.{ownOf, endAt, policyEnding, PolicyEnds, Kept, satBy}
+use Rattle.marks.specs.Marks.{isSet}
+use Rattle.marks.proofs.Bits.{lowest-some, lowest-set, set-below, taken-fits, numbered-there}
+use Rattle.marks.proofs.ByMarks.{permits-words}
+use Rattle.depths.specs.Looks.{ownOf, endAt, policyEnding, PolicyEnds}
+use Rattle.kept.specs.Notes.{Kept, satBy}
 use Rattle.kept.proofs.Noting.{Halfway, none-met-yet, one-met, all-met, all-clear, still-clear, bit-below, sat-here, sat-where, note-holds}
 use Rattle.kept.proofs.decision_from.Statement.{statement}
 use Rattle.kept.proofs.decision_from.Tie as tie

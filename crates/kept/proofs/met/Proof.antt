@@ -2,7 +2,6 @@
 use mathlib.Core.Path.{sym, _∙_}
 use lib.ListN.{length-set}
 use Rattle.kept.proofs.Noting.{met-noted, met-anew, last-read, policy-read}
-use native.Mathlib.Omega.{arith}
 use borrow.Author.Needs.{needs}
 use Rattle.kept.proofs.met.Statement.{statement}
 use Rattle.kept.proofs.met.Tie as tie

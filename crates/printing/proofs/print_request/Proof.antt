@@ -3,7 +3,7 @@ use mathlib.Core.Path.{sym}
 use native.Mathlib.Omega.{arith}
 use lib.Seq.{length-take-le}
 use borrow.Author.Needs.{needs}
-use Rattle.printing.proofs.LineLaws.{printed-for-lines}
+use Rattle.printing.proofs.PageLaws.{printed-for-lines}
 use Rattle.printing.proofs.print_request.Statement.{statement}
 use Rattle.printing.proofs.print_request.Tie as tie
 

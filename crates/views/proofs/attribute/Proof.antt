@@ -5,7 +5,7 @@ use mathlib.Core.Path.{_≡_, refl, sym, _∙_}
 use native.Mathlib.Omega.{arith}
 use Rattle.tokens.specs.Blanks.{unblanked}
 use Rattle.tokens.specs.Table.{valuesFrom}
-use Rattle.lookups.specs.Index.{keptSections}
+use Rattle.slots.specs.Slots.{keptSections}
 use Rattle.views.proofs.ViewLaws.{columns-none, columns-here, columns-on}
 use Rattle.views.specs.Meaning.{columnsFirst}
 use Rattle.views.specs.Places.{keptColumns, keptHeads, placedValue}
@@ -14,8 +14,8 @@ use Rattle.views.proofs.attribute.Statement.{statement}
 use Rattle.views.proofs.attribute.Tie as tie
 use Rattle.views.proofs.attribute.Reads as reads
 use Rattle.views.proofs.attribute.Lts as lts
-use Rattle.lookups.proofs.index.place_in.Reads as place-in-reads
-use Rattle.lookups.proofs.index.wide.Reads as wide-reads
+use Rattle.slots.proofs.place_in.Reads as place-in-reads
+use Rattle.slots.proofs.wide.Reads as wide-reads
 use Rattle.views.proofs.head_of.Reads as head-of-reads
 use Rattle.views.proofs.names.Reads as names-reads
 

@@ -5,7 +5,7 @@ use Rattle.views.proofs.head_of.Statement.{statement}
 use Rattle.views.proofs.head_of.Tie as tie
 use Rattle.views.proofs.head_of.Reads as reads
 use Rattle.views.proofs.head_of.Lts as lts
-use Rattle.lookups.proofs.index.wide.Reads as wide-reads
+use Rattle.slots.proofs.wide.Reads as wide-reads
 
 -- src/lib.rt:42:17
 add-wide : tie.Need-add-wide

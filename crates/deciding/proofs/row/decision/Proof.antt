@@ -1,8 +1,10 @@
 -- `deciding::row::decision` meets its contract. The invariant: the marks of those met become those of all. Assumes nothing.
 use native.Mathlib.Omega.{arith}
 use borrow.Author.Needs.{needs}
-use Rattle.deciding.specs.Marks.{permitsOf}
-use Rattle.deciding.proofs.Lowest.{all-marked, mark-one, none-marked, permits-words, effect-there, some-left, number-falls, bit-there, bit-fits, no-bits, last-there}
+use Rattle.marks.specs.Marks.{permitsOf}
+use Rattle.marks.proofs.ByMarks.{permits-words, bit-there, bit-fits, no-bits}
+use Rattle.stored.proofs.Evaluating.{some-left, number-falls, last-there}
+use Rattle.deciding.proofs.MarkLaws.{all-marked, mark-one, none-marked, effect-there}
 use Rattle.targets.specs.Matching.{request}
 use Rattle.placing.specs.Said.{policyWords, wordsOf}
 use Rattle.table.specs.Kinds.{permitKind}
@@ -12,7 +14,7 @@ use Rattle.meaning.proofs.Marking.{markAfter, none-met}
 use Rattle.meaning.proofs.WordLaws.{many-words}
 use Rattle.views.specs.Meaning.{look}
 use Rattle.views.specs.Places.{BagPlaced}
-use Rattle.lookups.specs.Index.{keptSections}
+use Rattle.slots.specs.Slots.{keptSections}
 use Rattle.views.specs.Values.{baseBag}
 use Rattle.stored.specs.Ready.{ReadyPolicies, Last}
 use Rattle.stored.specs.ReadBack.{policiesAt}

@@ -7,9 +7,11 @@ use lib.ListN.{length}
 use Rattle.table.specs.Kinds.{permitKind}
 use Rattle.stored.specs.ReadBack.{policiesAt}
 use Rattle.stored.specs.Ready.{Last}
+use Rattle.stored.proofs.Evaluating.{some-left, number-falls, last-there}
 use Rattle.meaning.proofs.Marking.{markAfter, none-met}
-use Rattle.deciding.specs.Marks.{permitsOf}
-use Rattle.deciding.proofs.Lowest.{all-marked, mark-one, effect-there, some-left, number-falls, bit-there, bit-fits, no-bits, last-there}
+use Rattle.marks.specs.Marks.{permitsOf}
+use Rattle.marks.proofs.ByMarks.{bit-there, bit-fits, no-bits}
+use Rattle.deciding.proofs.MarkLaws.{all-marked, mark-one, effect-there}
 use Rattle.kept.specs.Notes.{ReadyOfSome}
 use Rattle.kept.proofs.late.effects.Statement.{statement}
 use Rattle.kept.proofs.late.effects.Tie as tie

@@ -5,7 +5,7 @@ use Prim.Native.Nat.{ℕ, _+_, _-_, _^_, _≤_, _<_}
 use native.Mathlib.Omega.{arith}
 use borrow.Author.Needs.{needs}
 use lib.Dec.{leb, ltb}
-use Rattle.deciding.specs.Marks.{isSet}
+use Rattle.marks.specs.Marks.{isSet}
 use Rattle.kept.specs.Notes.{matters}
 use Rattle.kept.proofs.Noting.{late-none, late-more, late-fits, late-room, late-all}
 use Rattle.kept.proofs.late.late.Statement.{statement}

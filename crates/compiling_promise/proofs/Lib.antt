@@ -1,0 +1,3 @@
+pub mod Promised
+pub mod Opened
+pub mod Examples

@@ -1,0 +1,5 @@
+pub mod Agreeing
+pub mod Naming
+pub mod Steady
+pub mod Numbering
+pub mod Finding
