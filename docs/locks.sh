@@ -13,8 +13,7 @@ work=$(mktemp -d)
 trap 'rm -rf "$work"' EXIT
 archive=${1-}
 if [ -z "$archive" ]; then
-    rt staticlib desk >"$work/said" 2>&1 || { cat "$work/said" >&2; exit 1; }
-    archive=target/staticlib/libdesk.a
+    archive=$(tools/archive.sh)
 fi
 
 awk '

@@ -34,26 +34,29 @@ seconds() {
 
 # Reads what rt prints, and says for each crate that is proved now how many are left and about how long they take.
 progress() {
-    local line crate left=() sum other
+    local line crate='' left=() sum other
     mapfile -t left < <(crates)
     while IFS= read -r line; do
         printf '%s\n' "$line" >>"$log"
-        [[ $line =~ ^rt:\ ([a-z_]+)\ (proved|FAILED) ]] || continue
-        crate=${BASH_REMATCH[1]}
-        local rest=()
+        # a crate's last lines: its name, and whether it is proved
+        if [[ $line =~ ^crate\ ([a-z_0-9]+): ]]; then
+            crate=${BASH_REMATCH[1]}
+            continue
+        fi
+        [[ $line =~ ^logic=(proved|not-proved) ]] && [ -n "$crate" ] || continue
+        local how=${BASH_REMATCH[1]/-/ } rest=()
         for other in "${left[@]}"; do
             [ "$other" = "$crate" ] || rest+=("$other")
         done
         left=("${rest[@]}")
-        [[ $line == *unchanged* ]] && continue
         sum=0
         for other in "${left[@]}"; do
             sum=$((sum + $(seconds "$other")))
         done
         if [ ${#left[@]} -gt 0 ]; then
-            echo "desk: ${line#rt: }; ${#left[@]} left, at most about $(((sum + 59) / 60)) min" >&2
+            echo "desk: $crate $how; at most ${#left[@]} left, about $(((sum + 59) / 60)) min" >&2
         else
-            echo "desk: ${line#rt: }" >&2
+            echo "desk: $crate $how" >&2
         fi
     done
 }
@@ -67,18 +70,10 @@ prove() {
         echo "desk: another ./desk or ./sheet is proving; waiting for it" >&2
         flock 9
     fi
-    local crate missing=0 sum=0
-    for crate in $(crates); do
-        if [ ! -e "$root/target/stamp/$crate" ]; then
-            missing=$((missing + 1))
-            sum=$((sum + $(seconds "$crate")))
-        fi
-    done
-    [ "$missing" = 0 ] || echo "desk: the program $name is not proved yet: $missing crates are left, about $(((sum + 59) / 60)) min on a quiet machine" >&2
-    if ! (cd "$root" && rt check "$name" 2>&1 9>&-) | progress; then
+    if ! "$root/tools/program.sh" "$name" 2>&1 >/dev/null 9>&- | progress; then
         cat "$log" >&2
         rm -f "$log"
-        fail "rt check $name failed, so the program $name is not proved: its words are above"
+        fail "the program $name is not proved: what rt said is above"
     fi
     rm -f "$log"
     exec 9>&-
@@ -90,11 +85,7 @@ main() {
         prove
         [ -z "${DESK_WORK:-}" ] || : >"$DESK_WORK/$name"
     fi
-    # As rt runs programs: with the toolchain's own loader and C library, and on another machine than x86-64 with its emulator.
-    local own=${RATTLE_HOME:-$(dirname "$(dirname "$(readlink -f "$(command -v rt)")")")}/on/$(uname -m)/toolchain
-    set -- "$own/lib/ld-linux-x86-64.so.2" --library-path "$own/lib" "$root/target/bin/$name" "$@"
-    [ ! -x "$own/bin/qemu-x86_64" ] || set -- "$own/bin/qemu-x86_64" "$@"
-    exec "$@"
+    exec "$root/crates/$name/out/$name" "$@"
 }
 
 main "$@"

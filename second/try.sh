@@ -1,6 +1,6 @@
 #!/usr/bin/env bash
 # Tries the desk for people as people use it, answered by the proved programs: right questions, mistakes and their messages, two at once. After
-# rt check sheet ask caretaker, from anywhere:
+# rt ci, or tools/program.sh of sheet, ask and caretaker, from anywhere:
 #
 #   second/try.sh
 #

@@ -15,7 +15,7 @@ import re
 import sys
 
 # what the calls answer and leave: the contracts' own definitions, of which the page says what they are, so that they need not be read
-SAID = ["compileSays", "compileLeaves", "beginsSays", "decideSays", "lookupSays", "stringSays", "sheetSays", "sheetLeaves", "tallySays", "tallyLeaves", "rowsSay", "lockSays", "lockLeaves"]
+SAID = ["compile_says", "compile_leaves", "begins_says", "decide_says", "lookup_says", "string_says", "sheet_says", "sheet_leaves", "tally_says", "tally_leaves", "rows_say", "lock_says", "lock_leaves"]
 ROOTS = ["DemandOne", "DemandTwo", "Versions", "DemandThree", "TheTallies", "LookUps", "Refusals", "Locks", "OneResult"]
 os.chdir(os.path.join(os.path.dirname(os.path.abspath(__file__)), ".."))
 NAME = r"[^\s(){},.;λ→×⊎↔¬\"]+"
@@ -68,10 +68,10 @@ class File:
         path = m.group(1) if m else ""
         names = re.search(r"\.\{(.*)\}$", line)
         parts = path.split(".")
-        crate = re.sub(r"·specs$", "", parts[0].replace("Rattle·", "", 1)) if parts[0].startswith("Rattle·") else None
-        if crate is None:
+        if parts[0] != "Rattle" or len(parts) < 3:
             return
-        rest = [p for p in parts[1:] if p != "specs"]
+        crate = parts[1]
+        rest = [p for p in parts[2:] if p != "specs"]
         if not rest or rest[0] == "declared":
             return
         where = (crate, rest[0])
@@ -146,7 +146,7 @@ def main():
         f = files[where]
         text = f.definitions[name][2]
         for alias, to in f.aliases.items():
-            for m in re.finditer(r"(?<![\w·])" + re.escape(alias) + r"\.(" + NAME + ")", text):
+            for m in re.finditer(r"(?<![\w.])" + re.escape(alias) + r"\.(" + NAME + ")", text):
                 got = find(to, m.group(1))
                 if got:
                     todo.append(got)

@@ -53,7 +53,7 @@ function defined_in(line, source, top, parts, n, i) {
 function read_in(top, list, f, line, base) {
     if (top in seen) return
     seen[top] = 1
-    list = "find \"" top "\" -type f"
+    list = "find \"" top "\" -name out -prune -o -type f -print"
     while ((list | getline f) > 0) {
         if (f ~ /\.edit$/) { base = f; sub(/^.*\//, "", base); sub(/\.edit$/, "", base); defines[top, base] = 1 }
         if (f !~ /\.(antt|rt)$/) continue

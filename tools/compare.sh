@@ -1,5 +1,5 @@
 #!/bin/sh
-# Compares the proved programs with the second program on other random vectors than the stored ones. From the repository's root, after rt check:
+# Compares the proved programs with the second program on other random vectors than the stored ones. From the repository's root, after rt ci:
 #   tools/compare.sh SEED [SCALE [SORT ..]]
 # Each sort has SCALE (1 to 1000, 1 where it is left out) times as many vectors as are stored. A line that differs is shown with its number:
 # second/README.md, 'To find the reason of a difference', tells how to go on. Ends with status 1 if any line differs, and with the number of vectors compared.
@@ -15,8 +15,8 @@ cargo run --quiet --release --locked --offline --manifest-path second/Cargo.toml
 status=0
 total=0
 for sort in "$@"; do
-    program=target/bin/${sort}_vectors
-    [ -f "$program" ] || { echo "compare.sh: no $program: run rt check ${sort}_vectors first" >&2; exit 2; }
+    program=crates/${sort}_vectors/out/${sort}_vectors
+    [ -f "$program" ] || { echo "compare.sh: no $program: run rt ci, or tools/program.sh ${sort}_vectors, first" >&2; exit 2; }
     tools/run.sh "$program" <"$work/vectors/${sort}_vectors/stdin" >"$work/answers"
     right=$work/vectors/${sort}_vectors/stdout
     count=$(wc -l <"$right")

@@ -1,11 +1,11 @@
 #!/bin/sh
-# Runs the sheet program in each of the folders that the second program makes and in those of examples/, and compares what it prints. After rt check sheet:
-#   tools/folders.sh [PROGRAM]     target/bin/sheet where it is left out
+# Runs the sheet program in each of the folders that the second program makes and in those of examples/, and compares what it prints. After rt ci:
+#   tools/folders.sh [PROGRAM]     crates/sheet/out/sheet where it is left out
 # A folder in which the output differs is named, with the first lines of the difference. Its last line has the number of folders; if any differs its status is 1.
 set -eu
-program=$(readlink -f "${1:-$(dirname "$0")/../target/bin/sheet}")
+program=$(readlink -f "${1:-$(dirname "$0")/../crates/sheet/out/sheet}")
 cd "$(dirname "$0")/.."
-[ -f "$program" ] || { echo "folders.sh: no $program: run rt check sheet first" >&2; exit 2; }
+[ -f "$program" ] || { echo "folders.sh: no $program: run rt ci, or tools/program.sh sheet, first" >&2; exit 2; }
 run=$PWD/tools/run.sh
 work=$(mktemp -d)
 trap 'rm -rf "$work"' EXIT

@@ -10,7 +10,7 @@ kept=tools/kept.txt
 
 # One line for each: 'crate NAME', 'vectors NAME NUMBER', 'edit CRATE/NAME'.
 there() {
-    sed -n 's/^\([A-Za-z_][A-Za-z0-9_]*\):.*/crate \1/p' crates.txt | sort
+    sed -n 's/^\([A-Za-z_][A-Za-z0-9_]*\)\( [^:]*\)\{0,1\}:.*/crate \1/p' crates.txt | sort
     for answers in crates/*_vectors/stdout; do
         program=${answers%/stdout}
         echo "vectors ${program#crates/} $(wc -l <"$answers" | tr -d ' ')"

@@ -1,9 +1,12 @@
 // The ask program, run in a folder with a word, and a version as a second, 1 where there is none. `check`: whether policy.txt compiles. `decide`: what the desk answers to
 // each case of cases.bin. `tally`: what it counts over question.bin for the requests of requests.bin. `sheet`: what the sheet program prints, under this version. All it says
 // is what the desk's calls say.
+#![tactic(auto)]
+
 ghost use Rattle.std.specs.Prelude.{true, ◌≡◌, ◌+◌, ◌≤◌, ◌<◌, length, take};
 ghost use Rattle.desk.specs.Answers.{compile_says, begins_says, tally_says};
 ghost use Rattle.folder.specs.Added.{Added};
+ghost use Rattle.streams.specs.Counts.{IsPrefixLen};
 ghost use Rattle.ask.specs.Lines.{version_in, compiled_line, decided_line, cases_from, answered_for, CaseAnswered, CasesAnswered, counted_for};
 
 use cases::{part_at, wide};
@@ -11,11 +14,13 @@ use counts::put_tally;
 use desk::{DeskCompiled, DeskDecision};
 use folder::lines::{put_refusal, put_three, put_two, put_word};
 use folder::read_file;
-use libc::STDOUT_FILENO;
 use printing::print_folder;
+use std::env::{Env, FillError};
+use std::rt::Files;
+use streams::print_bytes;
 
 // Where the next case begins, and how many bytes of the buffer are filled.
-#[derive(Drop)]
+#[derive(Clone, Copy)]
 pub struct CaseStep {
     pub next: usize,
     pub filled: usize,
@@ -84,7 +89,7 @@ fn answer_case<'a>(
 }
 
 // How many cases are answered, and how far.
-#[derive(Drop)]
+#[derive(Clone, Copy)]
 pub struct Answered {
     pub cases: usize,
     pub step: CaseStep,
@@ -124,7 +129,7 @@ fn answer_cases<'a>(
 }
 
 // Answers all cases, a buffer of lines at a time, and gives how many there are.
-fn print_cases<'a>(text: &'a [u8], table: &[u8], cases: &'a [u8]) -> usize
+fn print_cases<'a, P: Print>(rt: &P, text: &'a [u8], table: &[u8], cases: &'a [u8]) -> usize
     requires { begins_says text.now table.now ≡ true }
     ensures { result ≡ cases_from cases.now 0 }
 {
@@ -134,7 +139,7 @@ fn print_cases<'a>(text: &'a [u8], table: &[u8], cases: &'a [u8]) -> usize
     while next < cases.len() {
         let some = answer_cases(text, table, cases, next, &mut out);
         let filled = some.step.filled;
-        io::write_all(STDOUT_FILENO, &out[..filled]);
+        print_bytes(rt, &out[..filled]);
         next = some.step.next;
         answered += some.cases;
     }
@@ -142,42 +147,49 @@ fn print_cases<'a>(text: &'a [u8], table: &[u8], cases: &'a [u8]) -> usize
 }
 
 // Prints the line for what compiling answers.
-fn print_compiled(c: DeskCompiled) {
+fn print_compiled<P: Print>(rt: &P, c: DeskCompiled) {
     let mut out = [0u8; 92];
     let n = put_compiled(&mut out, 0, c);
-    io::write_all(STDOUT_FILENO, &out[..n]);
+    print_bytes(rt, &out[..n]);
 }
 
 // What is printed for a text and cases: how many cases are answered; or only the text's refusal.
-fn print_answers<'a>(version: u64, text: &'a [u8], table: &mut [u8], cases: &'a [u8]) -> usize
+fn print_answers<'a, P: Print>(
+    rt: &P,
+    version: u64,
+    text: &'a [u8],
+    table: &mut [u8],
+    cases: &'a [u8],
+) -> usize
     ensures { result ≡ answered_for version text.now table.old cases.now }
 {
     let c = desk::desk_compile(text, table, version);
     if 0 < c.refusal {
-        print_compiled(c);
+        print_compiled(rt, c);
         return 0;
     }
-    print_cases(text, table, cases)
+    print_cases(rt, text, table, cases)
 }
 
 // Prints the lines of a tally.
-fn print_counts(counts: &[u32; 612], rows: usize, many: usize, policies: usize)
+fn print_counts<P: Print>(rt: &P, counts: &[u32; 612], rows: usize, many: usize, policies: usize)
     requires { (many ≤ 8) × (policies ≤ 64) }
 {
     let mut out = [0u8; 30863]; // 50 bytes for each of nine groups of 68 counts, and the lines of rows, requests and sums
     let n = put_tally(&mut out, counts, rows, many, policies);
-    io::write_all(STDOUT_FILENO, &out[..n]);
+    print_bytes(rt, &out[..n]);
 }
 
 // Prints the line of a refusal that has no place.
-fn print_refusal(number: u32) {
+fn print_refusal<P: Print>(rt: &P, number: u32) {
     let mut out = [0u8; 92];
     let n = put_refusal(&mut out, 0, number, 0, 0, 0);
-    io::write_all(STDOUT_FILENO, &out[..n]);
+    print_bytes(rt, &out[..n]);
 }
 
 // Prints the tally of so many requests over rules with so many policies, or its refusal, and gives the refusal's number.
-fn print_tally<'a>(
+fn print_tally<'a, P: Print>(
+    rt: &P,
     text: &'a [u8],
     table: &[u8],
     policies: usize,
@@ -191,15 +203,16 @@ fn print_tally<'a>(
     let mut counts = [0u32; 612];
     let refusal = desk::desk_tally(text, table, question, many, requests, &mut counts);
     if 0 < refusal {
-        print_refusal(refusal);
+        print_refusal(rt, refusal);
         return refusal;
     }
-    print_counts(&counts, desk::desk_rows(question), many, policies);
+    print_counts(rt, &counts, desk::desk_rows(question), many, policies);
     0
 }
 
 // What is printed for a text, a question and requests, which stand behind their number in one byte: the tally; or the refusal's line. Gives the refusal's number.
-fn print_counted<'a>(
+fn print_counted<'a, P: Print>(
+    rt: &P,
     version: u64,
     text: &'a [u8],
     table: &mut [u8],
@@ -210,14 +223,15 @@ fn print_counted<'a>(
 {
     let c = desk::desk_compile(text, table, version);
     if 0 < c.refusal {
-        print_compiled(c);
+        print_compiled(rt, c);
         return c.refusal;
     }
     let n = requests.len();
     if n < 1 {
-        return print_tally(text, table, c.policies, question, 0, requests);
+        return print_tally(rt, text, table, c.policies, question, 0, requests);
     }
     print_tally(
+        rt,
         text,
         table,
         c.policies,
@@ -228,37 +242,38 @@ fn print_counted<'a>(
 }
 
 // A file is read with room for one byte more than its limit, so that what is too long is refused and not cut.
-fn check(version: u64) {
+fn check<R: Files + Print>(rt: &R, version: u64) {
     let mut text = [0u8; 8193];
     let mut table = [0u8; 65544];
-    let n = read_file(b"policy.txt", &mut text);
-    print_compiled(desk::desk_compile(&text[..n], &mut table, version));
+    let n = read_file(rt, b"policy.txt", &mut text);
+    print_compiled(rt, desk::desk_compile(&text[..n], &mut table, version));
 }
 
 // Cases are read as a whole, up to 131,072 bytes; of more none is answered.
-fn decide(version: u64) {
+fn decide<R: Files + Print>(rt: &R, version: u64) {
     let mut text = [0u8; 8193];
     let mut table = [0u8; 65544];
     let mut cases = [0u8; 131073];
-    let n = read_file(b"policy.txt", &mut text);
-    let m = read_file(b"cases.bin", &mut cases);
+    let n = read_file(rt, b"policy.txt", &mut text);
+    let m = read_file(rt, b"cases.bin", &mut cases);
     if 131072 < m {
-        io::write_all(STDOUT_FILENO, b"cases too long\n");
+        print_bytes(rt, b"cases too long\n");
         return;
     }
-    print_answers(version, &text[..n], &mut table, &cases[..m]);
+    print_answers(rt, version, &text[..n], &mut table, &cases[..m]);
 }
 
 // Eight requests have 6,145 bytes at most; what lies behind them is not looked at.
-fn tally(version: u64) {
+fn tally<R: Files + Print>(rt: &R, version: u64) {
     let mut text = [0u8; 8193];
     let mut table = [0u8; 65544];
     let mut question = [0u8; 4097];
     let mut requests = [0u8; 6145];
-    let n = read_file(b"policy.txt", &mut text);
-    let q = read_file(b"question.bin", &mut question);
-    let r = read_file(b"requests.bin", &mut requests);
+    let n = read_file(rt, b"policy.txt", &mut text);
+    let q = read_file(rt, b"question.bin", &mut question);
+    let r = read_file(rt, b"requests.bin", &mut requests);
     print_counted(
+        rt,
         version,
         &text[..n],
         &mut table,
@@ -284,29 +299,48 @@ fn version_in(word: &[u8]) -> u64
 }
 
 // The version that the second word names, and 1 where there is none; a word of more bytes comes as none.
-fn version_asked() -> u64 {
-    if os::arg_count() < 3 {
+fn version_asked<R: Env>(rt: &R) -> u64 {
+    if has_no_word(rt, 2) {
         return 1;
     }
     let mut word = [0u8; 1];
-    let n = os::arg(2, &mut word);
+    let n = word_at(rt, 2, &mut word);
     version_in(&word[..n])
 }
 
-fn main() {
+// Reads the word at a place, where the program's own name is at 0, and gives how many bytes came. One that is missing or has more bytes than fit comes as none.
+fn word_at<R: Env>(rt: &R, place: usize, word: &mut [u8]) -> usize
+    ensures { IsPrefixLen result word.new }
+{
+    match rt.arg(place, word) {
+        Ok(n) => n,
+        Err(_) => 0,
+    }
+}
+
+// Whether there is no word at a place.
+fn has_no_word<R: Env>(rt: &R, place: usize) -> bool {
+    let mut word = [0u8; 1];
+    match rt.arg(place, &mut word) {
+        Err(FillError::NotPresent) => true,
+        _ => false,
+    }
+}
+
+fn main(rt: HostRuntime) {
     let mut word = [0u8; 8];
-    let n = os::arg(1, &mut word);
-    let few = os::arg_count() < 4;
-    let version = version_asked();
+    let n = word_at(&rt, 1, &mut word);
+    let few = has_no_word(&rt, 3);
+    let version = version_asked(&rt);
     if few & slices::same(&word[..n], b"check") {
-        check(version);
+        check(&rt, version);
     } else if few & slices::same(&word[..n], b"decide") {
-        decide(version);
+        decide(&rt, version);
     } else if few & slices::same(&word[..n], b"tally") {
-        tally(version);
+        tally(&rt, version);
     } else if few & slices::same(&word[..n], b"sheet") {
-        print_folder(version);
+        print_folder(&rt, version);
     } else {
-        io::write_all(STDOUT_FILENO, b"usage check decide tally sheet\n");
+        print_bytes(&rt, b"usage check decide tally sheet\n");
     }
 }

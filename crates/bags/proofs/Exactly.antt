@@ -73,17 +73,17 @@ module _ (s : List ℕ) where
   bag_sound : is_bag s ≡ true → (b : Contents) × BagBytes s b
   unfolding is_bag
   bag_sound h =
-      let t = (and-eq-true_iff (leb (length s) 4096) _).0 h in
+      let t = (and-eq-true_iff (leb (length s) _) _).0 h in
       let f = filled (sections_of s) (length s) t.1 in
       let o = sections_sound s f.0 (sections_at s f.0 f.1.0) in
       let q = whole_laid (rw f.1.1 at o.laid) in
-      (contents_at s f.0, record { most = leb-true _ _ t.0; all = rw (← q) at o.says })
+      (contents_at s f.0, record { most = omega (arith, leb-true _ _ t.0); all = rw (← q) at o.says })
 
   bag_complete : (b : Contents) → BagBytes s b → is_bag s ≡ true
   unfolding is_bag
   bag_complete b w =
       let d = sections_complete w.all (laid_whole s) in
-      (and-eq-true_iff (leb (length s) 4096) _).1 (le-leb _ _ w.most, fills (sections_of s) d.places (length s) d.read d.stop)
+      (and-eq-true_iff (leb (length s) _) _).1 (le-leb _ _ (omega (arith, w.most)), fills (sections_of s) d.places (length s) d.read d.stop)
 
   -- the reader takes the bytes of a bag, and no others
   pub bag_exactly : (is_bag s ≡ true) ↔ ((b : Contents) × BagBytes s b)

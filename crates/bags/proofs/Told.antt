@@ -42,13 +42,13 @@ module _ {A : Type 0} (R : List ℕ → A → Type 0) (s : List ℕ) (next : ℕ
 
   pub many_complete : {at e : ℕ} {b : List ℕ} {xs : List A} → InTurn R b xs → Laid s at b e
       → (many (length xs) next at ≡ At e) × (xs ≡ each (length xs) next what at)
-  many_complete {at} {e} none l =
+  many_complete {at = at} {e = e} none l =
       let q : e ≡ at = omega (arith, l.stop) in
       (many_done next 0 at (omega arith) ∙ ap At (sym q), sym (each_done next what 0 at (omega arith)))
-  many_complete {at} {e} (more {a} {b} {x} {xs} ra rb) l =
+  many_complete {at = at} {e = e} (more {a} {b} {x} {xs} ra rb) l =
       let p = laid_split a b l in
       let o = r.complete ra p.0 in
-      let u = many_complete rb p.1 in
+      let u = many_complete {at = at + length a} {e = e} rb p.1 in
       let m : suc (length xs) - 1 ≡ length xs = omega arith in (
         many_more next (suc (length xs)) at (at + length a) (omega arith) o.0 ∙ rw m u.0,
         sym (each_more next what (suc (length xs)) at (at + length a) (omega arith) o.0 ∙ rw (m, ← u.1, ← o.1)),

@@ -11,7 +11,7 @@ use crate::values::value_end;
 use slices::before;
 
 // Where the sections resource and env start, and where env ends. The section principal starts at 0.
-#[derive(Drop)]
+#[derive(Clone, Copy)]
 pub struct Sections {
     pub resource: usize,
     pub env: usize,
@@ -19,7 +19,7 @@ pub struct Sections {
 }
 
 // Bytes divided into sections.
-#[derive(Drop)]
+#[derive(Clone, Copy)]
 pub enum Divided {
     In(Sections),
     Broken,

@@ -1,5 +1,7 @@
 // Reads and checks one bag again and again, so that its instructions can be counted, and writes how often it was a bag.
 // The input is one test vector, with the number of repetitions where the number of vectors stands.
+#![tactic(auto)]
+
 ghost use Rattle.std.specs.Prelude.{◌≡◌, ◌≤◌, length};
 ghost use Rattle.bags.specs.Sections.{is_bag};
 
@@ -33,10 +35,11 @@ fn repeat(times: u32, bytes: &mut [u8], size: usize) -> u64
     sum
 }
 
-fn main() {
+fn main(rt: HostRuntime) {
+    let mut input = rt.reader();
     let mut bytes = [0u8; 8192];
-    let times = vectors::vector_count();
-    let n = vectors::read_part(&mut bytes);
+    let times = vectors::vector_count(&mut input);
+    let n = vectors::read_part(&mut input, &mut bytes);
     let sum = repeat(times, &mut bytes, n);
-    vectors::print_number(sum, b'\n');
+    vectors::print_number(&rt, sum, b'\n');
 }

@@ -1,5 +1,7 @@
 // Compiles one text again and again under version 1, and asks again and again whether its table begins right, so that the instructions can be counted. The input: how often to
 // compile and how often to ask, in 4 bytes each, and the text as one part.
+#![tactic(auto)]
+
 ghost use Rattle.std.specs.Prelude.{◌<◌};
 
 use compiling::{Compiled, begins, compile};
@@ -64,14 +66,15 @@ fn ask_often(times: u32, text: &[u8], table: &mut [u8]) -> u64 {
 }
 
 // The table has one byte more than the room of the largest text: the one that is stamped.
-fn main() {
+fn main(rt: HostRuntime) {
+    let mut input = rt.reader();
     let mut table = [0u8; 65537];
     let mut text = [0u8; 8192];
-    let compiles = vectors::vector_count();
-    let asks = vectors::vector_count();
-    let n = vectors::read_part(&mut text);
+    let compiles = vectors::vector_count(&mut input);
+    let asks = vectors::vector_count(&mut input);
+    let n = vectors::read_part(&mut input, &mut text);
     let a = compile_often(compiles, &text[..n], &mut table);
     let b = ask_often(asks, &text[..n], &mut table);
-    vectors::print_number(a, b' ');
-    vectors::print_number(b, b'\n');
+    vectors::print_number(&rt, a, b' ');
+    vectors::print_number(&rt, b, b'\n');
 }

@@ -1,5 +1,7 @@
 // Decides one request again and again, so that the instructions can be counted. The input: how often, and the version, in 4 bytes each, and as parts the text that is compiled, the text that
 // is lent beside its table (another one gets refusal 20), the bag, the subject, the action and the resource.
+#![tactic(auto)]
+
 ghost use Rattle.std.specs.Prelude.{◌<◌};
 
 use compiling::{Compiled, compile};
@@ -77,7 +79,8 @@ fn decide_often<'a>(
     sum
 }
 
-fn main() {
+fn main(rt: HostRuntime) {
+    let mut input = rt.reader();
     let mut table = [0u8; 65537];
     let mut compiled = [0u8; 8192];
     let mut text = [0u8; 8192];
@@ -85,14 +88,14 @@ fn main() {
     let mut subject = [0u8; 101];
     let mut action = [0u8; 101];
     let mut resource = [0u8; 101];
-    let times = vectors::vector_count();
-    let version = vectors::vector_count();
-    let c = vectors::read_part(&mut compiled);
-    let n = vectors::read_part(&mut text);
-    let b = vectors::read_part(&mut bag);
-    let s = vectors::read_part(&mut subject);
-    let a = vectors::read_part(&mut action);
-    let r = vectors::read_part(&mut resource);
+    let times = vectors::vector_count(&mut input);
+    let version = vectors::vector_count(&mut input);
+    let c = vectors::read_part(&mut input, &mut compiled);
+    let n = vectors::read_part(&mut input, &mut text);
+    let b = vectors::read_part(&mut input, &mut bag);
+    let s = vectors::read_part(&mut input, &mut subject);
+    let a = vectors::read_part(&mut input, &mut action);
+    let r = vectors::read_part(&mut input, &mut resource);
     compile(version as u64, &compiled[..c], &mut table);
     let sum = decide_often(
         times,
@@ -103,5 +106,5 @@ fn main() {
         &action[..a],
         &resource[..r],
     );
-    vectors::print_number(sum, b'\n');
+    vectors::print_number(&rt, sum, b'\n');
 }

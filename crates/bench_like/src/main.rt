@@ -1,5 +1,7 @@
 // Runs `like` again and again on one pattern and one string, so that its instructions can be counted, and writes how often it said yes.
 // The input is one test vector, with the number of repetitions where the number of vectors stands. A pattern that is no UTF-8 is not asked for.
+#![tactic(auto)]
+
 ghost use Rattle.std.specs.Prelude.{◌≡◌, ◌≤◌, length};
 ghost use Rattle.utf8.specs.Characters.{Utf8};
 
@@ -19,15 +21,16 @@ fn repeat(times: u32, pattern: &[u8], string: &mut [u8], size: usize) -> u64
     sum
 }
 
-fn main() {
+fn main(rt: HostRuntime) {
+    let mut input = rt.reader();
     let mut pattern = [0u8; 256];
     let mut string = [0u8; 256];
-    let times = vectors::vector_count();
-    let p = vectors::read_part(&mut pattern);
-    let s = vectors::read_part(&mut string);
+    let times = vectors::vector_count(&mut input);
+    let p = vectors::read_part(&mut input, &mut pattern);
+    let s = vectors::read_part(&mut input, &mut string);
     if !utf8::is_utf8(&pattern[..p]) {
         return;
     }
     let sum = repeat(times, &pattern[..p], &mut string, s);
-    vectors::print_number(sum, b'\n');
+    vectors::print_number(&rt, sum, b'\n');
 }

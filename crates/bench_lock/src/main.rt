@@ -1,4 +1,6 @@
 // Writes one lock's permit again and again, so that the instructions can be counted. The input: how often, in 4 bytes, and as parts the vocabulary, the lock, the actions and the resource.
+#![tactic(auto)]
+
 ghost use Rattle.std.specs.Prelude.{length, ◌<◌, ◌≤◌};
 
 use locking::lock;
@@ -52,17 +54,18 @@ fn write_often(
     sum
 }
 
-fn main() {
+fn main(rt: HostRuntime) {
+    let mut input = rt.reader();
     let mut vocabulary = [0u8; 4096];
     let mut bytes = [0u8; 8192];
     let mut actions = [0u8; 4096];
     let mut resource = [0u8; 128];
     let mut room = [0u8; 8192];
-    let times = vectors::vector_count();
-    let v = vectors::read_part(&mut vocabulary);
-    let n = vectors::read_part(&mut bytes);
-    let a = vectors::read_part(&mut actions);
-    let r = vectors::read_part(&mut resource);
+    let times = vectors::vector_count(&mut input);
+    let v = vectors::read_part(&mut input, &mut vocabulary);
+    let n = vectors::read_part(&mut input, &mut bytes);
+    let a = vectors::read_part(&mut input, &mut actions);
+    let r = vectors::read_part(&mut input, &mut resource);
     let sum = write_often(
         times,
         &vocabulary[..v],
@@ -72,5 +75,5 @@ fn main() {
         &resource[..r],
         &mut room,
     );
-    vectors::print_number(sum, b'\n');
+    vectors::print_number(&rt, sum, b'\n');
 }

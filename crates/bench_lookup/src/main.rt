@@ -1,4 +1,6 @@
 // Looks one attribute up again and again, so that the instructions can be counted. The input: how often, in 4 bytes, and as parts the bag, the root byte and the path.
+#![tactic(auto)]
+
 ghost use Rattle.std.specs.Prelude.{length, ◌<◌, ◌≤◌};
 
 use lookups::{Answer, lookup};
@@ -37,14 +39,15 @@ fn look_up_often(times: u32, bytes: &mut [u8], size: usize, root: u8, path: &[u8
     sum
 }
 
-fn main() {
+fn main(rt: HostRuntime) {
+    let mut input = rt.reader();
     let mut bytes = [0u8; 8192];
     let mut root = [0u8; 1];
     let mut path = [0u8; 101];
-    let times = vectors::vector_count();
-    let n = vectors::read_part(&mut bytes);
-    vectors::read_part(&mut root);
-    let p = vectors::read_part(&mut path);
+    let times = vectors::vector_count(&mut input);
+    let n = vectors::read_part(&mut input, &mut bytes);
+    vectors::read_part(&mut input, &mut root);
+    let p = vectors::read_part(&mut input, &mut path);
     let sum = look_up_often(times, &mut bytes, n, root[0], &path[..p]);
-    vectors::print_number(sum, b'\n');
+    vectors::print_number(&rt, sum, b'\n');
 }

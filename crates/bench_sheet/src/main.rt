@@ -1,12 +1,14 @@
 // Asks page after page for one sheet, so that the instructions can be counted; a page has room for 34,285 rows. The input: how many pages, in 4 bytes,
 // and as parts the text, the question, the subject, the action and the resource.
+#![tactic(auto)]
+
 ghost use Rattle.std.specs.Prelude.{◌<◌};
 
 use compiling::compile;
 use sheets::{Answer, sheet};
 
 // What a call answered, as a sum, and the row to go on with.
-#[derive(Drop)]
+#[derive(Clone, Copy)]
 struct Asked {
     sum: u64,
     next: usize,
@@ -74,7 +76,8 @@ fn ask_often<'a>(
     sum
 }
 
-fn main() {
+fn main(rt: HostRuntime) {
+    let mut input = rt.reader();
     let mut page = [0u8; 480000];
     let mut table = [0u8; 65536];
     let mut text = [0u8; 8192];
@@ -82,12 +85,12 @@ fn main() {
     let mut subject = [0u8; 101];
     let mut action = [0u8; 101];
     let mut resource = [0u8; 101];
-    let times = vectors::vector_count();
-    let n = vectors::read_part(&mut text);
-    let b = vectors::read_part(&mut question);
-    let s = vectors::read_part(&mut subject);
-    let a = vectors::read_part(&mut action);
-    let r = vectors::read_part(&mut resource);
+    let times = vectors::vector_count(&mut input);
+    let n = vectors::read_part(&mut input, &mut text);
+    let b = vectors::read_part(&mut input, &mut question);
+    let s = vectors::read_part(&mut input, &mut subject);
+    let a = vectors::read_part(&mut input, &mut action);
+    let r = vectors::read_part(&mut input, &mut resource);
     compile(1, &text[..n], &mut table);
     let sum = ask_often(
         times,
@@ -99,5 +102,5 @@ fn main() {
         &resource[..r],
         &mut page,
     );
-    vectors::print_number(sum, b'\n');
+    vectors::print_number(&rt, sum, b'\n');
 }

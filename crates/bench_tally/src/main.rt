@@ -1,5 +1,7 @@
 // Tallies one question again and again, so that the instructions can be counted. The input: how often, and how many requests, in 4 bytes each, and as parts the text, the question,
 // and the requests as they are lent.
+#![tactic(auto)]
+
 ghost use Rattle.std.specs.Prelude.{◌<◌};
 
 use compiling::compile;
@@ -60,17 +62,18 @@ fn tally_often<'a>(
     sum
 }
 
-fn main() {
+fn main(rt: HostRuntime) {
+    let mut input = rt.reader();
     let mut counts = [0u32; 612];
     let mut table = [0u8; 65536];
     let mut text = [0u8; 8192];
     let mut question = [0u8; 4097];
     let mut requests = [0u8; 2424];
-    let times = vectors::vector_count();
-    let many = vectors::vector_count() as usize;
-    let n = vectors::read_part(&mut text);
-    let b = vectors::read_part(&mut question);
-    let r = vectors::read_part(&mut requests);
+    let times = vectors::vector_count(&mut input);
+    let many = vectors::vector_count(&mut input) as usize;
+    let n = vectors::read_part(&mut input, &mut text);
+    let b = vectors::read_part(&mut input, &mut question);
+    let r = vectors::read_part(&mut input, &mut requests);
     compile(1, &text[..n], &mut table);
     let sum = tally_often(
         times,
@@ -81,5 +84,5 @@ fn main() {
         &requests[..r],
         &mut counts,
     );
-    vectors::print_number(sum, b'\n');
+    vectors::print_number(&rt, sum, b'\n');
 }

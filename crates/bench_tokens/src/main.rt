@@ -1,5 +1,7 @@
 // Reads all tokens of one text again and again, so that the instructions of the token reader can be counted, and writes the sum of their kinds, starts and ends.
 // The input is one test vector, with the number of repetitions where the number of vectors stands.
+#![tactic(auto)]
+
 ghost use Rattle.std.specs.Prelude.{◌≡◌};
 ghost use Rattle.tokens.specs.Table.{class_table};
 
@@ -55,10 +57,11 @@ fn repeat(times: u32, classes: &[u8; 256], text: &[u8]) -> u64
     sum
 }
 
-fn main() {
+fn main(rt: HostRuntime) {
+    let mut input = rt.reader();
     let mut text = [0u8; 8200];
-    let times = vectors::vector_count();
-    let n = vectors::read_part(&mut text);
+    let times = vectors::vector_count(&mut input);
+    let n = vectors::read_part(&mut input, &mut text);
     let classes = class_table();
-    vectors::print_number(repeat(times, &classes, &text[..n]), b'\n');
+    vectors::print_number(&rt, repeat(times, &classes, &text[..n]), b'\n');
 }

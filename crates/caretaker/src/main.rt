@@ -1,49 +1,59 @@
 // The caretaker program, run in a folder: it prints the permit that a lock says, or the refusal. It lends the desk the bytes of vocabulary.bin, lock.txt, actions.bin and resource.txt, and
 // room.bin as the room.
+#![tactic(auto)]
+
 ghost use Rattle.std.specs.Prelude.{◌+◌, ◌≤◌, length};
 
 use folder::lines::put_refusal;
 use folder::read_file;
-use libc::STDOUT_FILENO;
+use streams::print_bytes;
 
 // Prints the line of a refusal, which has no place.
-fn print_refusal(number: u32) {
+fn print_refusal<P: Print>(rt: &P, number: u32) {
     let mut out = [0u8; 92];
     let n = put_refusal(&mut out, 0, number, 0, 0, 0);
-    io::write_all(STDOUT_FILENO, &out[..n]);
+    print_bytes(rt, &out[..n]);
 }
 
 // Prints the permit that is written into the room, and a line feed; or the refusal.
-fn print_permit(vocabulary: &[u8], lock: &[u8], actions: &[u8], resource: &[u8], room: &mut [u8]) {
+fn print_permit<P: Print>(
+    rt: &P,
+    vocabulary: &[u8],
+    lock: &[u8],
+    actions: &[u8],
+    resource: &[u8],
+    room: &mut [u8],
+) {
     let answer = desk::desk_lock(vocabulary, lock, actions, resource, room);
     if 0 < answer.refusal {
-        print_refusal(answer.refusal);
+        print_refusal(rt, answer.refusal);
         return;
     }
     let n = answer.length;
     if n <= room.len() {
-        io::write_all(STDOUT_FILENO, &room[..n]);
-        io::write_all(STDOUT_FILENO, b"\n");
+        print_bytes(rt, &room[..n]);
+        print_bytes(rt, b"\n");
     }
 }
 
 // A file is read with room for one byte more than a good one can have, so that what is too long is refused and not cut. A lock has no longest: of more than 65,536 bytes none is read.
-fn main() {
+fn main(rt: HostRuntime) {
     let mut vocabulary = [0u8; 2097];
     let mut lock = [0u8; 65537];
     let mut actions = [0u8; 2049];
     let mut resource = [0u8; 128];
     let mut room = [0u8; 65536];
-    let v = read_file(b"vocabulary.bin", &mut vocabulary);
-    let l = read_file(b"lock.txt", &mut lock);
-    let a = read_file(b"actions.bin", &mut actions);
-    let r = read_file(b"resource.txt", &mut resource);
-    let n = read_file(b"room.bin", &mut room);
+    let v = read_file(&rt, b"vocabulary.bin", &mut vocabulary);
+    let l = read_file(&rt, b"lock.txt", &mut lock);
+    let a = read_file(&rt, b"actions.bin", &mut actions);
+    let r = read_file(&rt, b"resource.txt", &mut resource);
+    let n = read_file(&rt, b"room.bin", &mut room);
     if 65536 < l {
-        io::write_all(STDOUT_FILENO, b"lock too long\n");
+        print_bytes(&rt, b"lock too long\n");
         return;
     }
     print_permit(
+        &rt,
         &vocabulary[..v],
         &lock[..l],
         &actions[..a],

@@ -3,8 +3,8 @@ use mathlib.Core.Path.{◌≡◌, refl, sym, ap, ◌∙◌}
 use mathlib.Core.List.{List, [], ◌∷◌}
 use Prim.Native.Nat.{ℕ, zero, suc, ◌+◌, ◌-◌, ◌*◌, ◌≤◌, ◌<◌}
 use native.Mathlib.Omega.{arith}
-use lib.ListN.{length, get_or, take, drop, length-drop, drop_of_length-le, get_or-eq_default}
-use lib.Seq.{drop-drop, drop-nil, take-nil, take_all, get_or-drop}
+use lib.ListN.{length, get_or, take, drop, length-drop, drop_of_length-le}
+use lib.Seq.{drop-drop, take-nil, take_all, get_or-drop}
 use Rattle.cases.specs.declared.CasePart.{CasePart}
 use Rattle.cases.specs.Cases.{part_size, part_of, behind_part, Case, case_of, past_case, cases_in, cases_of, PartAt}
 

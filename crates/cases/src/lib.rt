@@ -1,9 +1,11 @@
 // The parts of cases.bin: where each lies.
+#![tactic(auto)]
+
 ghost use Rattle.std.specs.Prelude.{◌≤◌, ◌≡◌, length};
 ghost use Rattle.cases.specs.Cases.{PartAt};
 
 // Where a part's bytes start and end.
-#[derive(Drop)]
+#[derive(Clone, Copy)]
 pub struct CasePart {
     pub start: usize,
     pub end: usize,

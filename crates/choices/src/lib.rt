@@ -1,4 +1,6 @@
 // A row's choices, by column: each is the number of a candidate from 0 on. Six columns always; those that the question lacks have one choice.
+#![tactic(auto)]
+
 ghost use Rattle.std.specs.Prelude.{◌≡◌, cond, ℕ, ◌-◌, ◌%◌, ◌<◌, ltb, get_or};
 ghost use Rattle.questions.specs.Questions.{product, count_of};
 ghost use Rattle.questions.specs.Sizes.{most_columns};

@@ -1,4 +1,6 @@
 // Compiling: a rule text into the table that is lent, and whether a table begins with what its text compiles to.
+#![tactic(auto)]
+
 ghost use Rattle.std.specs.Prelude.{◌≡◌, ◌≤◌, length};
 ghost use Rattle.tokens.specs.Table.{class_table};
 ghost use Rattle.compiling.specs.declared.Found.TheVariants.{Turned};
@@ -20,7 +22,7 @@ const TABLE_PER_BYTE: usize = 8;
 const OTHER_VERSION: u8 = 30;
 
 // What a text has: so many policies and entries; or its refusal, by its size or the table's, or at a token.
-#[derive(Drop)]
+#[derive(Clone, Copy)]
 pub enum Found {
     Accepted(usize, usize),
     Unfit(u8),
@@ -28,7 +30,7 @@ pub enum Found {
 }
 
 // Where a text is refused: the line and column of the refused token, from 1, and how many bytes it has; zeros where it goes by a size or the version.
-#[derive(Drop)]
+#[derive(Clone, Copy)]
 pub struct Spot {
     pub line: usize,
     pub column: usize,
@@ -36,14 +38,14 @@ pub struct Spot {
 }
 
 // What compiling answers: the policies and the bytes of the table that they use; or the refusal's number, and where.
-#[derive(Drop)]
+#[derive(Clone, Copy)]
 pub enum Compiled {
     Policies(usize, usize),
     Refused(u8, Spot),
 }
 
 // The policies and entries of a text whose table begins with them.
-#[derive(Drop)]
+#[derive(Clone, Copy)]
 pub enum Held {
     Right(usize, usize),
     Wrong,

@@ -3,6 +3,8 @@
 // puts the entries of what it reads into one table and compares them with another. Their frames are what nested conditions cost on the stack, so they
 // hold little: the text and the table that is seen are lent by a reference to their slice, of which no level then needs a copy, and what was read is one
 // number.
+#![tactic(auto)]
+
 ghost use Rattle.std.specs.Prelude.{◌≡◌, [], ◌+◌, ◌-◌, ◌<◌, ◌≤◌, length};
 ghost use Rattle.tokens.specs.Table.{class_table};
 ghost use Rattle.tokens.specs.Tokens.{token_at, Reads};

@@ -1,4 +1,6 @@
 // The lines of a tally, put into a lent buffer: how many rows there are, and the counts of each request and the sums, a line for each.
+#![tactic(auto)]
+
 ghost use Rattle.std.specs.Prelude.{◌≡◌, ◌+◌, ◌*◌, ◌≤◌, length};
 ghost use Rattle.folder.specs.Added.{Added};
 ghost use Rattle.counts.specs.Tallied.{count_lines, group_lines, request_lines, tally_lines};

@@ -1,4 +1,6 @@
 // Deciding: what the policies of a table decide over a row, and the public call, which decides a request over a bag.
+#![tactic(auto)]
+
 pub mod row;
 
 ghost use Rattle.std.specs.Prelude.{◌≡◌, ◌≤◌, length};
@@ -19,7 +21,7 @@ use targets::forms::{is_action, is_system, resource_type, subject_type};
 use tokens::classes::class_table;
 
 // What is answered: a decision with its mark, or a refusal by its number.
-#[derive(Drop)]
+#[derive(Clone, Copy)]
 pub enum Answer {
     Decided(Marked),
     Refused(u8),

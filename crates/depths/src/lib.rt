@@ -1,4 +1,6 @@
 // What can matter to a policy in the rows of a question, found once: which columns its condition names, and whether its target matches.
+#![tactic(auto)]
+
 ghost use Rattle.std.specs.Prelude.{◌≡◌, cond, ◌+◌, ◌-◌, ◌*◌, ◌/◌, ◌%◌, ◌≤◌, ◌<◌, length};
 ghost use Rattle.tokens.specs.Blanks.{unblanked};
 ghost use Rattle.tokens.specs.Sizes.{most_policies};

@@ -1,5 +1,7 @@
-// The desk: every public call in one place, for C and for Rattle. An answer is a struct whose first field is the refusal's number, 0 where nothing is refused; the rest are document 01's
+// The desk: every public call in one place, for Rattle and, by crate desk_c, for C. An answer is a struct whose first field is the refusal's number, 0 where nothing is refused; the rest are document 01's
 // numbers and values. No call has a `requires`: a caller is asked nothing that the types do not say. specs/Promises.antt states what is promised of them.
+#![tactic(auto)]
+
 ghost use Rattle.std.specs.Prelude.{◌≡◌};
 ghost use Rattle.targets.specs.Matching.{request};
 ghost use Rattle.deciding.specs.Answers.{decide_said};
@@ -13,7 +15,7 @@ use tallies::COUNTS;
 
 // What compiling answers: the refusal with its line and column and how many bytes its token has, or the policies and the bytes of the table that they use.
 #[repr(C)]
-#[derive(Drop)]
+#[derive(Clone, Copy)]
 pub struct DeskCompiled {
     pub refusal: u32,
     pub line: usize,
@@ -26,7 +28,7 @@ pub struct DeskCompiled {
 // What deciding answers: outcome 1 allowed, 2 forbidden, 3 nothing satisfied, 4 system; the policy that decided, 0 where none did; and the mark, of which bit n - 1 is set
 // exactly when policy n is satisfied, 0 for the system.
 #[repr(C)]
-#[derive(Drop)]
+#[derive(Clone, Copy)]
 pub struct DeskDecision {
     pub refusal: u32,
     pub outcome: u32,
@@ -36,7 +38,7 @@ pub struct DeskDecision {
 
 // An attribute: kind 0 absent, 1 string, 2 number, 3 flag, 4 list of strings; its number; the place of the byte after its kind byte.
 #[repr(C)]
-#[derive(Drop)]
+#[derive(Clone, Copy)]
 pub struct DeskValue {
     pub refusal: u32,
     pub kind: u32,
@@ -46,7 +48,7 @@ pub struct DeskValue {
 
 // Where a string's bytes lie in the bag, and how many they are; 0 and 0 for anything else.
 #[repr(C)]
-#[derive(Drop)]
+#[derive(Clone, Copy)]
 pub struct DeskString {
     pub start: usize,
     pub length: usize,
@@ -54,7 +56,7 @@ pub struct DeskString {
 
 // A page of the sheet: the rows written, and the row to go on with.
 #[repr(C)]
-#[derive(Drop)]
+#[derive(Clone, Copy)]
 pub struct DeskPage {
     pub refusal: u32,
     pub written: usize,
@@ -62,8 +64,7 @@ pub struct DeskPage {
 }
 
 // Compiles a text into the table, which records the version: 1 or 2. The bytes past those used stay, and a refusal changes nothing.
-#[unsafe(no_mangle)]
-pub extern "C" fn desk_compile(text: &[u8], table: &mut [u8], version: u64) -> DeskCompiled
+pub fn desk_compile(text: &[u8], table: &mut [u8], version: u64) -> DeskCompiled
     ensures { CompileAllows version text.now table.old table.new result }
 {
     match compiling::compile(version, text, table) {
@@ -87,8 +88,7 @@ pub extern "C" fn desk_compile(text: &[u8], table: &mut [u8], version: u64) -> D
 }
 
 // Whether a text compiles and the table begins with its compiled bytes.
-#[unsafe(no_mangle)]
-pub extern "C" fn desk_begins(text: &[u8], table: &[u8]) -> bool
+pub fn desk_begins(text: &[u8], table: &[u8]) -> bool
     ensures { result ≡ begins_says text.now table.now }
 {
     compiling::begins(text, table)
@@ -128,8 +128,7 @@ fn decided(m: Marked) -> DeskDecision
 }
 
 // Decides a request over a bag, by the policies of a text whose table is lent.
-#[unsafe(no_mangle)]
-pub extern "C" fn desk_decide<'a>(
+pub fn desk_decide<'a>(
     text: &'a [u8],
     table: &[u8],
     bag: &'a [u8],
@@ -152,8 +151,7 @@ pub extern "C" fn desk_decide<'a>(
 }
 
 // An attribute's kind, number and place. Root byte 1 is principal, 2 resource, 3 env.
-#[unsafe(no_mangle)]
-pub extern "C" fn desk_lookup(bag: &[u8], root: u8, path: &[u8]) -> DeskValue
+pub fn desk_lookup(bag: &[u8], root: u8, path: &[u8]) -> DeskValue
     ensures { result ≡ lookup_says bag.now root path.now }
 {
     match lookups::lookup(bag, root, path) {
@@ -173,8 +171,7 @@ pub extern "C" fn desk_lookup(bag: &[u8], root: u8, path: &[u8]) -> DeskValue
 }
 
 // Where the bytes of a string attribute lie, for callers that cannot take a part of the bag.
-#[unsafe(no_mangle)]
-pub extern "C" fn desk_string(bag: &[u8], root: u8, path: &[u8]) -> DeskString
+pub fn desk_string(bag: &[u8], root: u8, path: &[u8]) -> DeskString
     ensures { result ≡ string_says bag.now root path.now }
 {
     let p = lookups::string_place(bag, root, path);
@@ -192,8 +189,7 @@ pub fn string_part<'a>(bag: &'a [u8], root: u8, path: &[u8]) -> &'a [u8]
 }
 
 // A page of the sheet from a start row on, written into the part of the lent sheet from byte `at` on. All other bytes stay, and a refusal changes nothing.
-#[unsafe(no_mangle)]
-pub extern "C" fn desk_sheet<'a>(
+pub fn desk_sheet<'a>(
     text: &'a [u8],
     table: &[u8],
     question: &'a [u8],
@@ -224,8 +220,7 @@ pub extern "C" fn desk_sheet<'a>(
 }
 
 // How many rows a question has, and 0 where the bytes are none.
-#[unsafe(no_mangle)]
-pub extern "C" fn desk_rows(question: &[u8]) -> usize
+pub fn desk_rows(question: &[u8]) -> usize
     ensures { result ≡ rows_say question.now }
 {
     sheets::row_count(question)
@@ -234,8 +229,7 @@ pub extern "C" fn desk_rows(question: &[u8]) -> usize
 // The tally of so many requests over one question. `requests` has subject, action and resource of each, each behind a length byte. `counts` has nine groups of 68
 // numbers, one for each of eight requests and the sums: the rows of outcome 1 to 4, then those that policy 1 to 64 decides. Answers the refusal's number, 0 where
 // nothing is refused; a refusal changes nothing.
-#[unsafe(no_mangle)]
-pub extern "C" fn desk_tally<'a>(
+pub fn desk_tally<'a>(
     text: &'a [u8],
     table: &[u8],
     question: &'a [u8],
@@ -252,15 +246,14 @@ pub extern "C" fn desk_tally<'a>(
 
 // What writing a lock's permit answers: the permit's length.
 #[repr(C)]
-#[derive(Drop)]
+#[derive(Clone, Copy)]
 pub struct DeskLock {
     pub refusal: u32,
     pub length: usize,
 }
 
 // Writes the permit that a lock says over the start of the room. The bytes past it stay, and a refusal changes nothing.
-#[unsafe(no_mangle)]
-pub extern "C" fn desk_lock(
+pub fn desk_lock(
     vocabulary: &[u8],
     lock: &[u8],
     actions: &[u8],

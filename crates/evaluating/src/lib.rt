@@ -1,5 +1,7 @@
 // The verdict of a compiled condition. It is met from its last entry on, in a loop; only what nests calls again.
 // Kinds of entries have names (table::entries, docs/TABLE.md): conditions up to CONTAINS_ANY have no parts.
+#![tactic(auto)]
+
 ghost use Rattle.std.specs.Prelude.{◌≡◌, ◌<◌};
 ghost use Rattle.views.specs.Places.{RowAt};
 ghost use Rattle.stored.specs.ReadBack.{tree_at};

@@ -62,6 +62,7 @@ opened_under k n b x s l d shallow o = go o.on (o.kept l d) (rw (swap_is b o.swa
       shallow = shallow;
       belongs = less_asked (31 + k) (Exempt n (x ∷ on)) (λ m r. (¬ (rank m < rank n)) ⊎ Beyond on r) (λ m r c. but on r m c (ltb (rank m) (rank n)) refl) (rw (← cut b x on) h);
     }
+    go [] e h = elim e [ ]
 
 -- Refused by the limit n at x: some rule text goes on with x where every limit is asked that goes before n.
 pub goes_on_else : (b : List Lexeme) (x : Lexeme) (s : List Lexeme) (n : ℕ) → read_text (b ++ x ∷ s) ≡ refuse n (x ∷ s) → 11 ≤ n → Under (λ m. rank m < rank n) (b ++ x ∷ [])
@@ -183,6 +184,7 @@ type_stands b alive t = go alive.on alive.belongs (type_next alive.on b refl (wa
   where
     go : (on : List Lexeme) → RuleText (sizes_before on) (b ++ on) alive.policies → NameFirst on → SomeAdmitted kinds.name b
     go (y ∷ on) h (name_first e) = record { token = y; is_one = e; admitted = next_admitted b y on alive.policies h }
+    go [] h e = elim e [ ]
 
 pub stands_type : (b : List Lexeme) → SomeAdmitted kinds.name b → (at_name (reverse b) ≡ true) ⊎ (at_type (reverse b) ≡ true)
 stands_type b h = ⊎_elim (λ e. inl e) (λ e. inr e.0) (name_place h.token h.admitted.under.on b (walk_admitted b h.token h.admitted) h.is_one)

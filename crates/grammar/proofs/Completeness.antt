@@ -179,7 +179,7 @@ module _ {L : Limits} {Z : ℕ → List Lexeme → Type 0} (ok : Excuses L Z) wh
   no_text_there x r l e = rw (text_number x (not_text_string x e)) (ok.over (a_string x) x r l e)
 
   too_deep_there : most_inside < L.levels → (x : Lexeme) (r : List Lexeme) → deepens x ≡ true → Z (numbered no_level x) (x ∷ r)
-  too_deep_there l x r t = rw (level_number x t) (ok.no_level l x r)
+  too_deep_there l x r t = rw (level_number x t) (ok.no_level_lem l x r)
 
   no_policy_there : (ps : List Policy) (x : Lexeme) (r : List Lexeme) → is_effect x ≡ true → L.Asks (a_policy (length ps)) r → ltb (length ps) most_policies ≡ false → Z (numbered no_policy x) (x ∷ r)
   no_policy_there ps x r t c u = rw (effect_number x t) (ok.over (a_policy (length ps)) x r c u)

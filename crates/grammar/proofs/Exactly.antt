@@ -24,7 +24,7 @@ use Rattle.grammar.proofs.Completeness.{Excuses, complete_text}
 pub strictly : Excuses sizes (λ n s. ⊥)
 strictly = record {
   over = λ l x r h u. never (rw u at h);
-  no_level = λ l x r. omega arith;
+  no_level_lem = λ l x r. omega arith;
 }
 
 -- Where limits are lifted, the refusals are that break a lifted one, or go deeper than the reader does.
@@ -32,7 +32,7 @@ pub lifted_excuses : (levels : ℕ) (Lifted Z : ℕ → List Lexeme → Type 0) 
     → (most_inside < levels → (x : Lexeme) (r : List Lexeme) → Z 12 (x ∷ r)) → Excuses (lifting levels Lifted) Z
 lifted_excuses levels Lifted Z f deep = record {
   over = λ l x r h u. elim h [ inl t ↦ absurd (never (rw u at t)) | inr g ↦ f (limit_number l) x r (limit_low l) g ];
-  no_level = deep;
+  no_level_lem = deep;
 }
 
 -- Under the sizes of what stands before `on`, a refusal in `on` is.

@@ -150,10 +150,12 @@ near_at_end ps [] = record { before = []; split = refl; again = λ s h. go s h }
   where
     go : (s : List Lexeme) → Alike [] s → at_end ps s ≡ took ps s
     go [] ends = refl
+    go (_ ∷ _) h = elim h [ ]
 near_at_end ps (x ∷ r) = record { before = []; split = refl; again = λ s h. go s h }
   where
     go : (s : List Lexeme) → Alike (x ∷ r) s → at_end ps s ≡ refuse (numbered no_policy x) s
     go (y ∷ s) same = refl
+    go [] h = elim h [ ]
 
 pub near_text : Nears read_text
 unfolding read_text

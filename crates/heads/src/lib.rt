@@ -1,4 +1,6 @@
 // The readers of the parts of a policy's target.
+#![tactic(auto)]
+
 ghost use Rattle.std.specs.Prelude.{◌≡◌, [], ◌∷◌, cond, ◌+◌, ◌-◌, ◌≤◌};
 ghost use Rattle.slices.specs.Same.{same};
 ghost use Rattle.reading.specs.Lexemes.{stream};

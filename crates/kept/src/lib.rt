@@ -1,5 +1,7 @@
 // Which policies are satisfied in a row, kept from row to row: only those are met to which a changed column can matter, and evaluated where a choice has no
 // note yet.
+#![tactic(auto)]
+
 pub mod late;
 
 ghost use Rattle.std.specs.Prelude.{◌≡◌, Bool, false, cond, ◌&&◌, ℕ, ◌+◌, ◌^◌, ◌≤◌, ◌<◌, leb, ltb, length, get_or};
@@ -33,7 +35,7 @@ pub const NOTES: usize = MOST_POLICIES * MOST_CANDIDATES;
 // A walk over the rows of a question, in numbers: whose rows they are, how many policies and entries the table holds, the sections of the base, how many
 // columns there are, and the first column in which the row may choose otherwise than the row before; and in marks: the policies to which that column or a
 // later one can matter, those that were satisfied in the row before, and the permits.
-#[derive(Drop)]
+#[derive(Clone, Copy)]
 pub struct Walk {
     pub system: bool,
     pub policies: usize,
@@ -48,7 +50,7 @@ pub struct Walk {
 
 // The note that is asked for: of which policy, from 0 on, for which choice in its own column; whether the policy's notes are stale, and whether its
 // target matches.
-#[derive(Drop)]
+#[derive(Clone, Copy)]
 pub struct Note {
     pub i: usize,
     pub choice: u8,

@@ -1,4 +1,6 @@
 // The readers of conditions that hold no other: what follows a left operand, and what follows a root.
+#![tactic(auto)]
+
 pub mod likes;
 
 ghost use Rattle.std.specs.Prelude.{◌≡◌, [], ◌+◌, ◌-◌, ◌<◌, ◌≤◌, ◌^◌, length};

@@ -1,4 +1,6 @@
 // Listed rows: what of a decision is written, and where.
+#![tactic(auto)]
+
 ghost use Rattle.std.specs.Prelude.{◌≡◌, ◌++◌, ◌≤◌, ◌<◌, length, drop};
 ghost use Rattle.meaning.specs.Decisions.{outcome_of, policy_of, is_allowed};
 ghost use Rattle.pages.specs.Listing.{row_size, row_bytes};

@@ -1,4 +1,6 @@
 // The pieces of a permit written: `put` for each, one behind the other. Each answers the place behind what it wrote.
+#![tactic(auto)]
+
 ghost use Rattle.std.specs.Prelude.{◌≡◌, ◌≤◌, ◌+◌, length};
 ghost use Rattle.permits.specs.Permits.{quoted, of_principal, test_text};
 ghost use Rattle.locks.specs.Reading.{mark_text, test_by};

@@ -1,4 +1,6 @@
 // The reader of locks: vocabulary, tests, action list and resource are read, and the permit that they say is measured.
+#![tactic(auto)]
+
 pub mod actions;
 pub mod tests;
 pub mod vocabulary;

@@ -1,36 +1,45 @@
 // Writes the permits of test locks, and writes a line for each: the permit's length, or `R` and the refusal's number; a sum of the whole room, which is lent with a pattern
 // in it; and what the permit decides of a request over a bag, compiled under version 1 and then under version 2: the outcome and the policy's number, or `R` and the
 // refusal's number.
+#![tactic(auto)]
+
 ghost use Rattle.std.specs.Prelude.{◌<◌, ◌≤◌, length};
 
 use desk::{DeskDecision, DeskLock};
-use libc::STDOUT_FILENO;
+use streams::print_bytes;
 
 // Writes what is answered, and the sum of the room.
-fn report_lock(answer: DeskLock, room: &[u8]) {
+fn report_lock<P: Print>(rt: &P, answer: DeskLock, room: &[u8]) {
     if 0 < answer.refusal {
-        io::write_all(STDOUT_FILENO, b"R ");
-        vectors::print_number(answer.refusal as u64, b' ');
-        vectors::print_number(vectors::sum_of(room), b'\n');
+        print_bytes(rt, b"R ");
+        vectors::print_number(rt, answer.refusal as u64, b' ');
+        vectors::print_number(rt, vectors::sum_of(room), b'\n');
         return;
     }
-    vectors::print_number(answer.length as u64, b' ');
-    vectors::print_number(vectors::sum_of(room), b' ');
+    vectors::print_number(rt, answer.length as u64, b' ');
+    vectors::print_number(rt, vectors::sum_of(room), b' ');
 }
 
 // Writes what is decided, and a byte behind it.
-fn report_decision(answer: DeskDecision, end: u8) {
+fn report_decision<P: Print>(rt: &P, answer: DeskDecision, end: u8) {
     if 0 < answer.refusal {
-        io::write_all(STDOUT_FILENO, b"R ");
-        vectors::print_number(answer.refusal as u64, end);
+        print_bytes(rt, b"R ");
+        vectors::print_number(rt, answer.refusal as u64, end);
         return;
     }
-    vectors::print_number(answer.outcome as u64, b' ');
-    vectors::print_number(answer.policy as u64, end);
+    vectors::print_number(rt, answer.outcome as u64, b' ');
+    vectors::print_number(rt, answer.policy as u64, end);
 }
 
 // The permit, compiled under a version, decides; the bag and the request's subject, action and resource lie in the memory from a place on.
-fn decide<'a>(permit: &'a [u8], version: u64, memory: &'a [u8], at: usize, end: u8)
+fn decide<'a, P: Print>(
+    rt: &P,
+    permit: &'a [u8],
+    version: u64,
+    memory: &'a [u8],
+    at: usize,
+    end: u8,
+)
     requires { at ≤ length memory.now }
 {
     let bag = packed::part_start(memory, at);
@@ -51,11 +60,12 @@ fn decide<'a>(permit: &'a [u8], version: u64, memory: &'a [u8], at: usize, end: 
         &memory[action..action_end],
         &memory[resource..resource_end],
     );
-    report_decision(answer, end);
+    report_decision(rt, answer, end);
 }
 
 // Writes a permit into the room that is lent, and has it decide.
-fn run(
+fn run<P: Print>(
+    rt: &P,
     vocabulary: &[u8],
     lock: &[u8],
     actions: &[u8],
@@ -70,13 +80,13 @@ fn run(
     let answer = desk::desk_lock(vocabulary, lock, actions, resource, room);
     let length = answer.length;
     let refused = 0 < answer.refusal;
-    report_lock(answer, room);
+    report_lock(rt, answer, room);
     if refused {
         return;
     }
     if length <= room.len() {
-        decide(&room[..length], 1, memory, at, b' ');
-        decide(&room[..length], 2, memory, at, b'\n');
+        decide(rt, &room[..length], 1, memory, at, b' ');
+        decide(rt, &room[..length], 2, memory, at, b'\n');
     }
 }
 
@@ -93,7 +103,7 @@ fn room_length(memory: &[u8], start: usize, end: usize) -> usize
 }
 
 // One vector, which lies unpacked in the memory: a vocabulary, a lock, actions, a resource, the room's length, and the bag and the request.
-fn vector(memory: &[u8], at: usize)
+fn vector<P: Print>(rt: &P, memory: &[u8], at: usize)
     requires { at ≤ length memory.now }
 {
     let vocabulary = packed::part_start(memory, at);
@@ -109,6 +119,7 @@ fn vector(memory: &[u8], at: usize)
     let length = room_length(memory, size, size_end);
     let mut space = [0u8; 65536];
     run(
+        rt,
         &memory[vocabulary..vocabulary_end],
         &memory[lock..lock_end],
         &memory[actions..actions_end],
@@ -119,13 +130,14 @@ fn vector(memory: &[u8], at: usize)
     );
 }
 
-fn main() {
+fn main(rt: HostRuntime) {
+    let mut input = rt.reader();
     let mut memory = [0u8; 131072];
     let mut at = 0;
-    let mut left = vectors::vector_count();
+    let mut left = vectors::vector_count(&mut input);
     while left > 0 {
-        let end = packed::read_vector(&mut memory, at);
-        vector(&memory, at);
+        let end = packed::read_vector(&mut input, &mut memory, at);
+        vector(&rt, &memory, at);
         at = packed::next_place(end);
         left -= 1;
     }

@@ -1,4 +1,6 @@
 // The permit of a lock written, and the call: vocabulary, lock, action list and resource are measured, and the one permit that they say is put over the start of the room.
+#![tactic(auto)]
+
 ghost use Rattle.std.specs.Prelude.{◌≡◌, true, ◌≤◌, ◌+◌, length};
 ghost use Rattle.tokens.specs.Table.{class_table};
 ghost use Rattle.locks.specs.Reading.{are_some, tests_read, actions_read, tests_text, actions_text};

@@ -335,4 +335,4 @@ module _ (v l : List ℕ) (good : is_vocabulary v ≡ true) where
         go false q z = absurd (false≢true (sym z))
         go true q z =
             let a = asked_is found (mark_in l at).kind (operand_in l at) behind q in
-            (one (word_found (word_in l at) (some_sort a.goes_with)) a a.goes_with, a.goes_on, high Blanks l (operand_in l at).end (operand_high a))
+            (one (word_found (word_in l at) (some_sort a.goes_with_lem)) a a.goes_with_lem, a.goes_on, high Blanks l (operand_in l at).end (operand_high a))

@@ -100,7 +100,7 @@ pub record ColonLaid (l : List ℕ) (at : ℕ) (t : Token) : Type 0 where
 pub colon_laid : (l : List ℕ) (at : ℕ) → at ≤ length l → (token_at l at).kind ≡ kinds.colon_outside → ColonLaid l at (token_at l at)
 colon_laid l at h q = let s = longest_token l at h in go s.blanks s.rest s.parts s.passed s.stands q (reads l at h).high
   where
-    go : {t : Token} (b rest : List ℕ) → drop at l ≡ b ++ rest → All Blanks b → Stands (at + length b) rest t → t.kind ≡ 4 → t.end ≤ length l → ColonLaid l at t
+    go : (b rest : List ℕ) {t : Token} → drop at l ≡ b ++ rest → All Blanks b → Stands (at + length b) rest t → t.kind ≡ 4 → t.end ≤ length l → ColonLaid l at t
     go b rest e a end_of_text z k = absurd (let y : ◌≡◌ {A = ℕ} 0 1 = cc in omega arith)
     go b rest e a (a_token f s) z k = absurd (omega (arith, form_kind f.form))
     go b rest e a (a_token_too_long f s) z k = absurd (omega arith)

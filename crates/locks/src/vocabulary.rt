@@ -1,6 +1,6 @@
 // Where the parts of an entry of a vocabulary lie, and the sorts of its word.
 // An entry's sort, its word from `word` up to `stop`, its path from `path` up to `end`, and the place behind it; all 0 where no whole entry is.
-#[derive(Drop)]
+#[derive(Clone, Copy)]
 pub struct EntryPlaces {
     pub sort: u8,
     pub word: usize,

@@ -1,4 +1,6 @@
 // Attributes of a bag, looked up by root byte and dotted path.
+#![tactic(auto)]
+
 ghost use Rattle.std.specs.Prelude.{◌≡◌, ◌+◌, ◌≤◌, length};
 ghost use Rattle.slices.specs.Parts.{IsPart};
 ghost use Rattle.lookups.specs.Lookups.{lookup_of, start_of, length_of, stretch_of};
@@ -14,7 +16,7 @@ pub mod finding;
 pub mod steps;
 pub mod values;
 
-#[derive(Drop)]
+#[derive(Clone, Copy)]
 pub enum Answer {
     // 24: not a bag.
     Refused(u8),
@@ -40,7 +42,7 @@ pub fn lookup(bag: &[u8], root: u8, path: &[u8]) -> Answer
 
 // Where a string's bytes lie in the bag, and how many they are; 0 and 0 for anything else.
 #[repr(C)]
-#[derive(Drop)]
+#[derive(Clone, Copy)]
 pub struct Stretch {
     pub start: usize,
     pub length: usize,

@@ -5,7 +5,7 @@ ghost use Rattle.bags.specs.declared.After.TheVariants.{At};
 ghost use Rattle.lookups.specs.Values.{absent, value_number, value_at, Valued};
 
 // A value's kind, its number, and the place of the byte after its kind byte. Kind 0 is absent.
-#[derive(Drop)]
+#[derive(Clone, Copy)]
 pub struct Value {
     pub kind: u8,
     pub number: f64,

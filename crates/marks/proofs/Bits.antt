@@ -179,6 +179,7 @@ module _ {A : Type 0} (test : A → Bool) where
 
   pub marked_bit : {ps : List A} {n : ℕ} {p : A} → Numbered n p ps → is_set (mark_by test ps) (n - 1) ≡ test p
   unfolding mark_by
+  marked_bit {ps = []} m = elim m [ ]
   marked_bit {ps = p ∷ ps} first = bit_first (test p) (mark_by test ps)
   marked_bit {ps = p ∷ ps} {n = suc n} (later h) =
       let some = numbered_some h in

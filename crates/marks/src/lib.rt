@@ -1,4 +1,6 @@
 // The mark of policies: a bit for each, set where it is satisfied; one policy more, the lowest bit that is set, and what is decided by marks.
+#![tactic(auto)]
+
 ghost use Rattle.std.specs.Prelude.{◌≡◌, cond, List, ◌+◌, ◌*◌, ◌^◌, ◌≤◌, ◌<◌, length};
 ghost use Rattle.tokens.specs.Sizes.{most_policies};
 ghost use Rattle.grammar.specs.Policies.{PolicyOf};

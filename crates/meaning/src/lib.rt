@@ -1,7 +1,8 @@
 // What a condition can be found to be, and what can be decided. Here are the types; specs/ has what they mean.
+#![tactic(auto)]
 
 // Whether a condition is true; or that an operator met an absent attribute.
-#[derive(Drop)]
+#[derive(Clone, Copy)]
 pub enum Verdict {
     Yes,
     No,
@@ -9,7 +10,7 @@ pub enum Verdict {
 }
 
 // What is decided: allowed or forbidden by a policy, by its number from 1 on; nothing satisfied; or the system, which may do all.
-#[derive(Drop)]
+#[derive(Clone, Copy)]
 pub enum Decision {
     Allowed(usize),
     Forbidden(usize),
@@ -18,7 +19,7 @@ pub enum Decision {
 }
 
 // A decision with its mark: bit n - 1 is set exactly when policy n is satisfied, and none for the system.
-#[derive(Drop)]
+#[derive(Clone, Copy)]
 pub struct Marked {
     pub d: Decision,
     pub mark: u64,

@@ -3,7 +3,7 @@ ghost use Rattle.std.specs.Prelude.{◌≡◌};
 ghost use Rattle.numbers.specs.Comparing.{holds};
 
 // `<`, `<=`, `>`, `>=`, `==` and `!=`.
-#[derive(Drop)]
+#[derive(Clone, Copy)]
 pub enum Comparator {
     Less,
     AtMost,

@@ -1,13 +1,16 @@
 // Reads number literals and eight bytes for each, and writes a line for each pair: the bits of the literal's number, whether the bytes are a finite number,
 // and if so how the two compare. A literal that is not one number token gets a minus.
+#![tactic(auto)]
+
 ghost use Rattle.std.specs.Prelude.{true, ◌≡◌};
 ghost use Rattle.numbers.specs.Literals.{IsNumber};
 ghost use Rattle.tokens.specs.Table.{class_table};
 
-use libc::STDOUT_FILENO;
 use numbers::bits::{is_number_at, number_at};
 use numbers::comparing::{Comparator, compares};
 use numbers::literals::number;
+use std::io::Read;
+use streams::print_bytes;
 use token_reader::next_token;
 use tokens::classes::class_table;
 use tokens::kinds;
@@ -17,7 +20,7 @@ fn yes_or_no(yes: bool) -> u8 {
 }
 
 // Writes how two numbers compare: `<`, `<=`, `>`, `>=`, `==` and `!=`.
-fn print_compared(x: f64, y: f64) {
+fn print_compared<P: Print>(rt: &P, x: f64, y: f64) {
     let line = [
         b'1',
         b' ',
@@ -29,7 +32,7 @@ fn print_compared(x: f64, y: f64) {
         yes_or_no(compares(Comparator::Other, x, y)),
         b'\n',
     ];
-    io::write_all(STDOUT_FILENO, &line);
+    print_bytes(rt, &line);
 }
 
 // Whether the bytes are one number token; then they are a number literal.
@@ -42,38 +45,39 @@ fn is_literal(classes: &[u8; 256], bytes: &[u8]) -> bool
 }
 
 // Writes the line of a literal and eight bytes.
-fn answer(classes: &[u8; 256], literal: &[u8], bytes: &[u8; 8])
+fn answer<P: Print>(rt: &P, classes: &[u8; 256], literal: &[u8], bytes: &[u8; 8])
     requires { classes.now ≡ class_table }
 {
     if !is_literal(classes, literal) {
-        io::write_all(STDOUT_FILENO, b"-\n");
+        print_bytes(rt, b"-\n");
         return;
     }
     let x = number(literal);
-    vectors::print_bits(x, b' ');
+    vectors::print_bits(rt, x, b' ');
     if is_number_at(bytes, 0) {
-        print_compared(x, number_at(bytes, 0));
+        print_compared(rt, x, number_at(bytes, 0));
     } else {
-        io::write_all(STDOUT_FILENO, b"0\n");
+        print_bytes(rt, b"0\n");
     }
 }
 
 // One vector: a literal, and the eight bytes. Bytes that the input lacks are 0.
-fn vector(classes: &[u8; 256])
+fn vector<P: Print, R: Read>(rt: &P, input: &mut R, classes: &[u8; 256])
     requires { classes.now ≡ class_table }
 {
     let mut literal = [0u8; 64];
     let mut bytes = [0u8; 8];
-    let n = vectors::read_part(&mut literal);
-    vectors::read_part(&mut bytes);
-    answer(classes, &literal[..n], &bytes);
+    let n = vectors::read_part(input, &mut literal);
+    vectors::read_part(input, &mut bytes);
+    answer(rt, classes, &literal[..n], &bytes);
 }
 
-fn main() {
+fn main(rt: HostRuntime) {
+    let mut input = rt.reader();
     let classes = class_table();
-    let mut left = vectors::vector_count();
+    let mut left = vectors::vector_count(&mut input);
     while left > 0 {
-        vector(&classes);
+        vector(&rt, &mut input, &classes);
         left -= 1;
     }
 }

@@ -1,5 +1,7 @@
 // What an operand's entry stands for: a read value, and its string as a part of the rule text, of the bag or question, or the action itself. Two of these
 // compared, and lists of them.
+#![tactic(auto)]
+
 ghost use Rattle.std.specs.Prelude.{◌≡◌, true};
 ghost use Rattle.lookups.specs.Values.{ValueWhole};
 ghost use Rattle.views.specs.Places.{RowAt};

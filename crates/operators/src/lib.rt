@@ -1,5 +1,7 @@
 // Conditions without parts, found out entry by entry, over a row's view of attributes: yes or no, or missing where an operator other than `has` met an absent
 // one. What missing counts as goes by the version of the rules, and is not asked here.
+#![tactic(auto)]
+
 ghost use Rattle.std.specs.Prelude.{◌≡◌, false, cond, List, ℕ, ◌+◌, ◌-◌, ◌<◌, ◌≤◌};
 ghost use Rattle.views.specs.Meaning.{present};
 ghost use Rattle.views.specs.Places.{RowAt};

@@ -43,6 +43,7 @@ pub sooner_row : {ns a b : List ℕ} → Combination ns a → Combination ns b �
 unfolding row_of
 sooner_row (chosen {n = n} {c = c} {ns = ns} {cs = cs} h ok) (chosen {c = c'} {cs = cs'} h' ok') (here l) = first_slowest n c c' cs' ok l
 sooner_row (chosen h ok) (chosen h' ok') (later s) = let r = sooner_row ok ok' s in omega arith
+sooner_row none _ s = elim s [ ]
 
 -- of two combinations one comes first, or they are the same
 data Ordered (a b : List ℕ) : Type 0 where

@@ -11,7 +11,7 @@ use tokens::kinds;
 use tokens::reader::Token;
 
 // A refusal's number, and the place and the size of the token that is refused.
-#[derive(Drop)]
+#[derive(Clone, Copy)]
 pub struct Refusal {
     pub number: u8,
     pub start: usize,
@@ -19,7 +19,7 @@ pub struct Refusal {
 }
 
 // What a reader answers: the token after what it read, the next free entry and whether the table that is seen has the entries so far; or a refusal.
-#[derive(Drop)]
+#[derive(Clone, Copy)]
 pub enum Answer {
     Read(Token, usize, bool),
     Refused(Refusal),

@@ -19,7 +19,7 @@ use tokens::reader::Token;
 use tokens::sizes::MOST_PATH_BYTES;
 
 // Where a path starts and ends, the kind of the call that begins after it or 0, and the token after all that.
-#[derive(Drop)]
+#[derive(Clone, Copy)]
 pub struct Path {
     pub start: usize,
     pub end: usize,
@@ -28,7 +28,7 @@ pub struct Path {
 }
 
 // What the reader of a path answers.
-#[derive(Drop)]
+#[derive(Clone, Copy)]
 pub enum Way {
     Found(Path),
     Lost(Refusal),

@@ -1,4 +1,6 @@
 // The patterns of `like`: `*` stands for any run of characters without a colon, `?` for one character but a colon.
+#![tactic(auto)]
+
 ghost use Rattle.std.specs.Prelude.{◌≡◌, false, ◌∷◌, ◌<◌, length, drop};
 ghost use Rattle.slices.specs.Decides.{Decides};
 ghost use Rattle.utf8.specs.Characters.{OnlyAscii, Utf8};

@@ -236,11 +236,11 @@ tests_joined : {l : List ℕ} {c : TreeOf Word} {F : Type 0} → JoinedLaid l c 
     → JoinedLaid (l ++ after_each (bytes " && ") test_text ts) (joined_to c ts) (F × Each Fits ts)
 unfolding joined_to after_each
 tests_joined {l} j none_left = joined_as (sym (append-nil l)) (λ f. (f, none_left)) (λ f. f.0) j
-tests_joined {l} {F = F} j (and_each {a = t} {l = ts} h hs) =
+tests_joined {l} {c} {F} j (and_each {a = t} {l = ts} h hs) =
     joined_as (append_assoc l (bytes " && " ++ test_text t) (after_each (bytes " && ") test_text ts))
     (λ (f : (F × Fits t) × Each Fits ts). (f.0.0, and_each f.0.1 f.1))
     (λ (f : F × Each Fits (t ∷ ts)). ((f.0, each_first f.1), each_rest f.1))
-    (tests_joined (next_joined j h) hs)
+    (tests_joined {l = l ++ (bytes " && " ++ test_text t)} {c = both c (test_tree t)} {F = F × Fits t} (next_joined j h) hs)
 
 -- a lock's tests
 pub condition_laid : {t : Test} {ts : List Test} → Each Formed (t ∷ ts)

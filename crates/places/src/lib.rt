@@ -1,18 +1,20 @@
 // The line and the column of a byte of a rule text.
+#![tactic(auto)]
+
 ghost use Rattle.std.specs.Prelude.{◌≡◌, ◌<◌, ◌≤◌, ◌+◌, ◌^◌, length, take};
 ghost use Rattle.places.specs.Places.{up_to_quote, judged, behind_byte, columns_taken, past, place_of};
 
 use utf8::{goes_on, is_utf8};
 
 // A line and a column, from 1.
-#[derive(Drop)]
+#[derive(Clone, Copy)]
 pub struct Place {
     pub line: usize,
     pub column: usize,
 }
 
 // What counts as a column: outside strings each byte, in a string that is UTF-8 characters, in any other each byte again.
-#[derive(Drop)]
+#[derive(Clone, Copy)]
 pub enum Counting {
     Outside,
     Characters,

@@ -1,4 +1,6 @@
 // The readers of policies, and of a whole text.
+#![tactic(auto)]
+
 ghost use Rattle.std.specs.Prelude.{◌≡◌, true, [], ◌∷◌, ◌+◌, ◌-◌, ◌≤◌, length};
 ghost use Rattle.tokens.specs.Table.{class_table};
 ghost use Rattle.tokens.specs.Sizes.{most_text_bytes};
@@ -22,7 +24,7 @@ use tokens::reader::Token;
 use tokens::sizes::{MOST_INSIDE, MOST_POLICIES};
 
 // What a whole text is: how many policies and entries it has, and whether the table that is seen has all these; or a refusal.
-#[derive(Drop)]
+#[derive(Clone, Copy)]
 pub enum Whole {
     All(usize, usize, bool),
     Lost(Refusal),

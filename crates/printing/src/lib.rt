@@ -1,4 +1,6 @@
 // A folder's sheet, printed: policy.txt, question.bin and request.txt are read, and the rows printed that are answered with yes, under the version that is named.
+#![tactic(auto)]
+
 ghost use Rattle.std.specs.Prelude.{◌≡◌, ◌*◌, ◌≤◌, ◌<◌, length};
 ghost use Rattle.pages.specs.Listing.{row_size};
 ghost use Rattle.targets.specs.Matching.{request};
@@ -8,45 +10,47 @@ ghost use Rattle.printing.specs.Printed.{Accepted, PagePrinted, ListedBefore, pa
 use compiling::{Compiled, compile};
 use folder::lines::{put_one, put_refusal};
 use folder::read_file;
-use libc::STDOUT_FILENO;
 use pages::Page;
 use request_lines::{line_after, line_end};
 use row_lines::put_rows;
 use sheets::{Answer, row_count, sheet};
+use std::rt::Files;
+use streams::print_bytes;
 
 // What is printed of a sheet: how many rows there are and how many of them are allowed; or the refusal's number.
-#[derive(Drop)]
+#[derive(Clone, Copy)]
 pub enum Printed {
     Rows(usize, usize),
     Refusal(u8),
 }
 
-fn print_refusal(number: u32, line: usize, column: usize, size: usize) {
+fn print_refusal<P: Print>(rt: &P, number: u32, line: usize, column: usize, size: usize) {
     let mut out = [0u8; 92];
     let n = put_refusal(&mut out, 0, number, line, column, size);
-    io::write_all(STDOUT_FILENO, &out[..n]);
+    print_bytes(rt, &out[..n]);
 }
 
 // A line of a word and a number.
-fn print_one(word: &[u8], n: usize)
+fn print_one<P: Print>(rt: &P, word: &[u8], n: usize)
     requires { length word.now ≤ 8 }
 {
     let mut out = [0u8; 29];
     let end = put_one(&mut out, 0, word, n);
-    io::write_all(STDOUT_FILENO, &out[..end]);
+    print_bytes(rt, &out[..end]);
 }
 
 // Prints so many rows of a page, at once.
-fn print_rows(page: &[u8], written: usize)
+fn print_rows<P: Print>(rt: &P, page: &[u8], written: usize)
     requires { (row_size * written ≤ length page.now) × (written ≤ page_room) }
 {
     let mut out = [0u8; 400084]; // 40 bytes for each of 10,000 rows, and room for a line of any numbers
     let n = put_rows(page, written, &mut out);
-    io::write_all(STDOUT_FILENO, &out[..n]);
+    print_bytes(rt, &out[..n]);
 }
 
 // Prints the page from a start row on, and gives how many rows it has and the row to go on with.
-fn print_page<'a>(
+fn print_page<'a, P: Print>(
+    rt: &P,
     text: &'a [u8],
     table: &[u8],
     question: &'a [u8],
@@ -71,14 +75,15 @@ fn print_page<'a>(
             next: rows,
         },
         Answer::Listed(written, next) => {
-            print_rows(&page, written);
+            print_rows(rt, &page, written);
             Page { written, next }
         }
     }
 }
 
 // Prints the pages from a start row on, and gives how many rows they and those before them have.
-fn print_pages<'a>(
+fn print_pages<'a, P: Print>(
+    rt: &P,
     text: &'a [u8],
     table: &[u8],
     question: &'a [u8],
@@ -98,7 +103,7 @@ fn print_pages<'a>(
     let mut start = first;
     while start < rows {
         let page = print_page(
-            text, table, question, subject, action, resource, rows, start,
+            rt, text, table, question, subject, action, resource, rows, start,
         );
         listed += page.written;
         start = page.next;
@@ -107,7 +112,8 @@ fn print_pages<'a>(
 }
 
 // Prints the sheet, and gives what it printed.
-fn print_sheet<'a>(
+fn print_sheet<'a, P: Print>(
+    rt: &P,
     text: &'a [u8],
     table: &[u8],
     question: &'a [u8],
@@ -123,24 +129,30 @@ fn print_sheet<'a>(
         text, table, question, subject, action, resource, 0, &mut page, 0,
     ) {
         Answer::Refused(number) => {
-            print_refusal(number as u32, 0, 0, 0);
+            print_refusal(rt, number as u32, 0, 0, 0);
             Printed::Refusal(number)
         }
         Answer::Listed(written, next) => {
             let rows = row_count(question);
-            print_one(b"rows ", rows);
-            print_rows(&page, written);
+            print_one(rt, b"rows ", rows);
+            print_rows(rt, &page, written);
             let listed = print_pages(
-                text, table, question, subject, action, resource, rows, next, written,
+                rt, text, table, question, subject, action, resource, rows, next, written,
             );
-            print_one(b"allowed ", listed);
+            print_one(rt, b"allowed ", listed);
             Printed::Rows(rows, listed)
         }
     }
 }
 
 // The sheet of a request that has its three lines: subject, action, resource.
-fn print_request<'a>(text: &'a [u8], table: &[u8], question: &'a [u8], lines: &'a [u8]) -> Printed
+fn print_request<'a, P: Print>(
+    rt: &P,
+    text: &'a [u8],
+    table: &[u8],
+    question: &'a [u8],
+    lines: &'a [u8],
+) -> Printed
     ensures { result ≡ printed_for text.now table.now question.now (request_in lines.now) }
 {
     let subject = line_end(lines, 0);
@@ -149,6 +161,7 @@ fn print_request<'a>(text: &'a [u8], table: &[u8], question: &'a [u8], lines: &'
     let third = line_after(lines, action);
     let resource = line_end(lines, third);
     print_sheet(
+        rt,
         text,
         table,
         question,
@@ -160,20 +173,20 @@ fn print_request<'a>(text: &'a [u8], table: &[u8], question: &'a [u8], lines: &'
 
 // Prints the sheet of the folder in which the program is started, under a version. A file is read with room for one byte more than its limit, so that what is too long is
 // refused and not cut; of a request three lines of 101 bytes are enough.
-pub fn print_folder(version: u64) {
+pub fn print_folder<R: Files + Print>(rt: &R, version: u64) {
     let mut text = [0u8; 8193];
     let mut question = [0u8; 4097];
     let mut request = [0u8; 512];
     let mut table = [0u8; 65544];
-    let n = read_file(b"policy.txt", &mut text);
-    let q = read_file(b"question.bin", &mut question);
-    let r = read_file(b"request.txt", &mut request);
+    let n = read_file(rt, b"policy.txt", &mut text);
+    let q = read_file(rt, b"question.bin", &mut question);
+    let r = read_file(rt, b"request.txt", &mut request);
     match compile(version, &text[..n], &mut table) {
         Compiled::Refused(number, spot) => {
-            print_refusal(number as u32, spot.line, spot.column, spot.length)
+            print_refusal(rt, number as u32, spot.line, spot.column, spot.length)
         }
         Compiled::Policies(_, _) => {
-            print_request(&text[..n], &table, &question[..q], &request[..r]);
+            print_request(rt, &text[..n], &table, &question[..q], &request[..r]);
         }
     }
 }

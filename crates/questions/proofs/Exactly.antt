@@ -286,18 +286,18 @@ module _ (s : List ℕ) where
   question_sound : is_question s ≡ true → (base : Contents) × ((cs : List Column) × QuestionBytes s base cs)
   unfolding is_question
   question_sound h =
-      let t = (and-eq-true_iff (leb (length s) 4096) _).0 h in
+      let t = (and-eq-true_iff (leb (length s) _) _).0 h in
       let f = followed s (sections_of s) t.1 in
       let a = sections_sound s f.0 (sections_at s f.0 f.1.0) in
       let b = (fourth_reads s).sound f.0.end (length s) f.1.1 in
       let q = whole_laid (laid_join a.laid b.laid) in
-      (contents_at s f.0, (columns_at s f.0.end, record { most = leb-true _ _ t.0; all = rw (← q) at (parts a.says b.says) }))
+      (contents_at s f.0, (columns_at s f.0.end, record { most = omega (arith, leb-true _ _ t.0); all = rw (← q) at (parts a.says b.says) }))
 
   question_complete : (base : Contents) (cs : List Column) → QuestionBytes s base cs → is_question s ≡ true
   unfolding is_question
   question_complete base cs w =
       let d = question_stands w in
-      (and-eq-true_iff (leb (length s) 4096) _).1 (le-leb _ _ w.most, follow s (sections_of s) d.places d.read d.ends)
+      (and-eq-true_iff (leb (length s) _) _).1 (le-leb _ _ (omega (arith, w.most)), follow s (sections_of s) d.places d.read d.ends)
 
   -- the reader takes the bytes of a question, and no others
   pub question_exactly : (is_question s ≡ true) ↔ ((base : Contents) × ((cs : List Column) × QuestionBytes s base cs))

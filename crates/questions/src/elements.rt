@@ -10,7 +10,7 @@ use lookups::steps::value_next;
 use slices::same;
 
 // What may not occur twice: a candidate in its column, a column in the question.
-#[derive(Drop)]
+#[derive(Clone, Copy)]
 pub enum Unrepeated {
     Candidate,
     Column,

@@ -1,4 +1,6 @@
 // Questions: the three sections of a bag, and columns of candidates.
+#![tactic(auto)]
+
 ghost use Rattle.std.specs.Prelude.{◌≡◌, cond};
 ghost use Rattle.tokens.specs.Table.{class_table};
 ghost use Rattle.bags.specs.Sections.{sections_of};

@@ -45,10 +45,12 @@ near_refuse_by {A = A} number [] = record { before = []; split = refl; again = �
   where
     go : (s : List Lexeme) → Alike [] s → refuse_by {A = A} number s ≡ refuse 10 s
     go [] ends = refl
+    go (_ ∷ _) h = elim h [ ]
 near_refuse_by {A = A} number (x ∷ r) = record { before = []; split = refl; again = λ s h. go s h }
   where
     go : (s : List Lexeme) → Alike (x ∷ r) s → refuse_by {A = A} number s ≡ refuse (numbered number x) s
     go (y ∷ s) same = refl
+    go [] h = elim h [ ]
 
 pub near_bind : {A B : Type 0} (p : Reader A) (f : A → Reader B) (i : List Lexeme)
     → Near p i → ((a : A) (r : List Lexeme) → p i ≡ took a r → Near (f a) r) → Near (λ j. bind (p j) f) i
@@ -72,10 +74,12 @@ near_on {A = A} k f g [] hf n = record { before = n.before; split = n.split; aga
   where
     go : (j : List Lexeme) → Alike [] j → on k f g j ≡ g j
     go [] ends = refl
+    go (_ ∷ _) h = elim h [ ]
 near_on {A = A} k f g (x ∷ r) hf n = go (k x) refl
   where
     other : k x ≡ false → (j : List Lexeme) → Alike (x ∷ r) j → on k f g j ≡ g j
     other e (y ∷ j) same = rw e
+    other e [] h = elim h [ ]
 
     go : (o : Bool) → k x ≡ o → Near (on k f g) (x ∷ r)
     go false e = record {

@@ -1,4 +1,6 @@
 // The lines of a request's file: where one ends, and where the next starts.
+#![tactic(auto)]
+
 ghost use Rattle.std.specs.Prelude.{◌≤◌, length};
 ghost use Rattle.request_lines.specs.Lines.{EndsAt, GoesOnAt};
 

@@ -1,4 +1,6 @@
 // The lines of a page's rows: row number, outcome, policy and mark, in decimal digits.
+#![tactic(auto)]
+
 ghost use Rattle.std.specs.Prelude.{◌≡◌, ◌+◌, ◌*◌, ◌≤◌, ◌<◌, length, take, drop};
 ghost use Rattle.pages.specs.Lines.{little_endian};
 ghost use Rattle.pages.specs.Listing.{row_size};

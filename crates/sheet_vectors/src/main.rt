@@ -1,24 +1,26 @@
 // Asks for pages of the sheets of test questions, and writes a line for each: rows written and next, or `R` and the refusal's number; and then a sum of the
 // whole sheet, which is lent with a pattern in it.
+#![tactic(auto)]
+
 ghost use Rattle.std.specs.Prelude.{◌<◌, ◌≤◌, length};
 
 use desk::DeskPage;
-use libc::STDOUT_FILENO;
+use streams::print_bytes;
 
-fn report(answer: DeskPage, sheet: &[u8]) {
+fn report<P: Print>(rt: &P, answer: DeskPage, sheet: &[u8]) {
     if 0 < answer.refusal {
-        io::write_all(STDOUT_FILENO, b"R ");
-        vectors::print_number(answer.refusal as u64, b' ');
-        vectors::print_number(vectors::sum_of(sheet), b'\n');
+        print_bytes(rt, b"R ");
+        vectors::print_number(rt, answer.refusal as u64, b' ');
+        vectors::print_number(rt, vectors::sum_of(sheet), b'\n');
         return;
     }
-    vectors::print_number(answer.written as u64, b' ');
-    vectors::print_number(answer.next as u64, b' ');
-    vectors::print_number(vectors::sum_of(sheet), b'\n');
+    vectors::print_number(rt, answer.written as u64, b' ');
+    vectors::print_number(rt, answer.next as u64, b' ');
+    vectors::print_number(rt, vectors::sum_of(sheet), b'\n');
 }
 
 // Where a page is wanted: the start row, the sheet's length, and the named byte.
-#[derive(Drop)]
+#[derive(Clone, Copy)]
 struct Wanted {
     start: usize,
     length: usize,
@@ -45,7 +47,8 @@ fn page_wanted(memory: &[u8], at: usize) -> Wanted
     }
 }
 
-fn page<'a>(
+fn page<'a, P: Print>(
+    rt: &P,
     text: &'a [u8],
     table: &[u8],
     question: &'a [u8],
@@ -60,11 +63,11 @@ fn page<'a>(
     let answer = desk::desk_sheet(
         text, table, question, subject, action, resource, start, lent, at,
     );
-    report(answer, lent);
+    report(rt, answer, lent);
 }
 
 // One vector, which lies unpacked in the memory: a text, a table, a question, a request's subject, action and resource, and what is wanted.
-fn vector(memory: &[u8], at: usize)
+fn vector<P: Print>(rt: &P, memory: &[u8], at: usize)
     requires { at ≤ length memory.now }
 {
     let text = packed::part_start(memory, at);
@@ -83,6 +86,7 @@ fn vector(memory: &[u8], at: usize)
     let size = w.length;
     let mut space = [0u8; 65536];
     page(
+        rt,
         &memory[text..text_end],
         &memory[table..table_end],
         &memory[question..question_end],
@@ -95,13 +99,14 @@ fn vector(memory: &[u8], at: usize)
     );
 }
 
-fn main() {
+fn main(rt: HostRuntime) {
+    let mut input = rt.reader();
     let mut memory = [0u8; 131072];
     let mut at = 0;
-    let mut left = vectors::vector_count();
+    let mut left = vectors::vector_count(&mut input);
     while left > 0 {
-        let end = packed::read_vector(&mut memory, at);
-        vector(&memory, at);
+        let end = packed::read_vector(&mut input, &mut memory, at);
+        vector(&rt, &memory, at);
         at = packed::next_place(end);
         left -= 1;
     }

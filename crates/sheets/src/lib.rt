@@ -1,4 +1,6 @@
 // The sheet: the rows of a question that are answered with yes, a page at a time.
+#![tactic(auto)]
+
 mod writing;
 
 ghost use Rattle.std.specs.Prelude.{◌≡◌, false, cond, ◌≤◌};
@@ -22,7 +24,7 @@ use targets::forms::{is_action, is_system, resource_type, subject_type};
 use tokens::classes::class_table;
 
 // What a call for a page answers: how many rows it wrote, and the row to go on with; or the refusal's number.
-#[derive(Drop)]
+#[derive(Clone, Copy)]
 pub enum Answer {
     Listed(usize, usize),
     Refused(u8),

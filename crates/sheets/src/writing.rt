@@ -24,7 +24,7 @@ use turns::take_turn;
 use views::{chosen, with_columns};
 
 // The rules for a subject: how many policies and entries the table holds, and none for the system.
-#[derive(Drop)]
+#[derive(Clone, Copy)]
 pub struct Rules {
     pub system: bool,
     pub policies: usize,

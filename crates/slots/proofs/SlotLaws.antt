@@ -252,7 +252,8 @@ module _ (s path : List ℕ) where
   later_after : {p : List ℕ} {n at entry : ℕ} → EntryOf s n at entry → Ascending (p ∷ paths_of n s at) → SortsBefore p (path_at s entry)
   unfolding each
   later_after (the_first q) a = (apart (rw q at a)).0
-  later_after (a_later q m) a = let w = apart (rw q at a) in before_trans w.0 (later_after m w.1)
+  later_after {p = p} (a_later {n = n} {at = at} {next = next} {entry = entry} q m) a =
+      let w = apart (rw q at a) in before_trans w.0 (later_after {p = path_at s at} m w.1)
 
   -- where an entry with the path stands, its value is found: no other entry of the section has this path
   found_among : {n at entry : ℕ} → EntryOf s n at entry → path_at s entry ≡ path → Ascending (paths_of n s at)

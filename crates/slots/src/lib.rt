@@ -1,4 +1,6 @@
 // The places of a bag's entries, found once and kept: an attribute is found by its path without going through its section.
+#![tactic(auto)]
+
 ghost use Rattle.std.specs.Prelude.{◌≡◌, true, ℕ, ◌+◌, ◌*◌, ◌%◌, ◌<◌, ◌≤◌, length, get_or};
 ghost use Rattle.slices.specs.Same.{same};
 ghost use Rattle.bags.specs.Sections.{path_at, kind_at, entry_end, section_end, Sectioned};

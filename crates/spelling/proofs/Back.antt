@@ -143,8 +143,8 @@ module _ (t : List ℕ) where
   simple_said (grammar.Simple.bare e) placed.TreePlaced.a_constant = of_constant
   simple_said (comparison a e b) (placed.TreePlaced.a_comparison h k) = of_comparison (operand_said h) (operand_said k)
   simple_said (likeness a e f u g) (placed.TreePlaced.a_likeness h k q) = of_likeness (operand_said h) (string_said k) q
-  simple_said (listed a e b) (placed.TreePlaced.in_List h k) = of_list (operand_said h) (literals_said k)
-  simple_said (held a e b) (placed.TreePlaced.in_attribute h k) = of_member (operand_said h) (path_said k)
+  simple_said (listed a e b) (placed.TreePlaced.in_list h k) = of_list (operand_said h) (literals_said k)
+  simple_said (held a e b) (placed.TreePlaced.in_an_attribute h k) = of_member (operand_said h) (path_said k)
   simple_said (call a d e f b) (placed.TreePlaced.a_call h k) = of_call (path_said h) (literals_said k)
   simple_said (having e f a) (placed.TreePlaced.a_presence h) = of_presence (path_said h)
 
@@ -195,7 +195,7 @@ module _ (t : List ℕ) where
   actions_said : {a : Actions} → ActionsPlaced t a → PrintableActions (action_words t a)
   unfolding action_words
   actions_said placed.ActionsPlaced.any_action = of_every
-  actions_said (placed.ActionsPlaced.one_of_lem h) = of_some (list_said (λ l k. action_said k) h)
+  actions_said (placed.ActionsPlaced.one_of_placed h) = of_some (list_said (λ l k. action_said k) h)
 
   rest_said : {permits : Bool} {i r : List Lexeme} {p : Policy} → PolicyRest sizes permits i r p → PolicyPlaced t p → PrintablePolicy (policy_words t p)
   rest_said (grammar.PolicyRest.rest a b c (ended d e)) h = record {

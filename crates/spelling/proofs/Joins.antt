@@ -214,26 +214,31 @@ pub record TwoLaid (at : ℕ) (text : List ℕ) (ts us : List Lexeme) : Type 0 w
   pub first_laid : Laid at first ts
   pub second_laid : Laid (at + length first) second us
 
--- the first without blanks behind its last token
-pub laid_cut : {at : ℕ} {text : List ℕ} (ts us : List Lexeme) → Laid at text (ts ++ us) → TwoLaid at text ts us
-laid_cut {at} {text} [] us k = record {
+laid_cut_to : {at : ℕ} {text : List ℕ} {ws : List Lexeme} (ts us : List Lexeme) → Laid at text ws → ws ≡ ts ++ us → TwoLaid at text ts us
+laid_cut_to {at} {text} [] us k e = record {
   first = [];
   second = text;
   parts = refl;
   first_laid = Laid.blank empty;
-  second_laid = subst (λ (i : ℕ). Laid i text us) (sym (add-zero at)) k;
+  second_laid = subst (λ (i : ℕ). Laid i text us) (sym (add-zero at)) (subst (λ (l : List Lexeme). Laid at text l) e k);
 }
-laid_cut {at} (x ∷ ts) us (Laid.before {kind = kind} {b = b} {p = p} {q = q} a l f k) =
-    let r = laid_cut ts us k in
+laid_cut_to (x ∷ ts) us (Laid.blank a) e = absurd (grind arith)
+laid_cut_to (x ∷ ts) us (Laid.before {at = at} {kind = kind} {b = b} {p = p} {q = q} {ts = vs} a l f k) e =
+    let r = laid_cut_to {at = at + length b + length p} {text = q} {ws = vs} ts us k (grind arith) in
     let here = b ++ (p ++ r.first) in
     let place : at + length b + length p + length r.first ≡ at + length here = omega (arith, length-append b (p ++ r.first), length-append p r.first) in
+    let same : lexeme_at (at + length b) kind p ≡ x = grind arith in
     record {
       first = here;
       second = r.second;
       parts = ap (λ (m : List ℕ). b ++ (p ++ m)) r.parts ∙ regroup b p r.first r.second;
-      first_laid = Laid.before a (longest_less r.first r.second (subst (λ (m : List ℕ). Longest kind p (p ++ m)) r.parts l)) f r.first_laid;
+      first_laid = subst (λ (y : Lexeme). Laid at here (y ∷ ts)) same (Laid.before a (longest_less r.first r.second (subst (λ (m : List ℕ). Longest kind p (p ++ m)) r.parts l)) f r.first_laid);
       second_laid = subst (λ (i : ℕ). Laid i r.second us) place r.second_laid;
     }
+
+-- the first without blanks behind its last token
+pub laid_cut : {at : ℕ} {text : List ℕ} (ts us : List Lexeme) → Laid at text (ts ++ us) → TwoLaid at text ts us
+laid_cut ts us k = laid_cut_to ts us k refl
 
 -- ---- the tokens of a text behind another, whatever it is
 

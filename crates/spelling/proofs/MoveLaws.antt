@@ -19,7 +19,7 @@ use Rattle.grammar.specs.Grammar.{Simple, comparison, likeness, listed, held, ca
 use Rattle.grammar.specs.Grammar.{bracketed, conditional, Condition, Typed, ResourceRest, ActionRest, When, PolicyRest, Policies, policy, RuleText}
 use Rattle.grammar.specs.Grammar as grammar
 use Rattle.grammar.specs.Moves.{Move, moved_literal, moved_operand, moved_tree, moved_part, moved_actions, moved_when, moved_policy}
-use Rattle.spelling.specs.Moves.{moved_lexeme, KeepsSize, AllKeep, keeps}
+use Rattle.spelling.specs.Moves.{moved_lexeme, KeepsSize, AllKeep, nothing, keeps}
 
 cond_map : {A B : Type 0} (f : A → B) (b : Bool) (x y : A) → f (cond b x y) ≡ cond b (f x) (f y)
 cond_map f true x y = refl
@@ -58,6 +58,7 @@ module _ (m : Move) where
       where
         go : {i r : List Lexeme} {a : A} → AllKeep m i → After k R i r a → AllKeep m r × After k S (map (moved_lexeme m) i) (map (moved_lexeme m) r) (f a)
         go (keeps e a) (begun t j) = let q = c.at a j in (q.0, begun t q.1)
+        go {r = r} {a = a} nothing h = elim h [ ]
 
     carries_chain : (sep : ℕ) {Next Then : A → Lexeme → Reading A} → ((a : A) (x : Lexeme) → Carries f (Next a x) (Then (f a) (moved_lexeme m x)))
         → Carries f (Chain (λ a. is sep) R Next) (Chain (λ a. is sep) S Then)
@@ -101,6 +102,7 @@ module _ (m : Move) where
             subst (λ (n : ℕ). FirstName sizes root (map (moved_lexeme m) (x ∷ r)) (map (moved_lexeme m) r) (path n)) e
                 (first k (admitted_moved root 0 x e l)),
           )
+      go {r = r} {p = p} nothing h = elim h [ ]
 
       go_on : {p : Path} {i r : List Lexeme} {q : Path} → AllKeep m i → NextName sizes root p i r q
           → AllKeep m r × NextName sizes root (moved_path p) (map (moved_lexeme m) i) (map (moved_lexeme m) r) (moved_path q)
@@ -110,6 +112,7 @@ module _ (m : Move) where
             subst (λ (n : ℕ). NextName sizes root (moved_path p) (map (moved_lexeme m) (x ∷ r)) (map (moved_lexeme m) r) (path n)) e
                 (next k (admitted_moved root (p.used + 1) x e l)),
           )
+      go_on {p = p} {r = r} {q = q} nothing h = elim h [ ]
 
   carries_attribute : Carries (moved_operand m) (Attribute sizes) (Attribute sizes)
   unfolding root_of moved_path
@@ -118,6 +121,8 @@ module _ (m : Move) where
       go : {i r : List Lexeme} {a : Operand} → AllKeep m i → Attribute sizes i r a
           → AllKeep m r × Attribute sizes (map (moved_lexeme m) i) (map (moved_lexeme m) r) (moved_operand m a)
       go (keeps e (keeps e' a)) (rooted t k h) = let q = (carries_path _).at a h in (q.0, rooted t k q.1)
+      go {r = r} {a = a} nothing h = elim h [ ]
+      go {r = r} {a = a} (keeps e nothing) h = elim h [ ]
 
   carries_operand : Carries (moved_operand m) (AnOperand sizes) (AnOperand sizes)
   carries_operand = record { at = go }
@@ -140,6 +145,7 @@ module _ (m : Move) where
       go {ls = ls} (keeps e a) (element {x = x} t c l) =
           let few : ltb (length (map (moved_literal m) ls)) most_literals ≡ true = rw (length-map ls (moved_literal m)) c in
           (a, rw (map-append (moved_literal m) ls (literal_of x ∷ []), ← literal_moved x) (element (b.same x ∙ t) few (string_moved x e l)))
+      go {ls = ls} {r = r} {ks = ks} nothing h = elim h [ ]
 
   literals : ByKind is_literal
   literals = record { same = λ x. refl }

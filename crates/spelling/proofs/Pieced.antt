@@ -69,8 +69,8 @@ module _ {s : Lexeme} {m : List Lexeme} (h : s.kind ≡ kinds.semicolon) where
   spent_closed : {i : List Lexeme} → Spends i (s ∷ m) → closed m ≡ true → closed i ≡ true
   unfolding closed
   spent_closed inside.Spends.none e = closed_first s m h e
-  spent_closed (inside.Spends.one f inside.Spends.none) e = closed_first s m h e
-  spent_closed (inside.Spends.one f (inside.Spends.one g a)) e = spent_closed (inside.Spends.one g a) e
+  spent_closed (inside.Spends.one {x = x} f inside.Spends.none) e = closed_first s m h e
+  spent_closed (inside.Spends.one {x = x} f (inside.Spends.one {x = y} {i = i} g a)) e = spent_closed {i = y ∷ i} (inside.Spends.one {x = y} {i = i} g a) e
 
 -- ---- policies before another rest
 

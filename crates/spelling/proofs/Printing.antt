@@ -36,13 +36,16 @@ standing_append at (x ∷ xs) ys =
 pub standing_then : (at : ℕ) (xs ys : List WrittenToken) (r : List Lexeme) → standing at (xs ++ ys) ++ r ≡ standing at xs ++ (standing (past at xs) ys ++ r)
 standing_then at xs ys r = ap (λ (l : List Lexeme). l ++ r) (standing_append at xs ys) ∙ append_assoc (standing at xs) (standing (past at xs) ys) r
 
--- they may be written so, where the first may before the others
-pub well_append : {xs ys : List WrittenToken} {q : List ℕ} → WellWritten xs (laid_out ys ++ q) → WellWritten ys q → WellWritten (xs ++ ys) q
-well_append none w = w
-well_append {ys = ys} {q = q} (one {xs = xs} a f n v) w =
+well_append_to : {xs ys : List WrittenToken} {q p : List ℕ} → WellWritten xs p → p ≡ laid_out ys ++ q → WellWritten ys q → WellWritten (xs ++ ys) q
+well_append_to none g w = w
+well_append_to {ys = ys} {q = q} (one {xs = xs} a f n v) g w =
     let e : laid_out (xs ++ ys) ++ q ≡ laid_out xs ++ (laid_out ys ++ q) =
     ap (λ (l : List ℕ). l ++ q) (laid_append xs ys) ∙ append_assoc (laid_out xs) (laid_out ys) q in
-    one {xs = xs ++ ys} {q = q} a f (rw e n) (well_append v w)
+    one {xs = xs ++ ys} {q = q} a f (rw (e, ← g) n) (well_append_to v g w)
+
+-- they may be written so, where the first may before the others
+pub well_append : {xs ys : List WrittenToken} {q : List ℕ} → WellWritten xs (laid_out ys ++ q) → WellWritten ys q → WellWritten (xs ++ ys) q
+well_append u w = well_append_to u refl w
 
 -- ---- what a text has from a place on
 

@@ -169,11 +169,11 @@ module _ (hugs : PlainToken → PlainToken → Bool) where
       → WellWritten (written b t.0 t.1 ∷ laid_behind hugs t ts) []
   unfolding laid_behind laid_out calm class_of
   token_well {t = t} a (and_each f none_left) = one a f.form (calm_apart t.1 0 refl) none
-  token_well {t = t} a (and_each f (and_each {a = u} {l = us} g h)) =
+  token_well {b = b} {t = t} a (and_each f (and_each {a = u} {l = us} g h)) =
       let behind = laid_behind hugs t (u ∷ us) in
       let clear : apart t.1 (get_or (laid_out behind ++ []) 0 0) ≡ true =
       rw (append-nil (laid_out behind)) (between_apart t u (laid_out (laid_behind hugs u us)) g) in
-      one a f.form clear (token_well (between_blanks t u) (and_each g h))
+      one a f.form clear (token_well {b = blank_between hugs t u} {t = u} {ts = us} (between_blanks t u) (and_each g h))
 
   laid_by_well : {ts : List PlainToken} → Each FormedToken ts → WellWritten (laid_by hugs ts) []
   unfolding laid_by

@@ -202,16 +202,31 @@ pub printed_action : {l : LiteralOf Word} → PrintableAction l → PrintedLiter
 unfolding literal_token
 printed_action (of_action {s} h) = record { prints = λ b. prints_string s h.size ((utf8_decides s).complete h.characters); formed = record { form = a_string h.all } }
 
+-- the first two of laid tokens
+record TwoOff (t u : PlainToken) (ts : List PlainToken) (xs : List WrittenToken) : Type 0 where
+  pub b : List ℕ
+  pub c : List ℕ
+  pub behind : List WrittenToken
+  pub is : xs ≡ written b t.0 t.1 ∷ written c u.0 u.1 ∷ behind
+  pub laid : LaidAs ts behind
+
+two_off : {t u : PlainToken} {ts : List PlainToken} {xs : List WrittenToken} → LaidAs (t ∷ u ∷ ts) xs → TwoOff t u ts xs
+two_off (and_laid {b = b} a (and_laid {b = c} {xs = ys} d k)) = record { b = b; c = c; behind = ys; is = refl; laid = k }
+
 module _ {sort : Lexeme → Bool} {P : LiteralOf Word → Type 0} (one : (l : LiteralOf Word) → P l → PrintedLiteral sort l) where
   -- literals behind others, with commas
   more_literals : {xs ys : List WrittenToken} {ls ks : List (LiteralOf Word)} → PrintsList sort xs ls → Each P ks → LaidAs (comma_tokens ks) ys
       → PrintsList sort (xs ++ ys) (ls ++ ks)
   unfolding comma_tokens
   more_literals {xs} {ls = ls} j none_left none_laid = rw (append-nil xs, append-nil ls) j
-  more_literals {xs} {ls = ls} j (and_each {a = l} {l = ks} p h) (and_laid {b = b} a (and_laid {b = c} {xs = ys} d k)) =
+  more_literals {xs} {ls = ls} j (and_each {a = l} {l = ks} p h) w =
+      let w' = two_off w in
+      let b = w'.b in
+      let c = w'.c in
+      let ys = w'.behind in
       let two = written b kinds.comma (bytes ",") ∷ written c (literal_token l).0 (literal_token l).1 ∷ [] in
       let more : PrintsList sort (xs ++ two) (ls ++ l ∷ []) = printing.PrintsList.more j (kind_of b comma_token) ((one l p).prints c) in
-      rw (append_assoc xs two ys, append_assoc ls (l ∷ []) ks) at (more_literals more h k)
+      rw w'.is (rw (append_assoc xs two ys, append_assoc ls (l ∷ []) ks) at (more_literals {xs = xs ++ two} {ys = ys} {ls = ls ++ l ∷ []} more h w'.laid))
 
   commas_formed : {ks : List (LiteralOf Word)} → Each P ks → Each FormedToken (comma_tokens ks)
   unfolding comma_tokens

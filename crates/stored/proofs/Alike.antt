@@ -15,7 +15,7 @@ use Rattle.stored.proofs.Evaluating.{ready_policies}
 module _ {at at' : ℕ → Entry} {n : ℕ} (a : Agree at at' n) where
   from_alike : {e : ℕ} (es : List Entry) → e + length es ≤ n → StandFrom at e es → StandFrom at' e es
   from_alike [] l s = none_left
-  from_alike {e} (x ∷ es) l (one_more h s) = one_more (sym (a.same e (omega arith)) ∙ h) (from_alike es (omega arith) s)
+  from_alike {e} (x ∷ es) l (one_more h s) = one_more (sym (a.same e (omega arith)) ∙ h) (from_alike {e = e + 1} es (omega arith) s)
 
   policies_alike : (ps : List Policy) → StoredPolicies at n ps → StoredPolicies at' n ps
   policies_alike ps h =

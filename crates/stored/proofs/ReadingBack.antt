@@ -3,7 +3,7 @@ use mathlib.Core.Path.{◌≡◌, refl, sym, ◌∙◌, ap, subst}
 use mathlib.Core.Bool.{Bool, true, false}
 use mathlib.Core.List.{List, [], ◌∷◌}
 use mathlib.Core.Option.{Option}
-use Prim.Native.Nat.{ℕ, zero, suc, ◌-◌, ◌≤◌, ◌<◌}
+use Prim.Native.Nat.{ℕ, zero, suc, ◌+◌, ◌-◌, ◌≤◌, ◌<◌}
 use native.Mathlib.Omega.{arith}
 use lib.Dec.{eqb}
 use lib.ListN.{length}
@@ -53,7 +53,7 @@ operand_back (literal l) = plain_back l ∙ ap literal (literal_back l)
 literals_back : {at : ℕ → Entry} {e : ℕ} (ls : List Literal) → StandFrom at e (literal_entries ls) → literals_by (length ls) at e ≡ ls
 unfolding literals_by
 literals_back [] none_left = refl
-literals_back (l ∷ ls) (one_more h k) = rw (h, literal_back l, literals_back ls k)
+literals_back {at} {e} (l ∷ ls) (one_more h k) = rw (h, literal_back l, literals_back {at = at} {e = e + 1} ls k)
 
 operand_at : {x : Entry} (a : Operand) → x ≡ operand_entry a → operand_of_entry x ≡ a
 operand_at a h = ap operand_of_entry h ∙ operand_back a

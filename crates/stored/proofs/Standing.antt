@@ -10,13 +10,13 @@ use Rattle.stored.specs.Stored.{StandFrom, none_left, one_more, EntriesStand}
 module _ {at : ℕ → Entry} where
   from_left : {e : ℕ} (a b : List Entry) → StandFrom at e (a ++ b) → StandFrom at e a
   from_left [] b s = none_left
-  from_left (x ∷ a) b (one_more h s) = one_more h (from_left a b s)
+  from_left {e} (x ∷ a) b (one_more h s) = one_more h (from_left {e = e + 1} a b s)
 
   from_right : {e : ℕ} (a b : List Entry) → StandFrom at e (a ++ b) → StandFrom at (e + length a) b
   from_right {e} [] b s = let place : e ≡ e + 0 = omega arith in subst (λ (m : ℕ). StandFrom at m b) place s
   from_right {e} (x ∷ a) b (one_more h s) =
       let place : e + 1 + length a ≡ e + length (x ∷ a) = omega arith in
-      subst (λ (m : ℕ). StandFrom at m b) place (from_right a b s)
+      subst (λ (m : ℕ). StandFrom at m b) place (from_right {e = e + 1} a b s)
 
   from_head : {e : ℕ} {x : Entry} {es : List Entry} → StandFrom at e (x ∷ es) → at e ≡ x
   from_head (one_more h s) = h

@@ -1,4 +1,6 @@
 // The table's bytes: nothing else looks into a table or writes into one. An entry is there whole or not at all.
+#![tactic(auto)]
+
 pub mod entries;
 
 ghost use Rattle.std.specs.Prelude.{◌≡◌, ◌&&◌, ◌<◌, ◌^◌};
@@ -12,7 +14,7 @@ use grammar::Version;
 pub const ENTRY_SIZE: usize = 5;
 
 // An entry: a kind and two fields.
-#[derive(Drop)]
+#[derive(Clone, Copy)]
 pub struct Entry {
     pub kind: u8,
     pub first: usize,

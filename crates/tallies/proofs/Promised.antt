@@ -179,6 +179,7 @@ all_accepted (bad_request (bad_subject e f)) z i = absurd (omega arith)
 all_accepted (bad_request (bad_action e f g)) z i = absurd (omega arith)
 all_accepted (bad_request (bad_resource e f g h)) z i = absurd (omega arith)
 all_accepted (not_compiled f n) z i = absurd (omega arith)
+all_accepted none_refused z i = elim i [ ]
 
 -- what it is about
 pub record TallyHeard (c : TallyCall) : Type 0 where

@@ -34,14 +34,14 @@ const GROUP: usize = 68;
 const EIGHT: usize = 544;
 
 // How many policies and entries the table holds; none where no request asks for it.
-#[derive(Drop)]
+#[derive(Clone, Copy)]
 pub struct TableSize {
     pub policies: usize,
     pub entries: usize,
 }
 
 // What is asked: the sections of the question, its columns and its rows, and the rules.
-#[derive(Drop)]
+#[derive(Clone, Copy)]
 pub struct Asking {
     pub p: Sections,
     pub n: usize,

@@ -7,14 +7,14 @@ ghost use Rattle.tallies.specs.Tallies.{form_of, forms_of};
 use targets::forms::{is_action, is_system, resource_type, subject_type};
 
 // Where a part lies.
-#[derive(Drop)]
+#[derive(Clone, Copy)]
 pub struct LentSpan {
     pub start: usize,
     pub end: usize,
 }
 
 // Where the parts of a request lie. The next request starts at its resource's end.
-#[derive(Drop)]
+#[derive(Clone, Copy)]
 pub struct LentSpans {
     pub subject: LentSpan,
     pub action: LentSpan,
@@ -56,7 +56,7 @@ pub fn request_at(requests: &[u8], at: usize) -> LentSpans
 }
 
 // What is refused of a request by itself, 0 where nothing is; and whether the text and its table are looked at for it.
-#[derive(Drop)]
+#[derive(Clone, Copy)]
 pub struct RequestForm {
     pub asks: bool,
     pub refusal: u8,

@@ -1,4 +1,6 @@
 // The tally: how many rows of a question have each outcome, and how many each policy decides, for one to eight requests, with the sums.
+#![tactic(auto)]
+
 mod counting;
 mod lent;
 

@@ -1,8 +1,10 @@
 // Tallies test questions, and writes a line for each: `T` and the place and number of each count that is not 0, or `R` and the refusal's number and then a sum of
 // all the counts, which are lent with a pattern in them.
+#![tactic(auto)]
+
 ghost use Rattle.std.specs.Prelude.{◌<◌, ◌≤◌, length};
 
-use libc::STDOUT_FILENO;
+use streams::print_bytes;
 
 // The counts before the call: count n is n + 1.
 fn fill(counts: &mut [u32; 612]) {
@@ -27,31 +29,31 @@ fn sum_of(counts: &[u32]) -> u64
 }
 
 // Writes the place and the number of each count that is not 0.
-fn print_counts(counts: &[u32]) {
+fn print_counts<P: Print>(rt: &P, counts: &[u32]) {
     let mut i = 0;
     while i < counts.len() {
         if 0 < counts[i] {
-            vectors::print_more(i as u64);
-            vectors::print_more(counts[i] as u64);
+            vectors::print_more(rt, i as u64);
+            vectors::print_more(rt, counts[i] as u64);
         }
         i += 1;
     }
 }
 
-fn report(refusal: u32, counts: &[u32; 612]) {
+fn report<P: Print>(rt: &P, refusal: u32, counts: &[u32; 612]) {
     if 0 < refusal {
-        io::write_all(STDOUT_FILENO, b"R ");
-        vectors::print_number(refusal as u64, b' ');
-        vectors::print_number(sum_of(counts), b'\n');
+        print_bytes(rt, b"R ");
+        vectors::print_number(rt, refusal as u64, b' ');
+        vectors::print_number(rt, sum_of(counts), b'\n');
         return;
     }
-    io::write_all(STDOUT_FILENO, b"T");
-    print_counts(counts);
-    vectors::print_end();
+    print_bytes(rt, b"T");
+    print_counts(rt, counts);
+    vectors::print_end(rt);
 }
 
 // One vector, which lies unpacked in the memory: a text, a table, a question, the number of requests, and these as they are lent.
-fn vector(memory: &[u8], at: usize)
+fn vector<P: Print>(rt: &P, memory: &[u8], at: usize)
     requires { at ≤ length memory.now }
 {
     let text = packed::part_start(memory, at);
@@ -74,16 +76,17 @@ fn vector(memory: &[u8], at: usize)
         &memory[requests..requests_end],
         &mut counts,
     );
-    report(refusal, &counts);
+    report(rt, refusal, &counts);
 }
 
-fn main() {
+fn main(rt: HostRuntime) {
+    let mut input = rt.reader();
     let mut memory = [0u8; 131072];
     let mut at = 0;
-    let mut left = vectors::vector_count();
+    let mut left = vectors::vector_count(&mut input);
     while left > 0 {
-        let end = packed::read_vector(&mut memory, at);
-        vector(&memory, at);
+        let end = packed::read_vector(&mut input, &mut memory, at);
+        vector(&rt, &memory, at);
         at = packed::next_place(end);
         left -= 1;
     }

@@ -1,4 +1,6 @@
 // The token reader. The table of the classes is made once, by the outermost caller, and lent to every call.
+#![tactic(auto)]
+
 ghost use Rattle.std.specs.Prelude.{◌≡◌, true, cond, ◌<◌, ◌≤◌, ◌+◌, ◌^◌, leb, get_or, length};
 ghost use Rattle.tokens.specs.Kinds.{end_of_text};
 ghost use Rattle.tokens.specs.Runs.{is_of};

@@ -4,7 +4,7 @@ ghost use Rattle.tokens.specs.Runs.{is_of};
 ghost use Rattle.tokens.specs.Table.{class_table};
 
 // The sorts of bytes: four of the classes, what a word may go on with, what may stand in a string, and the marks that no second byte makes longer.
-#[derive(Drop)]
+#[derive(Clone, Copy)]
 pub enum Sort {
     Blanks,
     Marks,

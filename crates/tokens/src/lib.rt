@@ -1,4 +1,6 @@
 // The tokens of a rule text: what they are, and the classes of bytes. They are read in the crate token_reader.
+#![tactic(auto)]
+
 pub mod classes;
 pub mod kinds;
 pub mod reader;

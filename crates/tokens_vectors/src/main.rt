@@ -1,9 +1,12 @@
 // Reads all tokens of test texts, and writes a line for each text: how many tokens it has, a sum over all of them with their lines and columns, and the first
 // token that is refused, or the end. A refused token is passed like any other.
+#![tactic(auto)]
+
 ghost use Rattle.std.specs.Prelude.{◌≡◌, ℕ, ◌<◌, ◌≤◌};
 ghost use Rattle.tokens.specs.Table.{class_table};
 
 use places::{Place, place_of};
+use std::io::Read;
 use token_reader::next_token;
 use tokens::classes::class_table;
 use tokens::kinds;
@@ -35,18 +38,18 @@ fn first_refused(before: Token, t: Token) -> Token
 }
 
 // The line of a text: its tokens' number and sum, and the token told of with its place.
-fn report(count: usize, sum: u64, t: Token, p: Place) {
-    vectors::print_number(count as u64, b' ');
-    vectors::print_number(sum, b' ');
-    vectors::print_number(t.kind as u64, b' ');
-    vectors::print_number(t.start as u64, b' ');
-    vectors::print_number(t.end as u64, b' ');
-    vectors::print_number(p.line as u64, b' ');
-    vectors::print_number(p.column as u64, b'\n');
+fn report<P: Print>(rt: &P, count: usize, sum: u64, t: Token, p: Place) {
+    vectors::print_number(rt, count as u64, b' ');
+    vectors::print_number(rt, sum, b' ');
+    vectors::print_number(rt, t.kind as u64, b' ');
+    vectors::print_number(rt, t.start as u64, b' ');
+    vectors::print_number(rt, t.end as u64, b' ');
+    vectors::print_number(rt, p.line as u64, b' ');
+    vectors::print_number(rt, p.column as u64, b'\n');
 }
 
 // Reads all tokens of the text, up to its end, and writes its line.
-fn list(classes: &[u8; 256], text: &[u8])
+fn list<P: Print>(rt: &P, classes: &[u8; 256], text: &[u8])
     requires { classes.now ≡ class_table }
 {
     let mut at = 0;
@@ -63,7 +66,7 @@ fn list(classes: &[u8; 256], text: &[u8])
         told = first_refused(told, t);
         count += 1;
         if t.kind == kinds::END_OF_TEXT {
-            report(count, sum, told, place_of(text, told.start));
+            report(rt, count, sum, told, place_of(text, told.start));
             return;
         }
         at = t.end;
@@ -71,19 +74,20 @@ fn list(classes: &[u8; 256], text: &[u8])
 }
 
 // One vector: a text, which may be a few bytes too long.
-fn vector(classes: &[u8; 256])
+fn vector<P: Print, R: Read>(rt: &P, input: &mut R, classes: &[u8; 256])
     requires { classes.now ≡ class_table }
 {
     let mut text = [0u8; 8200];
-    let n = vectors::read_part(&mut text);
-    list(classes, &text[..n]);
+    let n = vectors::read_part(input, &mut text);
+    list(rt, classes, &text[..n]);
 }
 
-fn main() {
+fn main(rt: HostRuntime) {
+    let mut input = rt.reader();
     let classes = class_table();
-    let mut left = vectors::vector_count();
+    let mut left = vectors::vector_count(&mut input);
     while left > 0 {
-        vector(&classes);
+        vector(&rt, &mut input, &classes);
         left -= 1;
     }
 }

@@ -1,4 +1,6 @@
 // The row's turn in a walk over the rows of a question: the row is decided, and the walk goes on to the next. Whoever goes over the rows calls it for each.
+#![tactic(auto)]
+
 ghost use Rattle.std.specs.Prelude.{◌≡◌, cond, ℕ, ◌<◌, length};
 ghost use Rattle.views.specs.Places.{kept_heads, PlacesOf};
 ghost use Rattle.meaning.specs.Targets.{Request};
@@ -17,7 +19,7 @@ use slots::KEPT;
 
 // What a turn gives: the row's decision, its mark, the first column in which the next row may choose otherwise, and the mark that is kept for it: what the
 // policies say, whoever asks.
-#[derive(Drop)]
+#[derive(Clone, Copy)]
 pub struct Turn {
     pub d: Decision,
     pub mark: u64,

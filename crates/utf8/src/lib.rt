@@ -1,4 +1,6 @@
 // UTF-8 by RFC 3629: the character that stands at a place, and whether bytes are characters only.
+#![tactic(auto)]
+
 ghost use Rattle.std.specs.Prelude.{◌≡◌, ◌+◌, ◌<◌, length, get_or, drop};
 ghost use Rattle.slices.specs.Decides.{Decides};
 ghost use Rattle.utf8.specs.Characters.{OnlyAscii, Utf8};

@@ -1,56 +1,65 @@
 // What every program that runs test vectors shares. Standard input has the number of vectors in 4 bytes, and then each part of
 // each vector: its length in 2 bytes, and its bytes. Numbers have their low byte first; bytes that the input lacks count as 0.
+#![tactic(auto)]
+
 ghost use Rattle.std.specs.Prelude.{◌≡◌, not, [], T, get_or, ◌<◌, ◌≤◌};
 ghost use Rattle.std.specs.Float.Ieee.{is_nan};
-ghost use Rattle.io.specs.Counts.{IsPrefixLen};
+ghost use Rattle.streams.specs.Counts.{IsPrefixLen};
 
-use libc::{STDIN_FILENO, STDOUT_FILENO};
+use std::io::Read;
+use streams::{print_bytes, read_full};
 
 // The number of vectors.
-pub fn vector_count() -> u32 {
+pub fn vector_count<R: Read>(input: &mut R) -> u32 {
     let mut b = [0u8; 4];
-    io::read_full(STDIN_FILENO, &mut b);
+    read_full(input, &mut b);
     (two_bytes(b[0], b[1]) + two_bytes(b[2], b[3]) * 65536) as u32
 }
 
 // Reads the next part into the beginning of buf, and gives how many bytes came. What does not fit is passed over.
-pub fn read_part(buf: &mut [u8]) -> usize
+pub fn read_part<R: Read>(input: &mut R, buf: &mut [u8]) -> usize
     ensures { IsPrefixLen result buf.new }
 {
-    let size = part_size();
+    let size = part_size(input);
     if buf.len() < size {
-        let n = io::read_full(STDIN_FILENO, buf);
-        pass_over(size - buf.len());
+        let n = read_full(input, buf);
+        pass_over(input, size - buf.len());
         return n;
     }
-    io::read_full(STDIN_FILENO, &mut buf[..size])
+    read_full(input, &mut buf[..size])
 }
 
 // Writes a number, and a byte after it.
-pub fn print_number(n: u64, end: u8) {
-    io::print_decimal(STDOUT_FILENO, n);
+pub fn print_number<P: Print>(rt: &P, n: u64, end: u8) {
+    print_decimal(rt, n);
     let after = [end];
-    io::write_all(STDOUT_FILENO, &after);
+    print_bytes(rt, &after);
 }
 
 // Writes a blank and a number.
-pub fn print_more(n: u64) {
-    io::write_all(STDOUT_FILENO, b" ");
-    io::print_decimal(STDOUT_FILENO, n);
+pub fn print_more<P: Print>(rt: &P, n: u64) {
+    print_bytes(rt, b" ");
+    print_decimal(rt, n);
+}
+
+// Writes a number in decimal digits.
+pub fn print_decimal<P: Print>(rt: &P, n: u64) {
+    let _ = rt.print(n);
 }
 
 // Ends a line.
-pub fn print_end() {
-    io::write_all(STDOUT_FILENO, b"\n");
+pub fn print_end<P: Print>(rt: &P) {
+    print_bytes(rt, b"\n");
 }
 
 // Writes a number's bits as 16 hexadecimal digits, and a byte after them.
-pub fn print_bits(x: f64, end: u8)
+pub fn print_bits<P: Print>(rt: &P, x: f64, end: u8)
     requires { T (not (is_nan x)) }
 {
-    io::print_hex(STDOUT_FILENO, f64::to_bits(x), 16);
+    let bits = x.to_bits();
+    let _ = print!(rt; "{bits:016x}");
     let after = [end];
-    io::write_all(STDOUT_FILENO, &after);
+    print_bytes(rt, &after);
 }
 
 // 1 for yes, 0 for no.
@@ -100,11 +109,11 @@ pub fn stamp(bytes: &mut [u8], sum: u64) {
 }
 
 // The length of the next part.
-fn part_size() -> usize
+fn part_size<R: Read>(input: &mut R) -> usize
     ensures { result < 65536 }
 {
     let mut b = [0u8; 2];
-    io::read_full(STDIN_FILENO, &mut b);
+    read_full(input, &mut b);
     two_bytes(b[0], b[1])
 }
 
@@ -131,11 +140,11 @@ fn with_byte(n: u64, low: u8) -> u64 {
 }
 
 // Reads n bytes, and keeps none of them.
-fn pass_over(n: usize)
+fn pass_over<R: Read>(input: &mut R, n: usize)
     requires { n < 65536 }
 {
-    let mut space = io::large_buffer();
-    io::read_full(STDIN_FILENO, &mut space[..n]);
+    let mut space = [0u8; 65536];
+    read_full(input, &mut space[..n]);
 }
 
 // One of six by eight places, by column and choice.

@@ -1,5 +1,7 @@
 // Looks attributes up in rows of test questions, and writes a line for each: 24 where the bytes are no question, else the kind and the number's bits, and for a
 // string or a list the sum of its bytes. Choices that are none of their columns' candidates get a minus.
+#![tactic(auto)]
+
 ghost use Rattle.std.specs.Prelude.{true, [], ◌≡◌, ℕ, ◌<◌, ◌≤◌, T, length, get_or};
 ghost use Rattle.std.specs.Float.Ieee.Scale.{finite};
 ghost use Rattle.tokens.specs.Table.{class_table};
@@ -9,29 +11,30 @@ ghost use Rattle.questions.specs.Sizes.{most_question_bytes};
 
 use bags::sections::{Divided, Sections};
 use bags::values::{LIST, STRING};
-use libc::STDOUT_FILENO;
 use lookups::steps::value_next;
 use lookups::values::{Value, value_at};
 use questions::grid::{heads, places};
 use questions::question_sections;
 use slots::index_of;
+use std::io::Read;
+use streams::print_bytes;
 use tokens::classes::class_table;
 use vectors::place_at;
 use views::{attribute, chosen, with_columns};
 
 // A value's line.
-fn report(s: &[u8], v: Value)
+fn report<P: Print>(rt: &P, s: &[u8], v: Value)
     requires { T (finite v.number) × ValueWhole s.now v }
 {
     let kind = v.kind;
     let place = v.place;
-    vectors::print_number(kind as u64, b' ');
+    vectors::print_number(rt, kind as u64, b' ');
     if (kind == STRING) | (kind == LIST) {
-        vectors::print_bits(v.number, b' ');
+        vectors::print_bits(rt, v.number, b' ');
         let end = value_next(kind, s, place);
-        vectors::print_number(vectors::sum_of(&s[place..end]), b'\n');
+        vectors::print_number(rt, vectors::sum_of(&s[place..end]), b'\n');
     } else {
-        vectors::print_bits(v.number, b'\n');
+        vectors::print_bits(rt, v.number, b'\n');
     }
 }
 
@@ -55,7 +58,7 @@ fn are_candidates(grid: [[usize; 8]; 6], n: usize, choices: &[u8; 6]) -> bool
 }
 
 // The attribute in the row of these choices.
-fn row(s: &[u8], p: Sections, choices: &[u8; 6], root: u8, path: &[u8])
+fn row<P: Print>(rt: &P, s: &[u8], p: Sections, choices: &[u8; 6], root: u8, path: &[u8])
     requires { Question s.now p × (length s.now ≤ most_question_bytes) }
 {
     let at = p.end;
@@ -68,41 +71,42 @@ fn row(s: &[u8], p: Sections, choices: &[u8; 6], root: u8, path: &[u8])
         let base = index_of(s, p);
         let found = with_columns(base, n, &starts);
         let k = attribute(s, &found, &values, root, path);
-        report(s, value_at(s, k));
+        report(rt, s, value_at(s, k));
     } else {
-        io::write_all(STDOUT_FILENO, b"-\n");
+        print_bytes(rt, b"-\n");
     }
 }
 
-fn answer(classes: &[u8; 256], s: &[u8], choices: &[u8; 6], root: u8, path: &[u8])
+fn answer<P: Print>(rt: &P, classes: &[u8; 256], s: &[u8], choices: &[u8; 6], root: u8, path: &[u8])
     requires { classes.now ≡ class_table }
 {
     match question_sections(classes, s) {
-        Divided::Broken => vectors::print_number(24, b'\n'),
-        Divided::In(p) => row(s, p, choices, root, path),
+        Divided::Broken => vectors::print_number(rt, 24, b'\n'),
+        Divided::In(p) => row(rt, s, p, choices, root, path),
     }
 }
 
 // One vector: a question, the choices of six columns, a root byte and a path.
-fn vector(classes: &[u8; 256])
+fn vector<P: Print, R: Read>(rt: &P, input: &mut R, classes: &[u8; 256])
     requires { classes.now ≡ class_table }
 {
     let mut question = [0u8; 8192];
     let mut choices = [0u8; 6];
     let mut root = [0u8; 1];
     let mut path = [0u8; 256];
-    let q = vectors::read_part(&mut question);
-    vectors::read_part(&mut choices);
-    vectors::read_part(&mut root);
-    let p = vectors::read_part(&mut path);
-    answer(classes, &question[..q], &choices, root[0], &path[..p]);
+    let q = vectors::read_part(input, &mut question);
+    vectors::read_part(input, &mut choices);
+    vectors::read_part(input, &mut root);
+    let p = vectors::read_part(input, &mut path);
+    answer(rt, classes, &question[..q], &choices, root[0], &path[..p]);
 }
 
-fn main() {
+fn main(rt: HostRuntime) {
+    let mut input = rt.reader();
     let classes = class_table();
-    let mut left = vectors::vector_count();
+    let mut left = vectors::vector_count(&mut input);
     while left > 0 {
-        vector(&classes);
+        vector(&rt, &mut input, &classes);
         left -= 1;
     }
 }

@@ -1,5 +1,7 @@
 // How a condition is met from its last entry on: what is left of it after each part, and what its verdict becomes. The loop that takes these steps is in evaluating.
 // Kinds of entries have names (table::entries, docs/TABLE.md): from AND on they join parts.
+#![tactic(auto)]
+
 ghost use Rattle.std.specs.Prelude.{◌≡◌, ◌<◌};
 ghost use Rattle.meaning.specs.Conditions.{settles as settles_under, settled_if};
 ghost use Rattle.ways.specs.Ways.{first_met, part_met, ended_by, gone_on, entered_at, come_back, after_yes, after_no, after_missing, after_part, inside_part};
@@ -11,7 +13,7 @@ use table::{Entry, entries};
 // What is left to be met. It ends before entry number `at`; its Yes becomes `yes`, its No becomes `no`, and its Missing stays Missing. Where `at` is
 // 0 nothing is left, and it became `no`. Where `rest` is not 0, that is the verdict of the part that is met first of what ends before `rest`, whose
 // Yes becomes `held` and whose No becomes `kept`.
-#[derive(Drop)]
+#[derive(Clone, Copy)]
 pub struct Way {
     pub at: usize,
     pub yes: Verdict,

@@ -1,4 +1,6 @@
 // Reserved words: the kind of a word, and whether it is reserved; and the one that stands at a place of a text.
+#![tactic(auto)]
+
 pub mod standing;
 
 ghost use Rattle.std.specs.Prelude.{◌≡◌, cond, ◌||◌, length};

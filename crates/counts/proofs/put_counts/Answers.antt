@@ -1,0 +1,13 @@
+use Rattle.std.proofs.Common.{arith}
+use Rattle.counts.proofs.TallyLaws.{no_count, count_on}
+use Rattle.counts.proofs.put_counts.Goals as goal
+
+pub loop-n-init : goal.loop-n-init
+loop-n-init c = record { put = no_count _ _ _ _ _; within = omega arith; room = omega arith }
+
+pub loop-n-preserved : goal.loop-n-preserved
+loop-n-preserved c = record {
+  put = count_on _ _ _ _ c.loop-n.invariant.put c.whole-count.ensures c.put_two-filled.ensures.0;
+  within = omega arith;
+  room = omega arith;
+}

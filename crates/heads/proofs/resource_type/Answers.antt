@@ -1,0 +1,8 @@
+-- `heads::resource_type` meets its contract: the callees' results are the tests of `type_among`. Assumes nothing.
+use borrow.Author.Rules.{rules}
+use Rattle.grammar.specs.Rules.{resource_types, type_among}
+use Rattle.heads.proofs.resource_type.Goals as goal
+
+pub returns : goal.returns
+unfolding resource_types type_among
+returns c = rw (c.number_if.ensures, c.number_if-n-3.ensures, c.number_if-n-2.ensures, c.number_if-n.ensures)

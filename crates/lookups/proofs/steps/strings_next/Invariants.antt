@@ -1,0 +1,16 @@
+-- `lookups::steps::strings_next` meets its contract: the strings left end where all do. Assumes nothing.
+use Prim.Native.Nat.{◌-◌}
+use borrow.Author.Rules.{rules}
+use mathlib.Core.Path.{◌≡◌, refl, sym, ◌∙◌}
+use native.Mathlib.Omega.{arith}
+use Rattle.bags.proofs.ReadLaws.{First, first, same_end, many_done, many_more}
+use Rattle.bags.specs.Reading.{many}
+use Rattle.bags.specs.Values.{string_end}
+use Rattle.lookups.proofs.StepLaws.{two_more}
+use Rattle.lookups.proofs.steps.strings_next.Given as goal
+
+abbrev pub invariant-loop-left : goal.invariant-loop-left
+invariant-loop-left l = many l.left (string_end l.s) l.next ≡ many l.n (string_end l.s) l.at
+
+abbrev pub decreases-loop-left : goal.decreases-loop-left
+decreases-loop-left l = l.left

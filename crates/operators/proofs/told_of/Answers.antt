@@ -1,0 +1,9 @@
+-- `operators::told_of` meets its contract. Assumes nothing.
+use Rattle.operators.proofs.VerdictLaws.{told_yes, told_no}
+use Rattle.operators.proofs.told_of.Goals as goal
+
+pub returns-then-b : goal.returns-then-b
+returns-then-b c = told_yes _ c.if-b.true
+
+pub returns : goal.returns
+returns c = told_no _ c.if-b.false

@@ -1,0 +1,8 @@
+-- `targets::forms::resource_type` meets its contract: by the callee, for the resource types. Assumes nothing.
+use Rattle.parts.specs.Names.{types_of}
+use borrow.Author.Rules.{rules}
+use Rattle.targets.proofs.forms.resource_type.Goals as goal
+
+pub returns : goal.returns
+unfolding types_of
+returns c = c.typed.ensures
