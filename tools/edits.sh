@@ -39,6 +39,7 @@ function unfit(text) {
     if (text ~ /not in scope|no module.* is in scope|can be named|cannot be named|is no name|has no `/) return "a name is not there"
     if (text ~ /has no field|has no such|no goal of that name|names no goal|: record `[^`]*(\.Lts\.|\.View\.)/) return "a field or goal is not there"
     if (text ~ /unresolved/) return "a name is not resolved"
+    if (text ~ /no occurrence of/) return "a rewriting finds no place"
     if (text ~ /not determined|not yet determined/) return "a term is not determined"
     if (text ~ /operand is missing|expected the end|cannot continue|expected an? [`a-z]*, found/) return "it cannot be read"
     if (text ~ /was not admitted/) return "only what follows from another error was said"
