@@ -33,7 +33,7 @@ function defined_in(line, source, top, parts, n, i) {
     if (source ~ /\.rt$/) {
         n = split(line, parts, /[^A-Za-z0-9_]+/)
         for (i = 1; i < n; i++)
-            if (parts[i] ~ /^(fn|struct|enum|const|mod)$/) { defines[top, parts[i + 1]] = 1; return }
+            if (parts[i] ~ /^(fn|struct|enum|trait|const|static|mod)$/) { defines[top, parts[i + 1]] = 1; return }
         if (line ~ /^    [A-Z][A-Za-z]*(\(.*\))?,$/) { sub(/^ */, "", line); sub(/[(,].*/, "", line); defines[top, line] = 1 }
         return
     }

@@ -9,17 +9,17 @@ ghost use Rattle.folder.specs.Added.{Added};
 ghost use Rattle.streams.specs.Counts.{IsPrefixLen};
 ghost use Rattle.ask.specs.Lines.{version_in, compiled_line, decided_line, cases_from, answered_for, CaseAnswered, CasesAnswered, counted_for};
 
-use cases::{part_at, wide};
+use cases::part_at;
 use counts::put_tally;
 use desk::{DeskCompiled, DeskDecision};
-use folder::lines::{put_refusal, put_three, put_two, put_word};
-use folder::read_file;
+use folder::lines::{put_numbers, put_refusal};
+use folder::{print_refusal, read_file};
 use printing::print_folder;
 use std::env::{Env, FillError};
 use std::rt::Files;
 use streams::print_bytes;
 
-// Where the next case begins, and how many bytes of the buffer are filled.
+// Where the next case begins, and how many bytes of the buffer are filled. A buffer that grows would be no plainer: it takes an allocator, and each line could fail.
 #[derive(Clone, Copy)]
 pub struct CaseStep {
     pub next: usize,
@@ -34,7 +34,7 @@ fn put_compiled(out: &mut [u8], at: usize, c: DeskCompiled) -> usize
     if 0 < c.refusal {
         return put_refusal(out, at, c.refusal, c.line, c.column, c.length);
     }
-    put_two(out, at, b"compiled ", c.policies, c.bytes)
+    put_numbers(out, at, b"compiled ", &[c.policies, c.bytes])
 }
 
 // The line for what deciding answers.
@@ -45,8 +45,12 @@ fn put_decided(out: &mut [u8], at: usize, d: DeskDecision) -> usize
     if 0 < d.refusal {
         return put_refusal(out, at, d.refusal, 0, 0, 0);
     }
-    let first = put_word(out, at, b"decided ");
-    put_three(out, first, d.outcome as usize, d.policy, d.mark as usize)
+    put_numbers(
+        out,
+        at,
+        b"decided ",
+        &[d.outcome as usize, d.policy, d.mark as usize],
+    )
 }
 
 // Answers the case at a place, with its line behind those that the buffer holds.
@@ -62,28 +66,20 @@ fn answer_case<'a>(
     ensures { CaseAnswered text.now table.now cases.now at out.old filled out.new result }
 {
     let subject = part_at(cases, at);
-    let a = subject.start;
-    let b = subject.end;
-    let action = part_at(cases, b);
-    let c = action.start;
-    let d = action.end;
-    let resource = part_at(cases, d);
-    let e = resource.start;
-    let f = resource.end;
-    let bag = part_at(cases, f);
-    let g = bag.start;
-    let h = bag.end;
+    let action = part_at(cases, subject.end);
+    let resource = part_at(cases, action.end);
+    let bag = part_at(cases, resource.end);
     let answer = desk::desk_decide(
         text,
         table,
-        &cases[g..h],
-        &cases[a..b],
-        &cases[c..d],
-        &cases[e..f],
+        &cases[bag.start..bag.end],
+        &cases[subject.start..subject.end],
+        &cases[action.start..action.end],
+        &cases[resource.start..resource.end],
     );
     let line = put_decided(out, filled, answer);
     CaseStep {
-        next: h,
+        next: bag.end,
         filled: line,
     }
 }
@@ -110,6 +106,7 @@ fn answer_cases<'a>(
     let mut next = at;
     let mut filled = 0;
     let mut answered = 0;
+    // a `for` would be no plainer: each case says where the next begins
     while next < cases.len() {
         if out.len() - filled < 92 {
             return Answered {
@@ -136,6 +133,7 @@ fn print_cases<'a, P: Print>(rt: &P, text: &'a [u8], table: &[u8], cases: &'a [u
     let mut out = [0u8; 65536];
     let mut next = 0;
     let mut answered = 0;
+    // a `for` would be no plainer: how far some cases go is their answer
     while next < cases.len() {
         let some = answer_cases(text, table, cases, next, &mut out);
         let filled = some.step.filled;
@@ -180,13 +178,6 @@ fn print_counts<P: Print>(rt: &P, counts: &[u32; 612], rows: usize, many: usize,
     print_bytes(rt, &out[..n]);
 }
 
-// Prints the line of a refusal that has no place.
-fn print_refusal<P: Print>(rt: &P, number: u32) {
-    let mut out = [0u8; 92];
-    let n = put_refusal(&mut out, 0, number, 0, 0, 0);
-    print_bytes(rt, &out[..n]);
-}
-
 // Prints the tally of so many requests over rules with so many policies, or its refusal, and gives the refusal's number.
 fn print_tally<'a, P: Print>(
     rt: &P,
@@ -203,7 +194,7 @@ fn print_tally<'a, P: Print>(
     let mut counts = [0u32; 612];
     let refusal = desk::desk_tally(text, table, question, many, requests, &mut counts);
     if 0 < refusal {
-        print_refusal(rt, refusal);
+        print_refusal(rt, refusal, 0, 0, 0);
         return refusal;
     }
     print_counts(rt, &counts, desk::desk_rows(question), many, policies);
@@ -236,7 +227,7 @@ fn print_counted<'a, P: Print>(
         table,
         c.policies,
         question,
-        wide(requests[0]),
+        usize::from(requests[0]),
         &requests[1..n],
     )
 }
@@ -283,19 +274,15 @@ fn tally<R: Files + Print>(rt: &R, version: u64) {
 }
 
 // The number that a word says, 1 or 2; 0, which names no version, for any other word.
+#[tactic(auto, unfolding(crate::specs::Lines::version_in))]
 fn version_in(word: &[u8]) -> u64
     ensures { result ≡ version_in word.now }
 {
-    if word.len() != 1 {
-        return 0;
+    match word {
+        b"1" => 1,
+        b"2" => 2,
+        _ => 0,
     }
-    if word[0] == b'1' {
-        return 1;
-    }
-    if word[0] == b'2' {
-        return 2;
-    }
-    0
 }
 
 // The version that the second word names, and 1 where there is none; a word of more bytes comes as none.
@@ -312,19 +299,13 @@ fn version_asked<R: Env>(rt: &R) -> u64 {
 fn word_at<R: Env>(rt: &R, place: usize, word: &mut [u8]) -> usize
     ensures { IsPrefixLen result word.new }
 {
-    match rt.arg(place, word) {
-        Ok(n) => n,
-        Err(_) => 0,
-    }
+    rt.arg(place, word).unwrap_or(0)
 }
 
 // Whether there is no word at a place.
 fn has_no_word<R: Env>(rt: &R, place: usize) -> bool {
     let mut word = [0u8; 1];
-    match rt.arg(place, &mut word) {
-        Err(FillError::NotPresent) => true,
-        _ => false,
-    }
+    matches!(rt.arg(place, &mut word), Err(FillError::NotPresent))
 }
 
 fn main(rt: HostRuntime) {
@@ -332,15 +313,11 @@ fn main(rt: HostRuntime) {
     let n = word_at(&rt, 1, &mut word);
     let few = has_no_word(&rt, 3);
     let version = version_asked(&rt);
-    if few & slices::same(&word[..n], b"check") {
-        check(&rt, version);
-    } else if few & slices::same(&word[..n], b"decide") {
-        decide(&rt, version);
-    } else if few & slices::same(&word[..n], b"tally") {
-        tally(&rt, version);
-    } else if few & slices::same(&word[..n], b"sheet") {
-        print_folder(&rt, version);
-    } else {
-        print_bytes(&rt, b"usage check decide tally sheet\n");
+    match &word[..n] {
+        b"check" if few => check(&rt, version),
+        b"decide" if few => decide(&rt, version),
+        b"tally" if few => tally(&rt, version),
+        b"sheet" if few => print_folder(&rt, version),
+        _ => print_bytes(&rt, b"usage check decide tally sheet\n"),
     }
 }

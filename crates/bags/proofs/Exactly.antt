@@ -1,4 +1,5 @@
 -- The reader `is_bag` takes exactly the bytes of bags, and bytes are those of one bag only. Assumes nothing.
+use Rattle.std.specs.Prelude.{None, Option, Some}
 use Prim.Native.Nat.{ℕ, ◌+◌}
 use mathlib.Core.List.{List, ◌++◌}
 use mathlib.Core.Bool.{Bool, true, false, and-eq-true_iff, false≢true}
@@ -11,8 +12,6 @@ use lib.ListN.{length}
 use Rattle.bags.specs.Sections.{section_end, from_resource, from_env, sections_of, Sectioned, fill, is_bag}
 use Rattle.bags.specs.Forms.{Contents, SectionsBytes, sections, BagBytes, NoBag}
 use Rattle.bags.specs.declared.sections.Sections.{Sections}
-use Rattle.bags.specs.declared.sections.Divided.{Divided}
-use Rattle.bags.specs.declared.sections.Divided.TheVariants.{In, Broken}
 use Rattle.bags.proofs.SectionLaws.{sections_at, goes_on}
 use Rattle.bags.proofs.Laid.{Laid, laid_join, laid_split, laid_whole, whole_laid}
 use Rattle.bags.proofs.Told.{Told}
@@ -38,7 +37,7 @@ sections_sound s p w =
 -- the sections that are read, where their bytes stand
 pub record Divides (s : List ℕ) (e : ℕ) (c : Contents) : Type 0 where
   pub places : Sections
-  pub read : sections_of s ≡ In places
+  pub read : sections_of s ≡ Some places
   pub stop : places.end ≡ e
   pub are : c ≡ contents_at s places
 
@@ -62,11 +61,11 @@ sections_complete {s} {e} (sections {a} {b} {c} {p} {r} {n} fa fb fc) l =
 
 -- ---- a bag
 
-filled : (d : Divided) (n : ℕ) → fill d n ≡ true → (p : Sections) × ((d ≡ In p) × (p.end ≡ n))
-filled (In p) n h = (p, (refl, eqb-true _ _ h))
-filled Broken n h = absurd (let z : ◌≡◌ {A = ℕ} 0 1 = cc in omega arith)
+filled : (d : Option Sections) (n : ℕ) → fill d n ≡ true → (p : Sections) × ((d ≡ Some p) × (p.end ≡ n))
+filled (Some p) n h = (p, (refl, eqb-true _ _ h))
+filled None n h = absurd (let z : ◌≡◌ {A = ℕ} 0 1 = cc in omega arith)
 
-fills : (d : Divided) (p : Sections) (n : ℕ) → d ≡ In p → p.end ≡ n → fill d n ≡ true
+fills : (d : Option Sections) (p : Sections) (n : ℕ) → d ≡ Some p → p.end ≡ n → fill d n ≡ true
 fills d p n q e = rw q (eq-eqb _ _ e)
 
 module _ (s : List ℕ) where
@@ -98,13 +97,13 @@ module _ (s : List ℕ) where
       go false e n = e
 
 -- what the bytes say is what the reader's places hold
-pub bag_is : {s : List ℕ} {b : Contents} (p : Sections) → sections_of s ≡ In p → SectionsBytes s b → b ≡ contents_at s p
+pub bag_is : {s : List ℕ} {b : Contents} (p : Sections) → sections_of s ≡ Some p → SectionsBytes s b → b ≡ contents_at s p
 bag_is {s} {b} p q w =
     let d = sections_complete w (laid_whole s) in
     let r : d.places ≡ p = same d.read q in
     d.are ∙ ap (contents_at s) r
   where
-    same : {x : Divided} {a c : Sections} → x ≡ In a → x ≡ In c → a ≡ c
+    same : {x : Option Sections} {a c : Sections} → x ≡ Some a → x ≡ Some c → a ≡ c
     same h k = cc
 
 -- bytes are those of one bag

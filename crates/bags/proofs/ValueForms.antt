@@ -1,4 +1,5 @@
 -- The readers of strings, values, entries and sections take the bytes that the forms name, and read what they say. Assumes nothing.
+use Rattle.std.specs.Prelude.{Some}
 use Prim.Native.Nat.{ℕ, zero, suc, ◌+◌, ◌<◌, ◌≤◌}
 use mathlib.Core.List.{List, [], ◌∷◌, ◌++◌, map}
 use mathlib.Core.Bool.{true, ◌&&◌, and-eq-true_iff}
@@ -14,7 +15,6 @@ use Rattle.bags.specs.Values.{string_end, list_end, value_end}
 use Rattle.bags.specs.Sections.{path_at, kind_at, entry_end, ascending, Ascending, paths_of, entries_end, section_end}
 use Rattle.bags.specs.Data.{Datum, text, number, flag, texts, Entry, string_at, list_at, datum_at}
 use Rattle.bags.specs.Forms.{StringBytes, a_string, ValueBytes, string, eight, off, on, list, EntryBytes, entry, paths_in, SectionBytes, section}
-use Rattle.bags.specs.declared.After.TheVariants.{At}
 use Rattle.bags.proofs.ReadLaws.{only_at, same_end}
 use Rattle.bags.proofs.ValueLaws as values
 use Rattle.bags.proofs.ValueLaws.{string_whole, number_whole, flag_whole, list_whole, value_string, value_number, value_flag, value_list}
@@ -30,16 +30,16 @@ module _ (s : List ℕ) where
   record Short (at e : ℕ) : Type 0 where
     fits : at + 1 + byte s at ≤ length s
     few : byte s at ≤ 127
-    stop : At (at + 1 + byte s at) ≡ At e
+    stop : Some (at + 1 + byte s at) ≡ Some e
 
-  short : (at e : ℕ) → string_end s at ≡ At e → Short at e
+  short : (at e : ℕ) → string_end s at ≡ Some e → Short at e
   unfolding string_end
   short at e h =
-      let o = only_at (leb (at + 1 + byte s at) (length s) && leb (byte s at) 127) (At (at + 1 + byte s at)) e h in
+      let o = only_at (leb (at + 1 + byte s at) (length s) && leb (byte s at) 127) (Some (at + 1 + byte s at)) e h in
       let t = (and-eq-true_iff (leb (at + 1 + byte s at) (length s)) _).0 o.0 in
       record { fits = leb-true _ _ t.0; few = leb-true _ _ t.1; stop = o.1 }
 
-  string_sound : (at e : ℕ) → string_end s at ≡ At e → Told StringBytes s at e (string_at s at)
+  string_sound : (at e : ℕ) → string_end s at ≡ Some e → Told StringBytes s at e (string_at s at)
   unfolding string_at
   string_sound at e h =
       let w = short at e h in
@@ -53,14 +53,14 @@ module _ (s : List ℕ) where
         laid = laid_cons s at _ _ e (omega (arith, w.fits)) (sym n) (rw q at p.0);
       }
 
-  string_complete : {at e : ℕ} {b x : List ℕ} → StringBytes b x → Laid s at b e → (string_end s at ≡ At e) × (x ≡ string_at s at)
+  string_complete : {at e : ℕ} {b x : List ℕ} → StringBytes b x → Laid s at b e → (string_end s at ≡ Some e) × (x ≡ string_at s at)
   unfolding string_at
   string_complete {at} {e} (a_string {x} few) l =
       let h = laid_head l in
       let n : byte s at ≡ length x = h.first in
       let o = h.others in
       let q : at + 1 + byte s at ≡ e = omega (arith, o.stop, n) in
-      (sym (string_whole s at (omega (arith, o.inside)) (omega arith)) ∙ ap At q, rw n (sym (laid_is o)))
+      (sym (string_whole s at (omega (arith, o.inside)) (omega arith)) ∙ ap Some q, rw n (sym (laid_is o)))
 
   pub string_reads : Reads StringBytes s (string_end s) (λ at e. string_at s at)
   string_reads = record { sound = string_sound; complete = string_complete }
@@ -85,14 +85,14 @@ module _ (s : List ℕ) where
     datum_list j = rw j
 
   -- a list's count is small
-  list_few : (at e : ℕ) → list_end s at ≡ At e → (byte s at ≤ 16) × (at < length s) × (many (byte s at) (string_end s) (at + 1) ≡ At e)
+  list_few : (at e : ℕ) → list_end s at ≡ Some e → (byte s at ≤ 16) × (at < length s) × (many (byte s at) (string_end s) (at + 1) ≡ Some e)
   unfolding list_end
   list_few at e h =
       let o = only_at (ltb at (length s) && leb (byte s at) 16) (many (byte s at) (string_end s) (at + 1)) e h in
       let t = (and-eq-true_iff (ltb at (length s)) _).0 o.0 in
       (leb-true _ _ t.1, ltb-true _ _ t.0, o.1)
 
-  value_sound : (k e : ℕ) → value_end (byte s k) s (k + 1) ≡ At e → Told ValueBytes s k e (datum_at s k)
+  value_sound : (k e : ℕ) → value_end (byte s k) s (k + 1) ≡ Some e → Told ValueBytes s k e (datum_at s k)
   unfolding list_at
   value_sound k e h = go (value_at_lem (byte s k) s (k + 1) e h)
     where
@@ -128,7 +128,7 @@ module _ (s : List ℕ) where
             laid = laid_cons s k 4 _ e within j (laid_cons s (k + 1) _ _ e f.1 (sym n) m.0.laid);
           })
 
-  value_complete : {k e : ℕ} {b : List ℕ} {v : Datum} → ValueBytes b v → Laid s k b e → (value_end (byte s k) s (k + 1) ≡ At e) × (v ≡ datum_at s k)
+  value_complete : {k e : ℕ} {b : List ℕ} {v : Datum} → ValueBytes b v → Laid s k b e → (value_end (byte s k) s (k + 1) ≡ Some e) × (v ≡ datum_at s k)
   unfolding list_at
   value_complete {k} {e} (string f) l =
       let h = laid_head l in
@@ -140,7 +140,7 @@ module _ (s : List ℕ) where
       let q : k + 1 + 8 ≡ e = omega (arith, o.stop) in
       let i : k + 1 + 8 ≤ length s = omega (arith, o.inside) in
       let m = number_in o n in (
-        sym (value_number (byte s k) s (k + 1) h.first) ∙ sym (number_whole s (k + 1) i (rw m f)) ∙ ap At q,
+        sym (value_number (byte s k) s (k + 1) h.first) ∙ sym (number_whole s (k + 1) i (rw m f)) ∙ ap Some q,
         ap number (sym m) ∙ sym (datum_number k h.first),
       )
   value_complete {k} {e} off l =
@@ -148,13 +148,13 @@ module _ (s : List ℕ) where
       let g = laid_head h.others in
       let c : byte s (k + 1) ≡ 0 = g.first in
       let q : k + 1 + 1 ≡ e = omega (arith, g.others.stop) in
-      (sym (value_flag (byte s k) s (k + 1) h.first) ∙ sym (flag_whole s (k + 1) g.within (omega arith)) ∙ ap At q, sym (datum_flag k h.first ∙ rw c))
+      (sym (value_flag (byte s k) s (k + 1) h.first) ∙ sym (flag_whole s (k + 1) g.within (omega arith)) ∙ ap Some q, sym (datum_flag k h.first ∙ rw c))
   value_complete {k} {e} on l =
       let h = laid_head l in
       let g = laid_head h.others in
       let c : byte s (k + 1) ≡ 1 = g.first in
       let q : k + 1 + 1 ≡ e = omega (arith, g.others.stop) in
-      (sym (value_flag (byte s k) s (k + 1) h.first) ∙ sym (flag_whole s (k + 1) g.within (omega arith)) ∙ ap At q, sym (datum_flag k h.first ∙ rw c))
+      (sym (value_flag (byte s k) s (k + 1) h.first) ∙ sym (flag_whole s (k + 1) g.within (omega arith)) ∙ ap Some q, sym (datum_flag k h.first ∙ rw c))
   value_complete {k} {e} (list {b} {xs} few f) l =
       let h = laid_head l in
       let g = laid_head h.others in
@@ -173,7 +173,7 @@ module _ (s : List ℕ) where
   abbrev pub entry_here : ℕ → Entry Datum
   entry_here at = record { path = path_at s at; value = datum_at s (kind_at s at) }
 
-  entry_sound : (at e : ℕ) → entry_end s at ≡ At e → Told EntryBytes s at e (entry_here at)
+  entry_sound : (at e : ℕ) → entry_end s at ≡ Some e → Told EntryBytes s at e (entry_here at)
   entry_sound at e h =
       let w = entry_at s at e h in
       let t = value_sound (kind_at s at) e w.valued in
@@ -184,7 +184,7 @@ module _ (s : List ℕ) where
         laid = laid_cons s at _ _ e (omega (arith, w.named)) (sym p.1) (laid_join p.0 t.laid);
       }
 
-  entry_complete : {at e : ℕ} {b : List ℕ} {x : Entry Datum} → EntryBytes b x → Laid s at b e → (entry_end s at ≡ At e) × (x ≡ entry_here at)
+  entry_complete : {at e : ℕ} {b : List ℕ} {x : Entry Datum} → EntryBytes b x → Laid s at b e → (entry_end s at ≡ Some e) × (x ≡ entry_here at)
   entry_complete {at} {e} (entry {p} {b} {v} ok f) l =
       let h = laid_head l in
       let n : byte s at ≡ length p = h.first in
@@ -204,7 +204,7 @@ module _ (s : List ℕ) where
   unfoldable pub section_here : ℕ → List (Entry Datum)
   section_here at = each (byte s at) (entry_end s) (λ at e. entry_here at) (at + 1)
 
-  section_sound : (at e : ℕ) → section_end s at ≡ At e → Told SectionBytes s at e (section_here at)
+  section_sound : (at e : ℕ) → section_end s at ≡ Some e → Told SectionBytes s at e (section_here at)
   unfolding section_here
   section_sound at e h =
       let w = section_at_lem s at e h in
@@ -219,11 +219,11 @@ module _ (s : List ℕ) where
         laid = laid_cons s at _ _ e w.counted (sym n) m.0.laid;
       }
 
-  entries_whole : (n at e : ℕ) → ascending (paths_of n s at) ≡ true → many n (entry_end s) at ≡ At e → entries_end n s at ≡ At e
+  entries_whole : (n at e : ℕ) → ascending (paths_of n s at) ≡ true → many n (entry_end s) at ≡ Some e → entries_end n s at ≡ Some e
   unfolding entries_end
   entries_whole n at e a h = rw a h
 
-  section_complete : {at e : ℕ} {b : List ℕ} {es : List (Entry Datum)} → SectionBytes b es → Laid s at b e → (section_end s at ≡ At e) × (es ≡ section_here at)
+  section_complete : {at e : ℕ} {b : List ℕ} {es : List (Entry Datum)} → SectionBytes b es → Laid s at b e → (section_end s at ≡ Some e) × (es ≡ section_here at)
   unfolding section_here
   section_complete {at} {e} (section {b} {es} few asc f) l =
       let h = laid_head l in

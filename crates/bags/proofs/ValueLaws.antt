@@ -1,4 +1,5 @@
 -- The cases of a value's end, as the code's tests tell them apart, and what a value that ends tells. Assumes nothing.
+use Rattle.std.specs.Prelude.{None, Some}
 use Prim.Native.Nat.{ℕ, ◌+◌, ◌<◌, ◌≤◌}
 use mathlib.Core.List.{List}
 use mathlib.Core.Bool.{Bool, true, false, ◌&&◌, and-eq-true_iff}
@@ -11,53 +12,52 @@ use lib.ListN.{length}
 use Rattle.numbers.specs.Bits.{number_at}
 use Rattle.bags.specs.Reading.{byte, many}
 use Rattle.bags.specs.Values.{string_end, number_end, flag_end, list_end, value_end}
-use Rattle.bags.specs.declared.After.TheVariants.{At, Bad}
 use Rattle.bags.proofs.ReadLaws.{bad_at, only_at, many_inside}
 
 -- ---- the cases
 
 module _ (s : List ℕ) (at : ℕ) where
-  pub string_cut : length s < at + 1 + byte s at → Bad ≡ string_end s at
+  pub string_cut : length s < at + 1 + byte s at → None ≡ string_end s at
   unfolding string_end
   string_cut h = simp (lt-leb _ _ h)
 
-  pub string_long : at + 1 + byte s at ≤ length s → 127 < byte s at → Bad ≡ string_end s at
+  pub string_long : at + 1 + byte s at ≤ length s → 127 < byte s at → None ≡ string_end s at
   unfolding string_end
   string_long h n = simp (le-leb _ _ h, lt-leb _ _ n)
 
-  pub string_whole : at + 1 + byte s at ≤ length s → byte s at ≤ 127 → At (at + 1 + byte s at) ≡ string_end s at
+  pub string_whole : at + 1 + byte s at ≤ length s → byte s at ≤ 127 → Some (at + 1 + byte s at) ≡ string_end s at
   unfolding string_end
   string_whole h n = simp (le-leb _ _ h, le-leb _ _ n)
 
-  pub number_cut : length s < at + 8 → Bad ≡ number_end s at
+  pub number_cut : length s < at + 8 → None ≡ number_end s at
   unfolding number_end
   number_cut h = simp (lt-leb _ _ h)
 
-  pub number_infinite : at + 8 ≤ length s → finite (number_at s at) ≡ false → Bad ≡ number_end s at
+  pub number_infinite : at + 8 ≤ length s → finite (number_at s at) ≡ false → None ≡ number_end s at
   unfolding number_end
   number_infinite h f = simp (le-leb _ _ h, f)
 
-  pub number_whole : at + 8 ≤ length s → finite (number_at s at) ≡ true → At (at + 8) ≡ number_end s at
+  pub number_whole : at + 8 ≤ length s → finite (number_at s at) ≡ true → Some (at + 8) ≡ number_end s at
   unfolding number_end
   number_whole h f = simp (le-leb _ _ h, f)
 
-  pub flag_none : length s ≤ at → Bad ≡ flag_end s at
+  pub flag_none : length s ≤ at → None ≡ flag_end s at
   unfolding flag_end
   flag_none h = simp (le-ltb _ _ h)
 
-  pub flag_high : at < length s → 1 < byte s at → Bad ≡ flag_end s at
+  pub flag_high : at < length s → 1 < byte s at → None ≡ flag_end s at
   unfolding flag_end
   flag_high h n = simp (lt-ltb _ _ h, lt-leb _ _ n)
 
-  pub flag_whole : at < length s → byte s at ≤ 1 → At (at + 1) ≡ flag_end s at
+  pub flag_whole : at < length s → byte s at ≤ 1 → Some (at + 1) ≡ flag_end s at
   unfolding flag_end
   flag_whole h n = simp (lt-ltb _ _ h, le-leb _ _ n)
 
-  pub list_none : length s ≤ at → Bad ≡ list_end s at
+  pub list_none : length s ≤ at → None ≡ list_end s at
   unfolding list_end
   list_none h = simp (le-ltb _ _ h)
 
-  pub list_long : at < length s → 16 < byte s at → Bad ≡ list_end s at
+  pub list_long : at < length s → 16 < byte s at → None ≡ list_end s at
   unfolding list_end
   list_long h n = simp (lt-ltb _ _ h, lt-leb _ _ n)
 
@@ -84,7 +84,7 @@ module _ (kind : ℕ) (s : List ℕ) (at : ℕ) where
   unfolding value_end
   value_list h = rw h
 
-  pub value_none : (kind ≡ 1 → ⊥) → (kind ≡ 2 → ⊥) → (kind ≡ 3 → ⊥) → (kind ≡ 4 → ⊥) → Bad ≡ value_end kind s at
+  pub value_none : (kind ≡ 1 → ⊥) → (kind ≡ 2 → ⊥) → (kind ≡ 3 → ⊥) → (kind ≡ 4 → ⊥) → None ≡ value_end kind s at
   unfolding value_end
   value_none a b c d = simp (ne_eqb _ _ a, ne_eqb _ _ b, ne_eqb _ _ c, ne_eqb _ _ d)
 
@@ -106,33 +106,33 @@ pub record Flag (s : List ℕ) (at e : ℕ) : Type 0 where
 
 pub record Strings (s : List ℕ) (at e : ℕ) : Type 0 where
   pub counted : at < length s
-  pub are : many (byte s at) (string_end s) (at + 1) ≡ At e
+  pub are : many (byte s at) (string_end s) (at + 1) ≡ Some e
 
-ends : {a b : ℕ} → At a ≡ At b → b ≡ a
+ends : {a b : ℕ} → Some a ≡ Some b → b ≡ a
 ends p = cc
 
 module _ (s : List ℕ) (at e : ℕ) where
-  pub string_at_lem : string_end s at ≡ At e → String s at e
+  pub string_at_lem : string_end s at ≡ Some e → String s at e
   unfolding string_end
   string_at_lem h =
-      let o = only_at (leb (at + 1 + byte s at) (length s) && leb (byte s at) 127) (At (at + 1 + byte s at)) e h in
+      let o = only_at (leb (at + 1 + byte s at) (length s) && leb (byte s at) 127) (Some (at + 1 + byte s at)) e h in
       record { fits = leb-true _ _ ((and-eq-true_iff (leb (at + 1 + byte s at) (length s)) _).0 o.0).0; stop = ends o.1 }
 
-  number_at_lem : number_end s at ≡ At e → Number s at e
+  number_at_lem : number_end s at ≡ Some e → Number s at e
   unfolding number_end
   number_at_lem h =
-      let o = only_at (leb (at + 8) (length s) && finite (number_at s at)) (At (at + 8)) e h in
+      let o = only_at (leb (at + 8) (length s) && finite (number_at s at)) (Some (at + 8)) e h in
       let t = (and-eq-true_iff (leb (at + 8) (length s)) _).0 o.0 in
       record { fits = leb-true _ _ t.0; is = t.1; stop = ends o.1 }
 
-  flag_at : flag_end s at ≡ At e → Flag s at e
+  flag_at : flag_end s at ≡ Some e → Flag s at e
   unfolding flag_end
   flag_at h =
-      let o = only_at (ltb at (length s) && leb (byte s at) 1) (At (at + 1)) e h in
+      let o = only_at (ltb at (length s) && leb (byte s at) 1) (Some (at + 1)) e h in
       let t = (and-eq-true_iff (ltb at (length s)) _).0 o.0 in
       record { fits = ltb-true _ _ t.0; is = leb-true _ _ t.1; stop = ends o.1 }
 
-  list_at : list_end s at ≡ At e → Strings s at e
+  list_at : list_end s at ≡ Some e → Strings s at e
   unfolding list_end
   list_at h =
       let o = only_at (ltb at (length s) && leb (byte s at) 16) (many (byte s at) (string_end s) (at + 1)) e h in
@@ -145,7 +145,7 @@ pub data Ended (kind : ℕ) (s : List ℕ) (at e : ℕ) : Type 0 where
   flag : kind ≡ 3 → Flag s at e → Ended kind s at e
   list : kind ≡ 4 → Strings s at e → Ended kind s at e
 
-pub value_at_lem : (kind : ℕ) (s : List ℕ) (at e : ℕ) → value_end kind s at ≡ At e → Ended kind s at e
+pub value_at_lem : (kind : ℕ) (s : List ℕ) (at e : ℕ) → value_end kind s at ≡ Some e → Ended kind s at e
 value_at_lem kind s at e h = go (eqb kind 1) (eqb kind 2) (eqb kind 3) (eqb kind 4) refl refl refl refl
   where
     go : (a b c d : Bool) → eqb kind 1 ≡ a → eqb kind 2 ≡ b → eqb kind 3 ≡ c → eqb kind 4 ≡ d → Ended kind s at e
@@ -156,11 +156,11 @@ value_at_lem kind s at e h = go (eqb kind 1) (eqb kind 2) (eqb kind 3) (eqb kind
     go false false false false p q r t =
         absurd (bad_at (value_none kind s at (eqb-false kind 1 p) (eqb-false kind 2 q) (eqb-false kind 3 r) (eqb-false kind 4 t) ∙ h))
 
-string_inside : (s : List ℕ) (at e : ℕ) → string_end s at ≡ At e → (at ≤ e) × (e ≤ length s)
+string_inside : (s : List ℕ) (at e : ℕ) → string_end s at ≡ Some e → (at ≤ e) × (e ≤ length s)
 string_inside s at e h = let w = string_at_lem s at e h in (omega arith, omega arith)
 
 -- a value lies inside the bytes
-pub value_inside : (kind : ℕ) (s : List ℕ) (at e : ℕ) → value_end kind s at ≡ At e → (at ≤ e) × (e ≤ length s)
+pub value_inside : (kind : ℕ) (s : List ℕ) (at e : ℕ) → value_end kind s at ≡ Some e → (at ≤ e) × (e ≤ length s)
 value_inside kind s at e h = go (value_at_lem kind s at e h)
   where
     go : Ended kind s at e → (at ≤ e) × (e ≤ length s)

@@ -1,41 +1,39 @@
 -- Things read from bytes, one after the other. A reader says where the thing that starts at a place ends, or Bad. Definitions only.
-use Rattle.std.specs.Prelude.{ℕ, zero, suc, List, [], ◌∷◌, Bool, true, false, eqb, get_or}
-use Rattle.bags.specs.declared.After.{After}
-use Rattle.bags.specs.declared.After.TheVariants.{At, Bad}
+use Rattle.std.specs.Prelude.{ℕ, zero, suc, List, [], ◌∷◌, Bool, true, false, eqb, get_or, None, Option, Some}
 
 infixr 5 ◌then◌
 -- go on where the first thing ended
-abbrev pub ◌then◌ : After → (ℕ → After) → After
-At e then next = next e
-Bad then next = Bad
+abbrev pub ◌then◌ : Option ℕ → (ℕ → Option ℕ) → Option ℕ
+Some e then next = next e
+None then next = None
 
 -- only where the test holds
-abbrev pub only : Bool → After → After
+abbrev pub only : Bool → Option ℕ → Option ℕ
 only true a = a
-only false a = Bad
+only false a = None
 
 -- whether it ended at a place
-abbrev pub ends_at : After → ℕ → Bool
-ends_at (At e) n = eqb e n
-ends_at Bad n = false
+abbrev pub ends_at : Option ℕ → ℕ → Bool
+ends_at (Some e) n = eqb e n
+ends_at None n = false
 
 -- the place where it ended, and 0 where it is Bad
-abbrev pub end_place : After → ℕ
-end_place (At e) = e
-end_place Bad = 0
+abbrev pub end_place : Option ℕ → ℕ
+end_place (Some e) = e
+end_place None = 0
 
 -- n things, one after the other
-unfoldable pub many : ℕ → (ℕ → After) → ℕ → After
-many zero next at = At at
+unfoldable pub many : ℕ → (ℕ → Option ℕ) → ℕ → Option ℕ
+many zero next at = Some at
 many (suc n) next at = next at then many n next
 
 -- what stands from the end of the first thing on; nothing after a Bad one
-abbrev pub following : {A : Type 0} → After → (ℕ → List A) → List A
-following (At e) rest = rest e
-following Bad rest = []
+abbrev pub following : {A : Type 0} → Option ℕ → (ℕ → List A) → List A
+following (Some e) rest = rest e
+following None rest = []
 
 -- what each of n things is, one after the other, by where it starts and ends
-unfoldable pub each : {A : Type 0} → ℕ → (ℕ → After) → (ℕ → ℕ → A) → ℕ → List A
+unfoldable pub each : {A : Type 0} → ℕ → (ℕ → Option ℕ) → (ℕ → ℕ → A) → ℕ → List A
 each zero next what at = []
 each (suc n) next what at = following (next at) λ e. what at e ∷ each n next what e
 

@@ -1,6 +1,5 @@
-// Paths. The table of the classes is made once, by the outermost caller, and lent to every call.
+// Paths.
 ghost use Rattle.std.specs.Prelude.{◌≡◌, true};
-ghost use Rattle.tokens.specs.Table.{class_table};
 ghost use Rattle.tokens.specs.Runs.{is_of};
 ghost use Rattle.tokens.specs.declared.classes.Sort.TheVariants.{WordBytes};
 ghost use Rattle.bags.specs.Paths.{every, is_name, is_path};
@@ -11,20 +10,15 @@ use tokens::sizes::MOST_PATH_BYTES;
 use words::is_reserved;
 
 // Whether a run of word bytes is a name.
-fn is_name(classes: &[u8; 256], run: &[u8]) -> bool
-    requires classes_value { classes.now ≡ class_table }
+fn is_name(run: &[u8]) -> bool
     requires run_value { every (is_of WordBytes) run.now ≡ true }
     ensures { result ≡ is_name run.now }
 {
-    if run.len() == 0 {
-        return false;
-    }
-    is_of(classes, Sort::Letters, run[0]) & !is_reserved(run)
+    !run.is_empty() && is_of(Sort::Letters, run[0]) && !is_reserved(run)
 }
 
 // Whether bytes are a path.
-pub fn is_path(classes: &[u8; 256], path: &[u8]) -> bool
-    requires { classes.now ≡ class_table }
+pub fn is_path(path: &[u8]) -> bool
     ensures { result ≡ is_path path.now }
 {
     if MOST_PATH_BYTES < path.len() {
@@ -32,8 +26,8 @@ pub fn is_path(classes: &[u8; 256], path: &[u8]) -> bool
     }
     let mut at = 0;
     loop {
-        let end = run_end(classes, path, at, Sort::WordBytes);
-        if !is_name(classes, &path[at..end]) {
+        let end = run_end(path, at, Sort::WordBytes);
+        if !is_name(&path[at..end]) {
             return false;
         }
         if end == path.len() {

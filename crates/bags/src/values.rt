@@ -1,9 +1,8 @@
 // Values, by their kinds.
 ghost use Rattle.std.specs.Prelude.{◌≡◌};
-ghost use Rattle.bags.specs.Reading.{many};
 ghost use Rattle.bags.specs.Values.{string_end, number_end, flag_end, list_end, value_end};
 
-use crate::After;
+use crate::reading::{Thing, many_end};
 use crate::sizes::MOST_STRINGS;
 use numbers::bits::is_number_at;
 use tokens::sizes::MOST_STRING_BYTES;
@@ -19,96 +18,57 @@ pub const FLAG: u8 = 3;
 
 pub const LIST: u8 = 4;
 
-fn string_end(s: &[u8], at: usize) -> After
-    ensures { result ≡ string_end s.now at }
-{
-    if s.len() <= at {
-        return After::Bad;
+// A string: a length byte, and that many bytes.
+pub struct Text;
+
+impl Thing for Text {
+    ghost ending = { string_end };
+
+    fn end(s: &[u8], at: usize) -> Option<usize> {
+        let n = usize::from(*s.get(at)?);
+        if n < s.len() - at && n <= MOST_STRING_BYTES {
+            Some(at + 1 + n)
+        } else {
+            None
+        }
     }
-    let n = s[at] as usize;
-    if s.len() - at <= n {
-        return After::Bad;
-    }
-    if MOST_STRING_BYTES < n {
-        return After::Bad;
-    }
-    After::At(at + 1 + n)
 }
 
-fn number_end(s: &[u8], at: usize) -> After
+fn number_end(s: &[u8], at: usize) -> Option<usize>
     ensures { result ≡ number_end s.now at }
 {
-    if s.len() <= at {
-        return After::Bad;
-    }
-    if s.len() - at < 8 {
-        return After::Bad;
-    }
-    if is_number_at(s, at) {
-        After::At(at + 8)
+    if at < s.len() && 8 <= s.len() - at && is_number_at(s, at) {
+        Some(at + 8)
     } else {
-        After::Bad
+        None
     }
 }
 
-fn flag_end(s: &[u8], at: usize) -> After
+fn flag_end(s: &[u8], at: usize) -> Option<usize>
     ensures { result ≡ flag_end s.now at }
 {
-    if s.len() <= at {
-        return After::Bad;
-    }
-    if 1 < s[at] {
-        return After::Bad;
-    }
-    After::At(at + 1)
+    if *s.get(at)? <= 1 { Some(at + 1) } else { None }
 }
 
-// `n` strings, one after the other.
-fn strings_end(n: usize, s: &[u8], at: usize) -> After
-    ensures { result ≡ many n (string_end s.now) at }
-{
-    let mut left = n;
-    let mut next = at;
-    while 0 < left {
-        match string_end(s, next) {
-            After::Bad => return After::Bad,
-            After::At(e) => {
-                next = e;
-            }
-        }
-        left -= 1;
-    }
-    After::At(next)
-}
-
-fn list_end(s: &[u8], at: usize) -> After
+fn list_end(s: &[u8], at: usize) -> Option<usize>
     ensures { result ≡ list_end s.now at }
 {
-    if s.len() <= at {
-        return After::Bad;
-    }
-    let n = s[at] as usize;
+    let n = usize::from(*s.get(at)?);
     if MOST_STRINGS < n {
-        return After::Bad;
+        return None;
     }
-    strings_end(n, s, at + 1)
+    many_end::<Text>(n, s, at + 1)
 }
 
 // The end of the value of a kind.
-pub fn value_end(kind: u8, s: &[u8], at: usize) -> After
+pub fn value_end(kind: u8, s: &[u8], at: usize) -> Option<usize>
     ensures { result ≡ value_end kind s.now at }
 {
-    if kind == STRING {
-        return string_end(s, at);
+    match kind {
+        STRING => Text::end(s, at),
+        NUMBER => number_end(s, at),
+        FLAG => flag_end(s, at),
+        LIST => list_end(s, at),
+        _ => None,
     }
-    if kind == NUMBER {
-        return number_end(s, at);
-    }
-    if kind == FLAG {
-        return flag_end(s, at);
-    }
-    if kind == LIST {
-        return list_end(s, at);
-    }
-    After::Bad
 }

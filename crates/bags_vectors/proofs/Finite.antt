@@ -6,16 +6,16 @@ use lib.Dec.{T}
 use lib.Ieee.Scale.{finite}
 use Rattle.numbers.proofs.Exponent.{finite_by_bits}
 use Rattle.lookups.specs.Lookups.{lookup_of, lookup_said}
-use Rattle.lookups.specs.declared.Answer.{Answer}
-use Rattle.lookups.specs.declared.Answer.TheVariants.{Found, Refused}
+use Rattle.lookups.specs.declared.values.Value.{Value}
+use Rattle.std.specs.Prelude.{Result, Ok, Err}
 use Rattle.lookups.proofs.Answers.{found_finite}
 use Rattle.desk.specs.Answers.{lookup_says, found_as}
 use Rattle.desk.specs.declared.DeskValue.{DeskValue}
 
 module _ (bag : List ℕ) (root : ℕ) (path : List ℕ) where
-  said_finite : (a : Answer) → lookup_of bag root path ≡ a → T (finite (lookup_said a).number)
-  said_finite (Found v) e = found_finite bag root path v e
-  said_finite (Refused n) e = rw (finite_by_bits 0) tt
+  said_finite : (a : Result Value ℕ) → lookup_of bag root path ≡ a → T (finite (lookup_said a).number)
+  said_finite (Ok v) e = found_finite bag root path v e
+  said_finite (Err n) e = rw (finite_by_bits 0) tt
 
   pub value_finite : {v : DeskValue} → v ≡ lookup_says bag root path → T (finite v.number)
   unfolding lookup_says

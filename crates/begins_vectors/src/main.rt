@@ -2,22 +2,21 @@
 #![tactic(auto)]
 
 use std::io::Read;
+use vectors::{read_part, vector_count};
 
 // One vector: a text and a table.
 fn vector<P: Print, R: Read>(rt: &P, input: &mut R) {
     let mut text = [0u8; 8300];
-    let n = vectors::read_part(input, &mut text);
+    let n = read_part(input, &mut text);
     let mut table = [0u8; 65536];
-    let m = vectors::read_part(input, &mut table);
-    let yes = desk::desk_begins(&text[..n], &table[..m]);
-    vectors::print_number(rt, yes as u64, b'\n');
+    let m = read_part(input, &mut table);
+    let begins = desk::desk_begins(&text[..n], &table[..m]);
+    let _ = println!(rt; "{}", u8::from(begins));
 }
 
 fn main(rt: HostRuntime) {
     let mut input = rt.reader();
-    let mut left = vectors::vector_count(&mut input);
-    while left > 0 {
+    for _ in 0..vector_count(&mut input) {
         vector(&rt, &mut input);
-        left -= 1;
     }
 }

@@ -4,22 +4,14 @@
 
 ghost use Rattle.std.specs.Prelude.{◌<◌};
 
-use compiling::{Compiled, begins, compile};
+use compiling::{Compiled, Refused, begins, compile};
+use vectors::{read_part, stamp, vector_count};
 
 // The bytes used, or the refusal's number.
-fn used(answer: Compiled) -> u64 {
+fn used(answer: Result<Compiled, Refused>) -> u64 {
     match answer {
-        Compiled::Policies(_, bytes) => bytes as u64,
-        Compiled::Refused(number, _) => number as u64,
-    }
-}
-
-// The sum goes into the table's last byte before each call, so the compiler can neither drop a call nor take one for all.
-fn stamp(table: &mut [u8], sum: u64) {
-    let n = table.len();
-    if 0 < n {
-        let last = n - 1;
-        table[last] = (sum % 256) as u8;
+        Ok(c) => c.bytes as u64,
+        Err(r) => u64::from(r.number),
     }
 }
 
@@ -36,10 +28,8 @@ fn compile_once(text: &[u8], table: &mut [u8], sum: u64) -> u64
 // Compiles so many times.
 fn compile_often(times: u32, text: &[u8], table: &mut [u8]) -> u64 {
     let mut sum: u64 = 0;
-    let mut left = times;
-    while left > 0 {
+    for _ in 0..times {
         sum = compile_once(text, table, sum);
-        left -= 1;
     }
     sum
 }
@@ -50,17 +40,14 @@ fn ask_once(text: &[u8], table: &mut [u8], sum: u64) -> u64
     ensures { result < 1000003 }
 {
     stamp(table, sum);
-    let yes = begins(text, table);
-    (sum + vectors::one_if(yes)) % 1000003
+    (sum + u64::from(begins(text, table))) % 1000003
 }
 
 // Asks so many times.
 fn ask_often(times: u32, text: &[u8], table: &mut [u8]) -> u64 {
     let mut sum: u64 = 0;
-    let mut left = times;
-    while left > 0 {
+    for _ in 0..times {
         sum = ask_once(text, table, sum);
-        left -= 1;
     }
     sum
 }
@@ -70,11 +57,10 @@ fn main(rt: HostRuntime) {
     let mut input = rt.reader();
     let mut table = [0u8; 65537];
     let mut text = [0u8; 8192];
-    let compiles = vectors::vector_count(&mut input);
-    let asks = vectors::vector_count(&mut input);
-    let n = vectors::read_part(&mut input, &mut text);
+    let compiles = vector_count(&mut input);
+    let asks = vector_count(&mut input);
+    let n = read_part(&mut input, &mut text);
     let a = compile_often(compiles, &text[..n], &mut table);
     let b = ask_often(asks, &text[..n], &mut table);
-    vectors::print_number(&rt, a, b' ');
-    vectors::print_number(&rt, b, b'\n');
+    let _ = println!(rt; "{a} {b}");
 }

@@ -4,9 +4,10 @@
 
 ghost use Rattle.std.specs.Prelude.{◌<◌};
 
-use compiling::{Compiled, compile};
-use deciding::{Answer, decide};
-use meaning::Decision;
+use compiling::compile;
+use deciding::decide;
+use meaning::{Decision, Marked};
+use vectors::{read_part, stamp, vector_count};
 
 // A number for each decision.
 fn decided(d: Decision) -> u64
@@ -21,24 +22,12 @@ fn decided(d: Decision) -> u64
 }
 
 // A number for each answer, with something of its mark.
-fn told(answer: Answer) -> u64
+fn told(answer: Result<Marked, u8>) -> u64
     ensures { result < 1000003 }
 {
     match answer {
-        Answer::Refused(number) => number as u64,
-        Answer::Decided(m) => {
-            let d = m.d;
-            decided(d) + m.mark % 1000
-        }
-    }
-}
-
-// The sum goes into the table's last byte before each call, so the compiler can neither drop a call nor take one for all.
-fn stamp(table: &mut [u8], sum: u64) {
-    let n = table.len();
-    if 0 < n {
-        let last = n - 1;
-        table[last] = (sum % 256) as u8;
+        Err(number) => u64::from(number),
+        Ok(m) => decided(m.d) + m.mark % 1000,
     }
 }
 
@@ -71,10 +60,8 @@ fn decide_often<'a>(
     resource: &[u8],
 ) -> u64 {
     let mut sum: u64 = 0;
-    let mut left = times;
-    while left > 0 {
+    for _ in 0..times {
         sum = decide_once(text, table, bag, subject, action, resource, sum);
-        left -= 1;
     }
     sum
 }
@@ -88,15 +75,15 @@ fn main(rt: HostRuntime) {
     let mut subject = [0u8; 101];
     let mut action = [0u8; 101];
     let mut resource = [0u8; 101];
-    let times = vectors::vector_count(&mut input);
-    let version = vectors::vector_count(&mut input);
-    let c = vectors::read_part(&mut input, &mut compiled);
-    let n = vectors::read_part(&mut input, &mut text);
-    let b = vectors::read_part(&mut input, &mut bag);
-    let s = vectors::read_part(&mut input, &mut subject);
-    let a = vectors::read_part(&mut input, &mut action);
-    let r = vectors::read_part(&mut input, &mut resource);
-    compile(version as u64, &compiled[..c], &mut table);
+    let times = vector_count(&mut input);
+    let version = vector_count(&mut input);
+    let c = read_part(&mut input, &mut compiled);
+    let n = read_part(&mut input, &mut text);
+    let b = read_part(&mut input, &mut bag);
+    let s = read_part(&mut input, &mut subject);
+    let a = read_part(&mut input, &mut action);
+    let r = read_part(&mut input, &mut resource);
+    let _ = compile(u64::from(version), &compiled[..c], &mut table);
     let sum = decide_often(
         times,
         &text[..n],
@@ -106,5 +93,5 @@ fn main(rt: HostRuntime) {
         &action[..a],
         &resource[..r],
     );
-    vectors::print_number(&rt, sum, b'\n');
+    let _ = println!(rt; "{sum}");
 }

@@ -2,21 +2,19 @@
 // The input is one test vector, with the number of repetitions where the number of vectors stands. A pattern that is no UTF-8 is not asked for.
 #![tactic(auto)]
 
-ghost use Rattle.std.specs.Prelude.{◌≡◌, ◌≤◌, length};
+ghost use Rattle.std.specs.Prelude.{◌≤◌, length};
 ghost use Rattle.utf8.specs.Characters.{Utf8};
 
-// How often `like` says yes in so many calls on the first `size` bytes of the string. Before each call the sum goes into the
-// string's last byte, past those, so the compiler can neither drop a call nor take one for all.
+use vectors::{read_part, stamp, vector_count};
+
+// How often `like` says yes in so many calls on the first `size` bytes of the string. Each is stamped past those.
 fn repeat(times: u32, pattern: &[u8], string: &mut [u8], size: usize) -> u64
-    requires { (length string.old ≡ 256) × (size ≤ 256) × Utf8 pattern.now }
+    requires { (size ≤ length string.old) × Utf8 pattern.now }
 {
     let mut sum: u64 = 0;
-    let mut left = times;
-    while left > 0 {
-        string[255] = (sum % 256) as u8;
-        let yes = patterns::like(pattern, &string[..size]);
-        sum += vectors::one_if(yes);
-        left -= 1;
+    for _ in 0..times {
+        stamp(string, sum);
+        sum = sum.wrapping_add(u64::from(patterns::like(pattern, &string[..size])));
     }
     sum
 }
@@ -25,12 +23,12 @@ fn main(rt: HostRuntime) {
     let mut input = rt.reader();
     let mut pattern = [0u8; 256];
     let mut string = [0u8; 256];
-    let times = vectors::vector_count(&mut input);
-    let p = vectors::read_part(&mut input, &mut pattern);
-    let s = vectors::read_part(&mut input, &mut string);
+    let times = vector_count(&mut input);
+    let p = read_part(&mut input, &mut pattern);
+    let s = read_part(&mut input, &mut string);
     if !utf8::is_utf8(&pattern[..p]) {
         return;
     }
     let sum = repeat(times, &pattern[..p], &mut string, s);
-    vectors::print_number(&rt, sum, b'\n');
+    let _ = println!(rt; "{sum}");
 }

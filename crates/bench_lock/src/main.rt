@@ -4,15 +4,15 @@
 ghost use Rattle.std.specs.Prelude.{length, ◌<◌, ◌≤◌};
 
 use locking::lock;
-use locks::Answer;
+use vectors::{read_part, stamp, vector_count};
 
 // A number for each answer.
-fn told(answer: Answer) -> u64
+fn told(answer: Result<usize, u8>) -> u64
     ensures { result < 1000003 }
 {
     match answer {
-        Answer::Refused(number) => number as u64,
-        Answer::Written(size) => (size % 1000003) as u64,
+        Err(number) => u64::from(number),
+        Ok(size) => (size % 1000003) as u64,
     }
 }
 
@@ -29,7 +29,7 @@ fn write_once(
     requires { (size ≤ length bytes.old) × (sum < 1000003) }
     ensures { result < 1000003 }
 {
-    vectors::stamp(bytes, sum);
+    stamp(bytes, sum);
     let answer = lock(vocabulary, &bytes[..size], actions, resource, room);
     (sum + told(answer)) % 1000003
 }
@@ -46,10 +46,8 @@ fn write_often(
     requires { size ≤ length bytes.old }
 {
     let mut sum: u64 = 0;
-    let mut left = times;
-    while left > 0 {
+    for _ in 0..times {
         sum = write_once(vocabulary, bytes, size, actions, resource, room, sum);
-        left -= 1;
     }
     sum
 }
@@ -61,11 +59,11 @@ fn main(rt: HostRuntime) {
     let mut actions = [0u8; 4096];
     let mut resource = [0u8; 128];
     let mut room = [0u8; 8192];
-    let times = vectors::vector_count(&mut input);
-    let v = vectors::read_part(&mut input, &mut vocabulary);
-    let n = vectors::read_part(&mut input, &mut bytes);
-    let a = vectors::read_part(&mut input, &mut actions);
-    let r = vectors::read_part(&mut input, &mut resource);
+    let times = vector_count(&mut input);
+    let v = read_part(&mut input, &mut vocabulary);
+    let n = read_part(&mut input, &mut bytes);
+    let a = read_part(&mut input, &mut actions);
+    let r = read_part(&mut input, &mut resource);
     let sum = write_often(
         times,
         &vocabulary[..v],
@@ -75,5 +73,5 @@ fn main(rt: HostRuntime) {
         &resource[..r],
         &mut room,
     );
-    vectors::print_number(&rt, sum, b'\n');
+    let _ = println!(rt; "{sum}");
 }

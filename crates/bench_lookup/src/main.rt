@@ -3,17 +3,17 @@
 
 ghost use Rattle.std.specs.Prelude.{length, ◌<◌, ◌≤◌};
 
-use lookups::{Answer, lookup};
+use lookups::lookup;
+use lookups::values::Value;
+use vectors::{read_part, stamp, vector_count};
 
 // A number for each answer, of its kind, place and number.
-fn told(answer: Answer) -> u64
+fn told(answer: Result<Value, u8>) -> u64
     ensures { result < 1000003 }
 {
     match answer {
-        Answer::Refused(number) => number as u64,
-        Answer::Found(v) => v.kind as u64
-            + (v.place % 1000) as u64
-            + vectors::one_if(v.number < 8.0),
+        Err(number) => u64::from(number),
+        Ok(v) => u64::from(v.kind) + (v.place % 1000) as u64 + u64::from(v.number < 8.0),
     }
 }
 
@@ -22,7 +22,7 @@ fn look_up_once(bytes: &mut [u8], size: usize, root: u8, path: &[u8], sum: u64) 
     requires { (size ≤ length bytes.old) × (sum < 1000003) }
     ensures { result < 1000003 }
 {
-    vectors::stamp(bytes, sum);
+    stamp(bytes, sum);
     let answer = lookup(&bytes[..size], root, path);
     (sum + told(answer)) % 1000003
 }
@@ -31,10 +31,8 @@ fn look_up_often(times: u32, bytes: &mut [u8], size: usize, root: u8, path: &[u8
     requires { size ≤ length bytes.old }
 {
     let mut sum: u64 = 0;
-    let mut left = times;
-    while left > 0 {
+    for _ in 0..times {
         sum = look_up_once(bytes, size, root, path, sum);
-        left -= 1;
     }
     sum
 }
@@ -44,10 +42,10 @@ fn main(rt: HostRuntime) {
     let mut bytes = [0u8; 8192];
     let mut root = [0u8; 1];
     let mut path = [0u8; 101];
-    let times = vectors::vector_count(&mut input);
-    let n = vectors::read_part(&mut input, &mut bytes);
-    vectors::read_part(&mut input, &mut root);
-    let p = vectors::read_part(&mut input, &mut path);
+    let times = vector_count(&mut input);
+    let n = read_part(&mut input, &mut bytes);
+    read_part(&mut input, &mut root);
+    let p = read_part(&mut input, &mut path);
     let sum = look_up_often(times, &mut bytes, n, root[0], &path[..p]);
-    vectors::print_number(&rt, sum, b'\n');
+    let _ = println!(rt; "{sum}");
 }

@@ -5,22 +5,14 @@
 ghost use Rattle.std.specs.Prelude.{◌<◌};
 
 use compiling::compile;
-use sheets::{Answer, sheet};
+use sheets::sheet;
+use vectors::{read_part, stamp, vector_count};
 
 // What a call answered, as a sum, and the row to go on with.
 #[derive(Clone, Copy)]
 struct Asked {
     sum: u64,
     next: usize,
-}
-
-// The sum goes into the page's last byte before each call, so the compiler can neither drop a call nor take one for all.
-fn stamp(page: &mut [u8], sum: u64) {
-    let n = page.len();
-    if 0 < n {
-        let last = n - 1;
-        page[last] = (sum % 256) as u8;
-    }
 }
 
 fn ask_once<'a>(
@@ -41,13 +33,13 @@ fn ask_once<'a>(
     match sheet(
         text, table, question, subject, action, resource, start, page, 0,
     ) {
-        Answer::Refused(number) => Asked {
-            sum: (sum + number as u64) % 1000003,
+        Err(number) => Asked {
+            sum: (sum + u64::from(number)) % 1000003,
             next: 0,
         },
-        Answer::Listed(written, next) => Asked {
-            sum: (sum + (written % 1000 * 1000 + next % 1000) as u64) % 1000003,
-            next: next,
+        Ok(page) => Asked {
+            sum: (sum + (page.written % 1000 * 1000 + page.next % 1000) as u64) % 1000003,
+            next: page.next,
         },
     }
 }
@@ -64,14 +56,12 @@ fn ask_often<'a>(
 ) -> u64 {
     let mut sum: u64 = 0;
     let mut start = 0;
-    let mut left = times;
-    while left > 0 {
+    for _ in 0..times {
         let asked = ask_once(
             text, table, question, subject, action, resource, page, start, sum,
         );
         sum = asked.sum;
         start = asked.next;
-        left -= 1;
     }
     sum
 }
@@ -85,13 +75,13 @@ fn main(rt: HostRuntime) {
     let mut subject = [0u8; 101];
     let mut action = [0u8; 101];
     let mut resource = [0u8; 101];
-    let times = vectors::vector_count(&mut input);
-    let n = vectors::read_part(&mut input, &mut text);
-    let b = vectors::read_part(&mut input, &mut question);
-    let s = vectors::read_part(&mut input, &mut subject);
-    let a = vectors::read_part(&mut input, &mut action);
-    let r = vectors::read_part(&mut input, &mut resource);
-    compile(1, &text[..n], &mut table);
+    let times = vector_count(&mut input);
+    let n = read_part(&mut input, &mut text);
+    let b = read_part(&mut input, &mut question);
+    let s = read_part(&mut input, &mut subject);
+    let a = read_part(&mut input, &mut action);
+    let r = read_part(&mut input, &mut resource);
+    let _ = compile(1, &text[..n], &mut table);
     let sum = ask_often(
         times,
         &text[..n],
@@ -102,5 +92,5 @@ fn main(rt: HostRuntime) {
         &resource[..r],
         &mut page,
     );
-    vectors::print_number(&rt, sum, b'\n');
+    let _ = println!(rt; "{sum}");
 }

@@ -6,25 +6,17 @@ ghost use Rattle.std.specs.Prelude.{◌<◌};
 
 use compiling::compile;
 use tallies::tally;
+use vectors::{read_part, stamp, vector_count, with};
 
 // A number for each tally: its refusal and the sums of the outcomes 1 and 2.
 fn told(refusal: u8, counts: &[u32]) -> u64
     ensures { result < 1000003 }
 {
     if counts.len() < 612 {
-        return refusal as u64;
+        return u64::from(refusal);
     }
-    let allowed = vectors::with(refusal as u64, counts[544] as usize);
-    vectors::with(allowed, counts[545] as usize)
-}
-
-// The sum goes into the last count before each call, so the compiler can neither drop a call nor take one for all.
-fn stamp(counts: &mut [u32], sum: u64) {
-    let n = counts.len();
-    if 0 < n {
-        let last = n - 1;
-        counts[last] = (sum % 256) as u32;
-    }
+    let allowed = with(u64::from(refusal), u64::from(counts[544]));
+    with(allowed, u64::from(counts[545]))
 }
 
 fn tally_once<'a>(
@@ -54,10 +46,8 @@ fn tally_often<'a>(
     counts: &mut [u32; 612],
 ) -> u64 {
     let mut sum: u64 = 0;
-    let mut left = times;
-    while left > 0 {
+    for _ in 0..times {
         sum = tally_once(text, table, question, many, requests, counts, sum);
-        left -= 1;
     }
     sum
 }
@@ -69,12 +59,12 @@ fn main(rt: HostRuntime) {
     let mut text = [0u8; 8192];
     let mut question = [0u8; 4097];
     let mut requests = [0u8; 2424];
-    let times = vectors::vector_count(&mut input);
-    let many = vectors::vector_count(&mut input) as usize;
-    let n = vectors::read_part(&mut input, &mut text);
-    let b = vectors::read_part(&mut input, &mut question);
-    let r = vectors::read_part(&mut input, &mut requests);
-    compile(1, &text[..n], &mut table);
+    let times = vector_count(&mut input);
+    let many = vector_count(&mut input) as usize;
+    let n = read_part(&mut input, &mut text);
+    let b = read_part(&mut input, &mut question);
+    let r = read_part(&mut input, &mut requests);
+    let _ = compile(1, &text[..n], &mut table);
     let sum = tally_often(
         times,
         &text[..n],
@@ -84,5 +74,5 @@ fn main(rt: HostRuntime) {
         &requests[..r],
         &mut counts,
     );
-    vectors::print_number(&rt, sum, b'\n');
+    let _ = println!(rt; "{sum}");
 }

@@ -2,18 +2,8 @@
 // room.bin as the room.
 #![tactic(auto)]
 
-ghost use Rattle.std.specs.Prelude.{◌+◌, ◌≤◌, length};
-
-use folder::lines::put_refusal;
-use folder::read_file;
+use folder::{print_refusal, read_file};
 use streams::print_bytes;
-
-// Prints the line of a refusal, which has no place.
-fn print_refusal<P: Print>(rt: &P, number: u32) {
-    let mut out = [0u8; 92];
-    let n = put_refusal(&mut out, 0, number, 0, 0, 0);
-    print_bytes(rt, &out[..n]);
-}
 
 // Prints the permit that is written into the room, and a line feed; or the refusal.
 fn print_permit<P: Print>(
@@ -26,12 +16,11 @@ fn print_permit<P: Print>(
 ) {
     let answer = desk::desk_lock(vocabulary, lock, actions, resource, room);
     if 0 < answer.refusal {
-        print_refusal(rt, answer.refusal);
+        print_refusal(rt, answer.refusal, 0, 0, 0);
         return;
     }
-    let n = answer.length;
-    if n <= room.len() {
-        print_bytes(rt, &room[..n]);
+    if let Some(permit) = room.get(..answer.length) {
+        print_bytes(rt, permit);
         print_bytes(rt, b"\n");
     }
 }

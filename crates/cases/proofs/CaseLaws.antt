@@ -19,12 +19,12 @@ module _ (s : List ℕ) (at : ℕ) where
   past_part : (size : ℕ) → drop (2 + size) (drop at s) ≡ drop (at + 2 + size) s
   past_part size = let e : at + (2 + size) ≡ at + 2 + size = omega arith in drop-drop (2 + size) at s ∙ ap (λ (n : ℕ). drop n s) e
 
-  size_there : {low high : ℕ} → low ≡ get_or s at 0 → high ≡ get_or s (at + 1) 0 → part_size (drop at s) ≡ low + 256 * high
-  size_there {low} {high} e f =
+  size_there : {size : ℕ} → size ≡ get_or s at 0 + 256 * get_or s (at + 1) 0 → part_size (drop at s) ≡ size
+  size_there {size} e =
       let z : at + 0 ≡ at = omega arith in
-      let g : get_or (drop at s) 0 0 ≡ low = get_or-drop at s 0 0 ∙ ap (λ (n : ℕ). get_or s n 0) z ∙ sym e in
-      let h : get_or (drop at s) 1 0 ≡ high = get_or-drop at s 1 0 ∙ sym f in
-      cc
+      let g : get_or (drop at s) 0 0 ≡ get_or s at 0 = get_or-drop at s 0 0 ∙ ap (λ (n : ℕ). get_or s n 0) z in
+      let h : get_or (drop at s) 1 0 ≡ get_or s (at + 1) 0 = get_or-drop at s 1 0 in
+      omega (arith, e, g, h)
 
   -- where less than a length is left, the part is empty
   pub no_part : at ≤ length s → length s - at < 2 → PartAt s at (record { start = length s; end = length s })
@@ -43,18 +43,18 @@ module _ (s : List ℕ) (at : ℕ) where
         goes_on = λ g. g;
       }
 
-  module _ {low high : ℕ} (e : low ≡ get_or s at 0) (f : high ≡ get_or s (at + 1) 0) (room : 2 ≤ length s - at) where
+  module _ {size : ℕ} (e : size ≡ get_or s at 0 + 256 * get_or s (at + 1) 0) (room : 2 ≤ length s - at) where
     -- a part that is cut short ends where the bytes end
-    pub part_cut : length s - at - 2 < low + 256 * high → PartAt s at (record { start = at + 2; end = length s })
+    pub part_cut : length s - at - 2 < size → PartAt s at (record { start = at + 2; end = length s })
     unfolding part_of behind_part
     part_cut short =
-        let size = size_there e f in
+        let is = size_there e in
         let here : drop (length s) s ≡ [] = drop_of_length-le s {i = length s} (omega arith) in
-        let gone : drop (2 + (low + 256 * high)) (drop at s) ≡ [] = past_part (low + 256 * high) ∙ drop_of_length-le s {i = at + 2 + (low + 256 * high)} (omega arith) in
+        let gone : drop (2 + size) (drop at s) ≡ [] = past_part size ∙ drop_of_length-le s {i = at + 2 + size} (omega arith) in
         record {
           bytes = take_all (length s - (at + 2)) (drop (at + 2) s) (omega (arith, length-drop (at + 2) s))
-              ∙ sym (rw (size, past_length) (take_all (low + 256 * high) (drop (at + 2) s) (omega (arith, length-drop (at + 2) s))));
-          rest = here ∙ sym (rw size gone);
+              ∙ sym (rw (is, past_length) (take_all size (drop (at + 2) s) (omega (arith, length-drop (at + 2) s))));
+          rest = here ∙ sym (rw is gone);
           low = omega arith;
           within = omega arith;
           high = omega arith;
@@ -62,14 +62,14 @@ module _ (s : List ℕ) (at : ℕ) where
         }
 
     -- a whole one
-    pub part_whole : low + 256 * high ≤ length s - at - 2 → PartAt s at (record { start = at + 2; end = at + 2 + (low + 256 * high) })
+    pub part_whole : size ≤ length s - at - 2 → PartAt s at (record { start = at + 2; end = at + 2 + size })
     unfolding part_of behind_part
     part_whole long =
-        let size = size_there e f in
-        let n : at + 2 + (low + 256 * high) - (at + 2) ≡ low + 256 * high = omega arith in
+        let is = size_there e in
+        let n : at + 2 + size - (at + 2) ≡ size = omega arith in
         record {
-          bytes = rw (n, size, past_length);
-          rest = rw size (sym (past_part (low + 256 * high)));
+          bytes = rw (n, is, past_length);
+          rest = rw is (sym (past_part size));
           low = omega arith;
           within = omega arith;
           high = omega arith;

@@ -1,7 +1,7 @@
 // The parts of cases.bin: where each lies.
 #![tactic(auto)]
 
-ghost use Rattle.std.specs.Prelude.{◌≤◌, ◌≡◌, length};
+ghost use Rattle.std.specs.Prelude.{◌≤◌, length};
 ghost use Rattle.cases.specs.Cases.{PartAt};
 
 // Where a part's bytes start and end.
@@ -9,13 +9,6 @@ ghost use Rattle.cases.specs.Cases.{PartAt};
 pub struct CasePart {
     pub start: usize,
     pub end: usize,
-}
-
-// A byte as a number.
-pub fn wide(b: u8) -> usize
-    ensures { (result ≡ b) × (result ≤ 255) }
-{
-    b as usize
 }
 
 // The part whose length stands at a place.
@@ -28,7 +21,7 @@ pub fn part_at(s: &[u8], at: usize) -> CasePart
         let end = s.len();
         return CasePart { start: end, end };
     }
-    let size = wide(s[at]) + 256 * wide(s[at + 1]);
+    let size = usize::from(u16::from_le_bytes([s[at], s[at + 1]]));
     let start = at + 2;
     if left - 2 < size {
         let end = s.len();

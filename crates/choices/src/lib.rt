@@ -14,12 +14,10 @@ pub fn lasts(s: &[u8], n: usize, heads: &[usize; MOST_COLUMNS]) -> [u8; MOST_COL
     ensures { (i : ℕ) → i < most_columns → get_or result i 0 ≡ cond (ltb i n) (count_of s.now (get_or heads.now i 0) - 1) 0 }
 {
     let mut ends = [0u8; MOST_COLUMNS];
-    let mut i = 0;
-    while i < n {
+    for i in 0..n {
         let head = heads[i];
         let count_at = head + 2 + s[head + 1] as usize;
         ends[i] = s[count_at] - 1;
-        i += 1;
     }
     ends
 }
@@ -31,12 +29,10 @@ pub fn choices_of(lasts: &[u8; MOST_COLUMNS], row: usize) -> [u8; MOST_COLUMNS]
 {
     let mut choices = [0u8; MOST_COLUMNS];
     let mut rest = row;
-    let mut k = MOST_COLUMNS;
-    while 0 < k {
-        k -= 1;
+    for k in (0..MOST_COLUMNS).rev() {
         let n = lasts[k] as usize + 1;
         choices[k] = (rest % n) as u8;
-        rest = rest / n;
+        rest /= n;
     }
     choices
 }
@@ -52,9 +48,7 @@ pub fn step(
     requires { RowPlaced grid.now lasts.now choices.old values.old }
     ensures { Moved grid.now lasts.now choices.old result choices.new values.new }
 {
-    let mut k = MOST_COLUMNS;
-    while 0 < k {
-        k -= 1;
+    for k in (0..MOST_COLUMNS).rev() {
         let choice = choices[k];
         if choice < lasts[k] {
             let next = choice + 1;

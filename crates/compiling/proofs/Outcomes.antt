@@ -1,4 +1,6 @@
 -- What compiling answers, by what the readers do. Assumes nothing.
+use Rattle.std.specs.Prelude.{Some, None, Result, Ok, Err}
+use Rattle.std.specs.Option.{is_some}
 use mathlib.Core.Path.{◌≡◌, refl, ◌∙◌, sym, ap, subst}
 use mathlib.Core.Bool.{Bool, true, false}
 use mathlib.Core.List.{List, [], ◌∷◌, ◌++◌}
@@ -24,38 +26,35 @@ use Rattle.table.proofs.Holding.{length_bytes_of, held_starts, puts_front}
 use Rattle.parts.specs.Answers.{TurnedAway, refusal_at}
 use Rattle.parts.specs.declared.answers.Refusal.{Refusal}
 use Rattle.policies.specs.Whole.{Complete, Told, complete, lost}
-use Rattle.compiling.specs.Outcome.{room_for, said, compiled_bytes, found_by, found_of, table_by, table_under, held_by, held_of, begins_by, begins_of}
+use Rattle.compiling.specs.Outcome.{table_size, room_for, said, compiled_bytes, found_by, found_of, table_by, table_under, held_by, held_of, begins_by, begins_of}
 use Rattle.policies.specs.declared.Whole.{Whole}
-use Rattle.policies.specs.declared.Whole.TheVariants.{All, Lost}
-use Rattle.compiling.specs.declared.Found.{Found}
-use Rattle.compiling.specs.declared.Found.TheVariants as found
-use Rattle.compiling.specs.declared.Found.TheVariants.{Accepted, Unfit}
-use Rattle.compiling.specs.declared.Held.{Held}
-use Rattle.compiling.specs.declared.Held.TheVariants.{Right, Wrong}
+use Rattle.compiling.specs.declared.TableSize.{TableSize}
+use Rattle.compiling.specs.declared.Unaccepted.{Unaccepted}
+use Rattle.compiling.specs.declared.Unaccepted.TheVariants.{Unfit, Turned}
 
 -- ---- what is told of a whole text
 
-module _ {version : Version} {text seen old new : List ℕ} {p : reader.Answer (List Policy)} {r : Whole} where
-  pub as_complete : {policies free : ℕ} {ok : Bool} → r ≡ All policies free ok → Told version text seen old new p r → Complete version text seen old new p policies free ok
+module _ {version : Version} {text seen old new : List ℕ} {p : reader.Answer (List Policy)} {r : Result Whole Refusal} where
+  pub as_complete : {w : Whole} → r ≡ Ok w → Told version text seen old new p r → Complete version text seen old new p w.policies w.entries w.same
   as_complete e t = go (subst (Told version text seen old new p) e t)
     where
-      go : {policies free : ℕ} {ok : Bool} → Told version text seen old new p (All policies free ok) → Complete version text seen old new p policies free ok
+      go : {w : Whole} → Told version text seen old new p (Ok w) → Complete version text seen old new p w.policies w.entries w.same
       go (complete k) = k
 
-  pub as_lost : {f : Refusal} → r ≡ Lost f → Told version text seen old new p r → TurnedAway text p f
+  pub as_lost : {f : Refusal} → r ≡ Err f → Told version text seen old new p r → TurnedAway text p f
   as_lost e t = go (subst (Told version text seen old new p) e t)
     where
-      go : {f : Refusal} → Told version text seen old new p (Lost f) → TurnedAway text p f
+      go : {f : Refusal} → Told version text seen old new p (Err f) → TurnedAway text p f
       go (lost h) = h
 
 -- ---- what is found
 
 module _ (version : Version) (text : List ℕ) (room : ℕ) where
-  pub too_long : most_text_bytes < length text → found_of version text room ≡ Unfit 1
+  pub too_long : most_text_bytes < length text → found_of version text room ≡ Err (Unfit 1)
   unfolding found_of choose
   too_long h = rw (lt-ltb _ _ h)
 
-  pub no_room : length text ≤ most_text_bytes → room < room_for text → found_of version text room ≡ Unfit 2
+  pub no_room : length text ≤ most_text_bytes → room < room_for text → found_of version text room ≡ Err (Unfit 2)
   unfolding found_of choose
   no_room l h = rw (le-ltb _ _ l, lt-ltb _ _ h)
 
@@ -63,20 +62,17 @@ module _ (version : Version) (text : List ℕ) (room : ℕ) where
   unfolding found_of choose
   fitting l h = rw (le-ltb _ _ l, le-ltb _ _ h)
 
-pub turned_found : (version : Version) {text : List ℕ} {p : reader.Answer (List Policy)} {f : Refusal} → TurnedAway text p f → found.Turned f ≡ found_by version text p
+pub turned_found : (version : Version) {text : List ℕ} {p : reader.Answer (List Policy)} {f : Refusal} → TurnedAway text p f → Err (Turned f) ≡ found_by version text p
 unfolding found_by
-turned_found version h = rw h.is (ap found.Turned h.told)
+turned_found version h = rw h.is (ap (λ (f : Refusal). Err (Turned f)) h.told)
 
-pub complete_found : {version : Version} {text seen old new : List ℕ} {p : reader.Answer (List Policy)} {policies free : ℕ} {ok : Bool} → Complete version text seen old new p policies free ok → Accepted policies free ≡ found_by version text p
+pub complete_found : {version : Version} {text seen old new : List ℕ} {p : reader.Answer (List Policy)} {policies free : ℕ} {ok : Bool} → Complete version text seen old new p policies free ok → Ok (table_size policies free) ≡ found_by version text p
 unfolding found_by
 complete_found {version} {policies = policies} {free} k =
     let z : free ≡ length (policies_entries version 0 k.value) = (let y = k.counted.free_is in omega arith) in
     rw (k.is, k.many, ← z)
 
-pub clash_unfit : {number policies entries : ℕ} → Unfit number ≡ Accepted policies entries → ⊥
-clash_unfit e = let z : ◌≡◌ {A = ℕ} 0 1 = cc in omega arith
-
-pub clash : {f : Refusal} {policies entries : ℕ} → found.Turned f ≡ Accepted policies entries → ⊥
+pub clash : {x : Unaccepted} {size : TableSize} → ◌≡◌ {A = Result TableSize Unaccepted} (Err x) (Ok size) → ⊥
 clash e = let z : ◌≡◌ {A = ℕ} 0 1 = cc in omega arith
 
 -- what an accepted text tells
@@ -89,15 +85,25 @@ pub record Accepts (version : Version) (text : List ℕ) (room policies entries 
   pub many : policies ≡ length value
   pub count : entries ≡ length (policies_entries version 0 value)
 
-pub accepts : (version : Version) (text : List ℕ) (room policies entries : ℕ) → Accepted policies entries ≡ found_of version text room → Accepts version text room policies entries
+pub accepts : (version : Version) (text : List ℕ) (room policies entries : ℕ) → Ok (table_size policies entries) ≡ found_of version text room → Accepts version text room policies entries
 unfolding found_of found_by choose
 accepts version text room policies entries e = go (ltb most_text_bytes (length text)) refl (ltb room (room_for text)) refl (said text) refl e
   where
     go : (a : Bool) → ltb most_text_bytes (length text) ≡ a → (b : Bool) → ltb room (room_for text) ≡ b → (p : reader.Answer (List Policy)) → said text ≡ p
-        → Accepted policies entries ≡ choose a (λ _. Unfit 1) (λ _. choose b (λ _. Unfit 2) (λ _. found_by version text p)) → Accepts version text room policies entries
-    go true x b y p z e = absurd (clash_unfit (sym e))
-    go false x true y p z e = absurd (clash_unfit (sym e))
-    go false x false y (took ps r) z e = record { short = ltb-false _ _ x; roomy = ltb-false _ _ y; value = ps; rest = r; is = z; many = cc; count = cc }
+        → Ok (table_size policies entries) ≡ choose a (λ _. Err (Unfit 1)) (λ _. choose b (λ _. Err (Unfit 2)) (λ _. found_by version text p)) → Accepts version text room policies entries
+    go true x b y p z e = absurd (clash (sym e))
+    go false x true y p z e = absurd (clash (sym e))
+    go false x false y (took ps r) z e =
+        let same : table_size policies entries ≡ table_size (length ps) (length (policies_entries version 0 ps)) = cc in
+        record {
+          short = ltb-false _ _ x;
+          roomy = ltb-false _ _ y;
+          value = ps;
+          rest = r;
+          is = z;
+          many = ap (λ (t : TableSize). t.policies) same;
+          count = ap (λ (t : TableSize). t.entries) same;
+        }
     go false x false y (refuse n r) z e = absurd (clash (sym e))
 
 -- ---- a refused token lies in the text
@@ -126,12 +132,12 @@ module _ (text : List ℕ) where
   token_inside n (x ∷ s) q = let w = refused_rightly (tokens_of text) (x ∷ s) n q in lies_within (suc (length text)) 0 (omega arith) w.before x s w.split
 
   -- a refusal's place is in the text
-  pub place_inside : (version : Version) (room : ℕ) {f : Refusal} → found.Turned f ≡ found_of version text room → f.start ≤ length text
+  pub place_inside : (version : Version) (room : ℕ) {f : Refusal} → Err (Turned f) ≡ found_of version text room → f.start ≤ length text
   unfolding found_of found_by choose
   place_inside version room {f} e = go (ltb most_text_bytes (length text)) (ltb room (room_for text)) (said text) refl e
     where
       go : (a b : Bool) (p : reader.Answer (List Policy)) → said text ≡ p
-          → found.Turned f ≡ choose a (λ _. Unfit 1) (λ _. choose b (λ _. Unfit 2) (λ _. found_by version text p)) → f.start ≤ length text
+          → Err (Turned f) ≡ choose a (λ _. Err (Unfit 1)) (λ _. choose b (λ _. Err (Unfit 2)) (λ _. found_by version text p)) → f.start ≤ length text
       go true b p q e = absurd (let z : ◌≡◌ {A = ℕ} 0 1 = cc in omega arith)
       go false true p q e = absurd (let z : ◌≡◌ {A = ℕ} 0 1 = cc in omega arith)
       go false false (took ps r) q e = absurd (clash e)
@@ -140,19 +146,19 @@ module _ (text : List ℕ) where
 -- ---- the table afterwards
 
 -- the table of a text that is not accepted is left alone
-pub same_table : (version : Version) (text old : List ℕ) {x : Found} → ((policies entries : ℕ) → x ≡ Accepted policies entries → ⊥) → x ≡ found_of version text (length old) → old ≡ table_under version text old
+pub same_table : (version : Version) (text old : List ℕ) {x : Unaccepted} → Err x ≡ found_of version text (length old) → old ≡ table_under version text old
 unfolding found_of found_by table_under table_by choose
-same_table version text old {x} not e = go (ltb most_text_bytes (length text)) (ltb (length old) (room_for text)) (said text) e
+same_table version text old {x} e = go (ltb most_text_bytes (length text)) (ltb (length old) (room_for text)) (said text) e
   where
-    go : (a b : Bool) (p : reader.Answer (List Policy)) → x ≡ choose a (λ _. Unfit 1) (λ _. choose b (λ _. Unfit 2) (λ _. found_by version text p))
+    go : (a b : Bool) (p : reader.Answer (List Policy)) → Err x ≡ choose a (λ _. Err (Unfit 1)) (λ _. choose b (λ _. Err (Unfit 2)) (λ _. found_by version text p))
         → old ≡ choose a (λ _. old) (λ _. choose b (λ _. old) (λ _. table_by version p old))
     go true b p e = refl
     go false true p e = refl
-    go false false (took ps r) e = absurd (not _ _ e)
+    go false false (took ps r) e = absurd (clash e)
     go false false (refuse n r) e = refl
 
 -- what is accepted has no more entries than the text has bytes
-pub no_more : {version : Version} {text seen old new : List ℕ} {room policies entries : ℕ} {r : Whole} → Accepts version text room policies entries → Told version text seen old new (said text) r → entries ≤ length text
+pub no_more : {version : Version} {text seen old new : List ℕ} {room policies entries : ℕ} {r : Result Whole Refusal} → Accepts version text room policies entries → Told version text seen old new (said text) r → entries ≤ length text
 no_more {version} {text} {entries = entries} h (complete k) =
     let same : k.value ≡ h.value = (let x = sym k.is ∙ h.is in cc) in
     let count : entries ≡ length (policies_entries version 0 k.value) = rw same h.count in
@@ -160,7 +166,7 @@ no_more {version} {text} {entries = entries} h (complete k) =
 no_more h (lost k) = absurd (let x = sym k.is ∙ h.is in let z : ◌≡◌ {A = ℕ} 0 1 = cc in omega arith)
 
 -- an accepted one's gets the compiled bytes
-pub new_table : {version : Version} {text seen old new : List ℕ} {policies entries : ℕ} {r : Whole} → Accepts version text (length old) policies entries → Told version text seen old new (said text) r → new ≡ table_under version text old
+pub new_table : {version : Version} {text seen old new : List ℕ} {policies entries : ℕ} {r : Result Whole Refusal} → Accepts version text (length old) policies entries → Told version text seen old new (said text) r → new ≡ table_under version text old
 unfolding table_under table_by compiled_bytes choose
 new_table {version} {text} {old = old} h (complete k) =
     let same : k.value ≡ h.value = (let x = sym k.is ∙ h.is in cc) in
@@ -172,7 +178,7 @@ new_table h (lost k) = absurd (let x = sym k.is ∙ h.is in let z : ◌≡◌ {A
 -- ---- a table that begins right
 
 module _ (text table : List ℕ) where
-  pub too_long_held : most_text_bytes < length text → held_of text table ≡ Wrong
+  pub too_long_held : most_text_bytes < length text → held_of text table ≡ None
   unfolding held_of choose
   too_long_held h = rw (lt-ltb _ _ h)
 
@@ -180,7 +186,7 @@ module _ (text table : List ℕ) where
   unfolding held_of choose
   fitting_held l = rw (le-ltb _ _ l)
 
-pub lost_held : {text : List ℕ} (table : List ℕ) {p : reader.Answer (List Policy)} {f : Refusal} → TurnedAway text p f → Wrong ≡ held_by table p
+pub lost_held : {text : List ℕ} (table : List ℕ) {p : reader.Answer (List Policy)} {f : Refusal} → TurnedAway text p f → None ≡ held_by table p
 unfolding held_by
 lost_held table h = rw h.is
 
@@ -190,37 +196,33 @@ module _ {version : Version} {text table old new : List ℕ} {p : reader.Answer 
   unfolding compiled_bytes
   starts_is = rw (← here) (k.counted.ok_is ∙ held_starts table 0 (policies_entries version 0 k.value))
 
-  pub right_held : ok ≡ true → Right policies free ≡ held_by table p
+  pub right_held : ok ≡ true → Some (table_size policies free) ≡ held_by table p
   unfolding held_by choose
   right_held e =
       let z : free ≡ length (policies_entries (recorded table) 0 k.value) = rw (← here) (let y = k.counted.free_is in omega arith) in
       rw (k.is, ← starts_is, e, k.many, ← z)
 
-  pub wrong_held : ok ≡ false → Wrong ≡ held_by table p
+  pub wrong_held : ok ≡ false → None ≡ held_by table p
   unfolding held_by choose
   wrong_held e = rw (k.is, ← starts_is, e)
 
-abbrev is_right : Held → Bool
-is_right (Right policies entries) = true
-is_right Wrong = false
-
 -- a table is held exactly where it begins right
 module _ (text table : List ℕ) where
-  held_begins : is_right (held_of text table) ≡ begins_of text table
+  pub held_begins : is_some (held_of text table) ≡ begins_of text table
   unfolding held_of held_by begins_of begins_by choose
   held_begins = go (ltb most_text_bytes (length text)) (said text)
     where
-      at_bytes : (ps : List Policy) (b : Bool) → is_right (choose b (λ _. Right (length ps) (length (policies_entries (recorded table) 0 ps))) (λ _. Wrong)) ≡ b
+      at_bytes : (ps : List Policy) (b : Bool) → is_some (choose b (λ _. Some (table_size (length ps) (length (policies_entries (recorded table) 0 ps)))) (λ _. None)) ≡ b
       at_bytes ps true = refl
       at_bytes ps false = refl
 
-      go : (a : Bool) (p : reader.Answer (List Policy)) → is_right (choose a (λ _. Wrong) (λ _. held_by table p)) ≡ choose a (λ _. false) (λ _. begins_by table p)
+      go : (a : Bool) (p : reader.Answer (List Policy)) → is_some (choose a (λ _. None) (λ _. held_by table p)) ≡ choose a (λ _. false) (λ _. begins_by table p)
       go true p = refl
       go false (took ps r) = at_bytes ps (starts_with (compiled_bytes (recorded table) ps) table)
       go false (refuse n r) = refl
 
-  pub right_begins : {policies entries : ℕ} → Right policies entries ≡ held_of text table → true ≡ begins_of text table
-  right_begins e = ap is_right e ∙ held_begins
+  pub right_begins : {size : TableSize} → Some size ≡ held_of text table → true ≡ begins_of text table
+  right_begins e = ap is_some e ∙ held_begins
 
-  pub wrong_begins : Wrong ≡ held_of text table → false ≡ begins_of text table
-  wrong_begins e = ap is_right e ∙ held_begins
+  pub wrong_begins : None ≡ held_of text table → false ≡ begins_of text table
+  wrong_begins e = ap is_some e ∙ held_begins

@@ -1,6 +1,6 @@
 -- What compiling answers and leaves in the table, and whether a table begins right, as functions of the version, the text and the table that is lent.
 -- Crate compiling_promise says what these functions promise. Definitions only.
-use Rattle.std.specs.Prelude.{◌≡◌, Bool, false, List, ◌++◌, ℕ, ◌*◌, length, drop, ltb}
+use Rattle.std.specs.Prelude.{◌≡◌, Bool, false, List, ◌++◌, ℕ, ◌*◌, length, drop, ltb, Option, Some, None, Result, Ok, Err}
 use Rattle.places.specs.Places.{place_of}
 use Rattle.tokens.specs.Sizes.{most_text_bytes}
 use Rattle.reading.specs.Lexemes.{choose, tokens_of}
@@ -14,13 +14,13 @@ use Rattle.table.specs.Entries.{policies_entries}
 use Rattle.table.specs.Layout.{entry_size, bytes_of, starts_with}
 use Rattle.table.specs.Recorded.{recorded}
 use Rattle.parts.specs.Answers.{refusal_at}
-use Rattle.compiling.specs.declared.Found.{Found}
-use Rattle.compiling.specs.declared.Found.TheVariants.{Accepted, Unfit, Turned}
+use Rattle.parts.specs.declared.answers.Refusal.{Refusal}
+use Rattle.compiling.specs.declared.TableSize.{TableSize}
+use Rattle.compiling.specs.declared.Unaccepted.{Unaccepted}
+use Rattle.compiling.specs.declared.Unaccepted.TheVariants.{Unfit, Turned}
 use Rattle.compiling.specs.declared.Spot.{Spot}
 use Rattle.compiling.specs.declared.Compiled.{Compiled}
-use Rattle.compiling.specs.declared.Compiled.TheVariants.{Policies, Refused}
-use Rattle.compiling.specs.declared.Held.{Held}
-use Rattle.compiling.specs.declared.Held.TheVariants.{Right, Wrong}
+use Rattle.compiling.specs.declared.Refused.{Refused}
 
 -- how many bytes of table must be lent for each byte of text
 abbrev pub table_per_byte : ℕ
@@ -38,16 +38,27 @@ said text = read_text (tokens_of text)
 unfoldable pub compiled_bytes : Version → List Policy → List ℕ
 compiled_bytes version ps = bytes_of (policies_entries version 0 ps)
 
+-- how many policies a text has and how many entries they take
+abbrev pub table_size : ℕ → ℕ → TableSize
+table_size policies entries = record { policies = policies; entries = entries }
+
+-- what compiling answers where nothing is refused, and what it tells of a refusal
+abbrev pub compiled : ℕ → ℕ → Result Compiled Refused
+compiled policies bytes = Ok (record { policies = policies; bytes = bytes })
+
+abbrev pub refused : ℕ → Spot → Result Compiled Refused
+refused number at = Err (record { number = number; spot = at })
+
 -- what is found by what the tokens say: how many policies and entries, or the refusal with its place
-unfoldable pub found_by : Version → List ℕ → reader.Answer (List Policy) → Found
-found_by version text (took ps r) = Accepted (length ps) (length (policies_entries version 0 ps))
-found_by version text (refuse n r) = Turned (refusal_at text n r)
+unfoldable pub found_by : Version → List ℕ → reader.Answer (List Policy) → Result TableSize Unaccepted
+found_by version text (took ps r) = Ok (table_size (length ps) (length (policies_entries version 0 ps)))
+found_by version text (refuse n r) = Err (Turned (refusal_at text n r))
 
 -- what is found where so many bytes of table are lent. 1: the text is too long; 2: the table has under 8 bytes for a byte of text; else by what the tokens say
-unfoldable pub found_of : Version → List ℕ → ℕ → Found
+unfoldable pub found_of : Version → List ℕ → ℕ → Result TableSize Unaccepted
 found_of version text room =
-    choose (ltb most_text_bytes (length text)) (λ _. Unfit 1)
-    (λ _. choose (ltb room (room_for text)) (λ _. Unfit 2) (λ _. found_by version text (said text)))
+    choose (ltb most_text_bytes (length text)) (λ _. Err (Unfit 1))
+    (λ _. choose (ltb room (room_for text)) (λ _. Err (Unfit 2)) (λ _. found_by version text (said text)))
 
 -- a line, a column and a length
 abbrev pub spot : ℕ → ℕ → ℕ → Spot
@@ -61,20 +72,28 @@ nowhere = spot 0 0 0
 abbrev pub spot_of : List ℕ → ℕ → ℕ → Spot
 spot_of text at size = spot (place_of text at).line (place_of text at).column size
 
+-- what is told of a refusal at a token: its number, where the token stands, and its length
+abbrev pub refused_at : List ℕ → Refusal → Refused
+refused_at text f = record { number = f.number; spot = spot_of text f.start f.size }
+
+-- what is told of a text that is not accepted; a refusal by a size has no place
+abbrev pub refused_for : List ℕ → Unaccepted → Refused
+refused_for text (Unfit number) = record { number = number; spot = nowhere }
+refused_for text (Turned f) = refused_at text f
+
 -- what is told of what is found: policies and bytes used; or the refusal's number, and where the token stands that is refused, with its length; 1 and 2 have
 -- no place
-unfoldable pub told_of : List ℕ → Found → Compiled
-told_of text (Accepted policies entries) = Policies policies (entry_size * entries)
-told_of text (Unfit number) = Refused number nowhere
-told_of text (Turned f) = Refused f.number (spot_of text f.start f.size)
+unfoldable pub told_of : List ℕ → Result TableSize Unaccepted → Result Compiled Refused
+told_of text (Ok found) = compiled found.policies (entry_size * found.entries)
+told_of text (Err why) = Err (refused_for text why)
 
 -- what compiling under a version answers where so many bytes of table are lent
-unfoldable pub compiled_under : Version → List ℕ → ℕ → Compiled
+unfoldable pub compiled_under : Version → List ℕ → ℕ → Result Compiled Refused
 compiled_under version text room = told_of text (found_of version text room)
 
 -- the same under the version that a number names; 30 before all where it names none
-unfoldable pub compiled_of : ℕ → List ℕ → ℕ → Compiled
-compiled_of number text room = if_version number (λ version. compiled_under version text room) (Refused 30 nowhere)
+unfoldable pub compiled_of : ℕ → List ℕ → ℕ → Result Compiled Refused
+compiled_of number text room = if_version number (λ version. compiled_under version text room) (refused 30 nowhere)
 
 -- document 01's numbers for an answer: the refusal's, with its line, column and length, and the policies and the bytes used
 pub record CompileSaid : Type 0 where
@@ -86,9 +105,9 @@ pub record CompileSaid : Type 0 where
   pub bytes : ℕ
 
 -- what each answer says: zeros where there is nothing to say
-unfoldable pub compile_said : Compiled → CompileSaid
-compile_said (Policies policies bytes) = record { refusal = 0; line = 0; column = 0; size = 0; policies = policies; bytes = bytes }
-compile_said (Refused number at) = record { refusal = number; line = at.line; column = at.column; size = at.length; policies = 0; bytes = 0 }
+unfoldable pub compile_said : Result Compiled Refused → CompileSaid
+compile_said (Ok c) = record { refusal = 0; line = 0; column = 0; size = 0; policies = c.policies; bytes = c.bytes }
+compile_said (Err r) = record { refusal = r.number; line = r.spot.line; column = r.spot.column; size = r.spot.length; policies = 0; bytes = 0 }
 
 -- the table afterwards, by what the tokens say
 unfoldable pub table_by : Version → reader.Answer (List Policy) → List ℕ → List ℕ
@@ -105,19 +124,19 @@ unfoldable pub table_after : ℕ → List ℕ → List ℕ → List ℕ
 table_after number text old = if_version number (λ version. table_under version text old) old
 
 -- what `compile` promises: its answer, and what is in the table afterwards
-pub record CompiledInto (number : ℕ) (text old new : List ℕ) (r : Compiled) : Type 0 where
+pub record CompiledInto (number : ℕ) (text old new : List ℕ) (r : Result Compiled Refused) : Type 0 where
   pub answered : r ≡ compiled_of number text (length old)
   pub table : new ≡ table_after number text old
 
 -- what a table holds of what the tokens say, under the version that it records
-unfoldable pub held_by : List ℕ → reader.Answer (List Policy) → Held
+unfoldable pub held_by : List ℕ → reader.Answer (List Policy) → Option TableSize
 held_by table (took ps r) =
-    choose (starts_with (compiled_bytes (recorded table) ps) table) (λ _. Right (length ps) (length (policies_entries (recorded table) 0 ps))) (λ _. Wrong)
-held_by table (refuse n r) = Wrong
+    choose (starts_with (compiled_bytes (recorded table) ps) table) (λ _. Some (table_size (length ps) (length (policies_entries (recorded table) 0 ps)))) (λ _. None)
+held_by table (refuse n r) = None
 
 -- how many policies and entries a text has that compiles and whose table begins with its bytes; the table's room is not asked for
-unfoldable pub held_of : List ℕ → List ℕ → Held
-held_of text table = choose (ltb most_text_bytes (length text)) (λ _. Wrong) (λ _. held_by table (said text))
+unfoldable pub held_of : List ℕ → List ℕ → Option TableSize
+held_of text table = choose (ltb most_text_bytes (length text)) (λ _. None) (λ _. held_by table (said text))
 
 -- whether a table begins with the bytes of what the tokens say, under the version that it records
 unfoldable pub begins_by : List ℕ → reader.Answer (List Policy) → Bool

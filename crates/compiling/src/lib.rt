@@ -2,17 +2,15 @@
 #![tactic(auto)]
 
 ghost use Rattle.std.specs.Prelude.{◌≡◌, ◌≤◌, length};
-ghost use Rattle.tokens.specs.Table.{class_table};
-ghost use Rattle.compiling.specs.declared.Found.TheVariants.{Turned};
-ghost use Rattle.compiling.specs.declared.Compiled.TheVariants.{Refused};
-ghost use Rattle.compiling.specs.Outcome.{nowhere, found_of, told_of, compiled_under, table_under, held_of, begins_of, CompiledInto};
+ghost use Rattle.parts.specs.declared.answers.Refusal.{Refusal};
+ghost use Rattle.compiling.specs.declared.Unaccepted.TheVariants.{Turned};
+ghost use Rattle.compiling.specs.Outcome.{nowhere, found_of, refused_at, refused_for, compiled_under, table_under, held_of, begins_of, CompiledInto};
 
 use grammar::Version;
 use parts::answers::Refusal;
 use places::place_of;
-use policies::{Whole, read_all};
+use policies::read_all;
 use table::{ENTRY_SIZE, recorded};
-use tokens::classes::class_table;
 use tokens::sizes::MOST_TEXT_BYTES;
 
 // How many bytes of table must be lent for each byte of text.
@@ -21,10 +19,16 @@ const TABLE_PER_BYTE: usize = 8;
 // The refusal of a number that names no version.
 const OTHER_VERSION: u8 = 30;
 
-// What a text has: so many policies and entries; or its refusal, by its size or the table's, or at a token.
+// How many policies a text has, and how many entries they take in a table.
 #[derive(Clone, Copy)]
-pub enum Found {
-    Accepted(usize, usize),
+pub struct TableSize {
+    pub policies: usize,
+    pub entries: usize,
+}
+
+// Why a text is not accepted: by its size or the table's, or at a token.
+#[derive(Clone, Copy)]
+pub enum Unaccepted {
     Unfit(u8),
     Turned(Refusal),
 }
@@ -37,44 +41,43 @@ pub struct Spot {
     pub length: usize,
 }
 
-// What compiling answers: the policies and the bytes of the table that they use; or the refusal's number, and where.
+// What compiling answers: the policies, and the bytes of the table that they use.
 #[derive(Clone, Copy)]
-pub enum Compiled {
-    Policies(usize, usize),
-    Refused(u8, Spot),
+pub struct Compiled {
+    pub policies: usize,
+    pub bytes: usize,
 }
 
-// The policies and entries of a text whose table begins with them.
+// Or the refusal's number, and where.
 #[derive(Clone, Copy)]
-pub enum Held {
-    Right(usize, usize),
-    Wrong,
+pub struct Refused {
+    pub number: u8,
+    pub spot: Spot,
 }
 
 // What a text has under a version, where a table of so many bytes is lent; nothing is written.
-pub fn recognise(classes: &[u8; 256], text: &[u8], room: usize, version: Version) -> Found
-    requires { classes.now ≡ class_table }
+pub fn recognise(text: &[u8], room: usize, version: Version) -> Result<TableSize, Unaccepted>
     ensures { result ≡ found_of version text.now room }
 {
     if MOST_TEXT_BYTES < text.len() {
-        return Found::Unfit(1);
+        return Err(Unaccepted::Unfit(1));
     }
     if room < TABLE_PER_BYTE * text.len() {
-        return Found::Unfit(2);
+        return Err(Unaccepted::Unfit(2));
     }
-    let mut none = [0u8; 1];
-    let empty = [0u8; 1];
-    let whole = read_all(classes, text, &mut none, &empty, version);
-    match whole {
-        Whole::Lost(f) => Found::Turned(f),
-        Whole::All(policies, entries, _) => Found::Accepted(policies, entries),
+    match read_all(text, &mut [], &[], version) {
+        Err(f) => Err(Unaccepted::Turned(f)),
+        Ok(whole) => Ok(TableSize {
+            policies: whole.policies,
+            entries: whole.entries,
+        }),
     }
 }
 
 // What is told of a refusal at a token: its number, where the token stands, and its length.
-fn told(text: &[u8], f: Refusal) -> Compiled
+fn told(text: &[u8], f: Refusal) -> Refused
     requires { f.start ≤ length text.now }
-    ensures { result ≡ told_of text.now (Turned f) }
+    ensures { result ≡ refused_at text.now f }
 {
     let p = place_of(text, f.start);
     let spot = Spot {
@@ -82,72 +85,77 @@ fn told(text: &[u8], f: Refusal) -> Compiled
         column: p.column,
         length: f.size,
     };
-    Compiled::Refused(f.number, spot)
+    Refused {
+        number: f.number,
+        spot,
+    }
 }
 
 // A refusal that goes by no token has no place.
-fn unplaced(number: u8) -> Compiled
-    ensures { result ≡ Refused number nowhere }
+fn unplaced(number: u8) -> Refused
+    ensures { result ≡ record { number = number; spot = nowhere } }
 {
     let spot = Spot {
         line: 0,
         column: 0,
         length: 0,
     };
-    Compiled::Refused(number, spot)
+    Refused { number, spot }
+}
+
+// What is told of a text that is not accepted.
+fn refusal_of(text: &[u8], why: Unaccepted) -> Refused
+    requires { (f : Refusal) → why ≡ Turned f → f.start ≤ length text.now }
+    ensures { result ≡ refused_for text.now why }
+{
+    match why {
+        Unaccepted::Unfit(number) => unplaced(number),
+        Unaccepted::Turned(f) => told(text, f),
+    }
 }
 
 // Compiles a text into the table under a version. The bytes past those used stay, and a refusal changes nothing.
-fn compile_under(version: Version, text: &[u8], table: &mut [u8]) -> Compiled
+fn compile_under(version: Version, text: &[u8], table: &mut [u8]) -> Result<Compiled, Refused>
     ensures { (result ≡ compiled_under version text.now (length table.old))
         × (table.new ≡ table_under version text.now table.old) }
 {
-    let classes = class_table();
-    let found = recognise(&classes, text, table.len(), version);
-    match found {
-        Found::Unfit(number) => unplaced(number),
-        Found::Turned(f) => told(text, f),
-        Found::Accepted(policies, entries) => {
-            let empty = [0u8; 1];
-            read_all(&classes, text, table, &empty, version);
-            Compiled::Policies(policies, ENTRY_SIZE * entries)
+    match recognise(text, table.len(), version) {
+        Err(why) => Err(refusal_of(text, why)),
+        Ok(TableSize { policies, entries }) => {
+            let _ = read_all(text, table, &[], version);
+            Ok(Compiled {
+                policies,
+                bytes: ENTRY_SIZE * entries,
+            })
         }
     }
 }
 
 // The same under the version that a number names; any other number is refused before all.
-pub fn compile(number: u64, text: &[u8], table: &mut [u8]) -> Compiled
+pub fn compile(number: u64, text: &[u8], table: &mut [u8]) -> Result<Compiled, Refused>
     ensures { CompiledInto number text.now table.old table.new result }
 {
-    if number == 1 {
-        return compile_under(Version::First, text, table);
+    match number {
+        1 => compile_under(Version::First, text, table),
+        2 => compile_under(Version::Second, text, table),
+        _ => Err(unplaced(OTHER_VERSION)),
     }
-    if number == 2 {
-        return compile_under(Version::Second, text, table);
-    }
-    unplaced(OTHER_VERSION)
 }
 
 // The policies and entries of a text whose table begins with the bytes that it compiles to under the version that the table records.
-pub fn held_policies(classes: &[u8; 256], text: &[u8], table: &[u8]) -> Held
-    requires { classes.now ≡ class_table }
+pub fn held_policies(text: &[u8], table: &[u8]) -> Option<TableSize>
     ensures { result ≡ held_of text.now table.now }
 {
     if MOST_TEXT_BYTES < text.len() {
-        return Held::Wrong;
+        return None;
     }
     let version = recorded(table);
-    let mut none = [0u8; 1];
-    let whole = read_all(classes, text, &mut none, table, version);
-    match whole {
-        Whole::Lost(_) => Held::Wrong,
-        Whole::All(policies, entries, same) => {
-            if same {
-                Held::Right(policies, entries)
-            } else {
-                Held::Wrong
-            }
-        }
+    match read_all(text, &mut [], table, version) {
+        Ok(whole) if whole.same => Some(TableSize {
+            policies: whole.policies,
+            entries: whole.entries,
+        }),
+        _ => None,
     }
 }
 
@@ -155,10 +163,5 @@ pub fn held_policies(classes: &[u8; 256], text: &[u8], table: &[u8]) -> Held
 pub fn begins(text: &[u8], table: &[u8]) -> bool
     ensures { result ≡ begins_of text.now table.now }
 {
-    let classes = class_table();
-    let held = held_policies(&classes, text, table);
-    match held {
-        Held::Right(_, _) => true,
-        Held::Wrong => false,
-    }
+    held_policies(text, table).is_some()
 }

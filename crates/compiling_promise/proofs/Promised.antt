@@ -1,4 +1,5 @@
 -- The promises of specs/Promise. Assumes nothing.
+use Rattle.std.specs.Prelude.{Some, None, Result, Ok, Err}
 use mathlib.Core.Path.{◌≡◌, refl, ◌∙◌, sym, ap, ap₂, subst}
 use mathlib.Core.Logic.{◌⊎◌, inl, inr, ⊎_elim}
 use mathlib.Core.Bool.{Bool, true, false, cond}
@@ -33,16 +34,17 @@ use Rattle.table.proofs.Versions.{held_records, as_many}
 use Rattle.slices.specs.Parts.{Begins}
 use Rattle.table.proofs.Holding.{length_bytes_of, starts_decides, held_starts}
 use Rattle.parts.specs.Answers.{refusal_at}
-use Rattle.compiling.specs.Outcome.{compile_said, room_for, said, compiled_bytes, nowhere, spot_of, found_by, found_of, told_of, compiled_under, compiled_of, table_by, table_under, table_after, begins_by, begins_of, held_by, held_of}
+use Rattle.parts.specs.declared.answers.Refusal.{Refusal}
+use Rattle.compiling.specs.Outcome.{table_size, compiled, refused, compile_said, room_for, said, compiled_bytes, nowhere, spot_of, found_by, found_of, told_of, compiled_under, compiled_of, table_by, table_under, table_after, begins_by, begins_of, held_by, held_of}
 use Rattle.compiling_promise.specs.Promise.{UnderItsNumber, NoVersion, OtherVersion, ZerosElsewhere, AcceptedExactly, UnfitExactly, token_start, first_length, RefusedThere, RefusedExactly, bytes_said, bytes_for, BytesOfPolicies, TextAndVersionAlone, NothingChanged, NoPoliciesNoBytes, AsManyBytes, VersionRecorded, CompiledRecords, NoPoliciesNoVersion, OneCompiled, Begun, BeginsExactly, CompiledBegins, EnoughRoom, TableHolds, HeldRightly}
-use Rattle.compiling.specs.declared.Found.{Found}
-use Rattle.compiling.specs.declared.Found.TheVariants.{Accepted, Unfit, Turned}
+use Rattle.compiling.specs.declared.TableSize.{TableSize}
+use Rattle.compiling.specs.declared.Unaccepted.{Unaccepted}
+use Rattle.compiling.specs.declared.Unaccepted.TheVariants.{Unfit, Turned}
 use Rattle.compiling.specs.declared.Spot.{Spot}
 use Rattle.compiling.specs.declared.Compiled.{Compiled}
-use Rattle.compiling.specs.declared.Compiled.TheVariants.{Policies, Refused}
-use Rattle.compiling.proofs.Outcomes.{fitting, too_long, no_room, accepts, same_table, clash, clash_unfit}
+use Rattle.compiling.specs.declared.Refused.{Refused}
+use Rattle.compiling.proofs.Outcomes.{fitting, too_long, no_room, accepts, same_table}
 use Rattle.table.proofs.Counting.{entries_few as entries_below}
-use Rattle.compiling.specs.declared.Held.TheVariants.{Right, Wrong}
 
 -- ---- what a number names
 
@@ -79,20 +81,28 @@ under_its_number version text old room = (by_number version _ _, by_number versi
 
 -- ---- what an answer says of what is found
 
+abbrev record_of : ℕ → ℕ → Compiled
+record_of policies bytes = record { policies = policies; bytes = bytes }
+
+abbrev refusal_of : ℕ → Spot → Refused
+refusal_of number at = record { number = number; spot = at }
+
 -- how many entries were found for the bytes that are told
 record FoundAs (version : Version) (text : List ℕ) (room policies bytes : ℕ) : Type 0 where
   entries : ℕ
-  is : Accepted policies entries ≡ found_of version text room
+  is : Ok (table_size policies entries) ≡ found_of version text room
   used : bytes ≡ entry_size * entries
 
-found_as : (version : Version) (text : List ℕ) (room policies bytes : ℕ) → compiled_under version text room ≡ Policies policies bytes → FoundAs version text room policies bytes
+found_as : (version : Version) (text : List ℕ) (room policies bytes : ℕ) → compiled_under version text room ≡ compiled policies bytes → FoundAs version text room policies bytes
 unfolding compiled_under told_of
 found_as version text room policies bytes e = go (found_of version text room) refl e
   where
-    go : (x : Found) → found_of version text room ≡ x → told_of text x ≡ Policies policies bytes → FoundAs version text room policies bytes
-    go (Accepted p n) q e = record { entries = n; is = cc; used = cc }
-    go (Unfit n) q e = absurd (let z : ◌≡◌ {A = ℕ} 0 1 = cc in omega arith)
-    go (Turned f) q e = absurd (let z : ◌≡◌ {A = ℕ} 0 1 = cc in omega arith)
+    go : (x : Result TableSize Unaccepted) → found_of version text room ≡ x → told_of text x ≡ compiled policies bytes → FoundAs version text room policies bytes
+    go (Ok s) q e =
+        let same : record_of s.policies (entry_size * s.entries) ≡ record_of policies bytes = cc in
+        record { entries = s.entries; is = rw (← ap (λ (c : Compiled). c.policies) same) (sym q); used = sym (ap (λ (c : Compiled). c.bytes) same) }
+    go (Err (Unfit n)) q e = absurd (let z : ◌≡◌ {A = ℕ} 0 1 = cc in omega arith)
+    go (Err (Turned f)) q e = absurd (let z : ◌≡◌ {A = ℕ} 0 1 = cc in omega arith)
 
 -- what is taken of a whole text leaves no token
 end_is : (q : reader.Answer (List Policy)) (ps : List Policy) (r : List Lexeme) → bind q at_end ≡ took ps r → r ≡ []
@@ -118,7 +128,7 @@ record Compiles (version : Version) (text : List ℕ) (room policies bytes : ℕ
   many : policies ≡ length value
   used : bytes ≡ length (compiled_bytes version value)
 
-compiles : (version : Version) (text : List ℕ) (room policies bytes : ℕ) → compiled_under version text room ≡ Policies policies bytes → Compiles version text room policies bytes
+compiles : (version : Version) (text : List ℕ) (room policies bytes : ℕ) → compiled_under version text room ≡ compiled policies bytes → Compiles version text room policies bytes
 compiles version text room policies bytes e =
     let f = found_as version text room policies bytes e in
     let h = accepts version text room policies f.entries f.is in
@@ -135,7 +145,7 @@ compiles version text room policies bytes e =
 -- ---- acceptance
 
 took_answer : (version : Version) (text : List ℕ) (room : ℕ) (ps : List Policy) (r : List Lexeme) → length text ≤ most_text_bytes → room_for text ≤ room → said text ≡ took ps r
-    → compiled_under version text room ≡ Policies (length ps) (length (compiled_bytes version ps))
+    → compiled_under version text room ≡ compiled (length ps) (length (compiled_bytes version ps))
 unfolding compiled_under told_of found_by
 took_answer version text room ps r l h e = rw (fitting version text room l h, e, length_compiled version ps)
 
@@ -165,22 +175,22 @@ line_from (suc n) [] k p h = h
 line_from (suc n) (b ∷ l) k p h = line_from n l (behind_byte b l k) (past k b p) (past_line k b p h)
 
 -- a refusal with no place is one by the sizes
-sized : (version : Version) (text : List ℕ) (room number : ℕ) → compiled_under version text room ≡ Refused number nowhere → found_of version text room ≡ Unfit number
+sized : (version : Version) (text : List ℕ) (room number : ℕ) → compiled_under version text room ≡ refused number nowhere → found_of version text room ≡ Err (Unfit number)
 unfolding compiled_under told_of
 sized version text room number e = go (found_of version text room) e
   where
-    go : (x : Found) → told_of text x ≡ Refused number nowhere → x ≡ Unfit number
-    go (Accepted p n) e = absurd (let z : ◌≡◌ {A = ℕ} 0 1 = cc in omega arith)
-    go (Unfit n) e = cc
-    go (Turned f) e = absurd (let y : spot_of text f.start f.size ≡ nowhere = cc in let z : (place_of text f.start).line ≡ 0 = ap (λ (s : Spot). s.line) y in let y = line_from f.start text Outside (place 1 1) (omega arith) in omega arith)
+    go : (x : Result TableSize Unaccepted) → told_of text x ≡ refused number nowhere → x ≡ Err (Unfit number)
+    go (Ok s) e = absurd (let z : ◌≡◌ {A = ℕ} 0 1 = cc in omega arith)
+    go (Err (Unfit n)) e = let same : refusal_of n nowhere ≡ refusal_of number nowhere = cc in rw (ap (λ (r : Refused). r.number) same)
+    go (Err (Turned f)) e = absurd (let same : refusal_of f.number (spot_of text f.start f.size) ≡ refusal_of number nowhere = cc in let y : spot_of text f.start f.size ≡ nowhere = ap (λ (r : Refused). r.spot) same in let z : (place_of text f.start).line ≡ 0 = ap (λ (s : Spot). s.line) y in let y = line_from f.start text Outside (place 1 1) (omega arith) in omega arith)
 
-unfit_is : (version : Version) (text : List ℕ) (room number : ℕ) → found_of version text room ≡ Unfit number
+unfit_is : (version : Version) (text : List ℕ) (room number : ℕ) → found_of version text room ≡ Err (Unfit number)
     → ((most_text_bytes < length text) × (number ≡ 1)) ⊎ (((length text ≤ most_text_bytes) × (room < room_for text)) × (number ≡ 2))
 unfolding found_of found_by choose
 unfit_is version text room number e = go (ltb most_text_bytes (length text)) refl (ltb room (room_for text)) refl (said text) e
   where
     go : (a : Bool) → ltb most_text_bytes (length text) ≡ a → (b : Bool) → ltb room (room_for text) ≡ b → (p : reader.Answer (List Policy))
-        → choose a (λ _. Unfit 1) (λ _. choose b (λ _. Unfit 2) (λ _. found_by version text p)) ≡ Unfit number
+        → choose a (λ _. Err (Unfit 1)) (λ _. choose b (λ _. Err (Unfit 2)) (λ _. found_by version text p)) ≡ Err (Unfit number)
         → ((most_text_bytes < length text) × (number ≡ 1)) ⊎ (((length text ≤ most_text_bytes) × (room < room_for text)) × (number ≡ 2))
     go true x b y p e = inl (ltb-true _ _ x, cc)
     go false x true y p e = inr ((ltb-false _ _ x, ltb-true _ _ y), cc)
@@ -215,24 +225,25 @@ unfolding refusal_at
 number_is text n [] = refl
 number_is text n (x ∷ r) = refl
 
-refused_at : (version : Version) (text : List ℕ) (p : reader.Answer (List Policy)) (number : ℕ) (at : Spot) → said text ≡ p → told_of text (found_by version text p) ≡ Refused number at
+refused_at : (version : Version) (text : List ℕ) (p : reader.Answer (List Policy)) (number : ℕ) (at : Spot) → said text ≡ p → told_of text (found_by version text p) ≡ refused number at
     → RefusedThere text number at
 unfolding told_of found_by said lowest.TokensRefusedExactly
 refused_at version text (took ps r) number at q e = absurd (let z : ◌≡◌ {A = ℕ} 0 1 = cc in omega arith)
 refused_at version text (refuse n r) number at q e =
-    let same : number ≡ n = (let x : (refusal_at text n r).number ≡ number = cc in sym x ∙ number_is text n r) in
+    let f : Refusal = refusal_at text n r in
+    let told : refusal_of f.number (spot_of text f.start f.size) ≡ refusal_of number at = cc in
+    let same : number ≡ n = sym (ap (λ (r : Refused). r.number) told) ∙ number_is text n r in
     record {
       tokens = tokens_of text;
       listed = tokens_stand text;
       rest = r;
       refused = (tokens_refused_exactly (tokens_of text) r number).0 (q ∙ rw same);
       place_is =
-          let x : spot_of text (refusal_at text n r).start (refusal_at text n r).size ≡ at = cc in
-          ap₂ (spot_of text) (sym (start_is text n r)) (sym (size_is text n r)) ∙ x;
+          ap₂ (spot_of text) (sym (start_is text n r)) (sym (size_is text n r)) ∙ ap (λ (r : Refused). r.spot) told;
     }
 
 -- what the refusal of these tokens is told as
-told_there : (version : Version) (text : List ℕ) (number : ℕ) (at : Spot) → RefusedThere text number at → told_of text (found_by version text (said text)) ≡ Refused number at
+told_there : (version : Version) (text : List ℕ) (number : ℕ) (at : Spot) → RefusedThere text number at → told_of text (found_by version text (said text)) ≡ refused number at
 unfolding told_of found_by said lowest.TokensRefusedExactly
 told_there version text number at t =
     rw (tokens_are text t.listed, (tokens_refused_exactly t.tokens t.rest number).1 t.refused, number_is text number t.rest, start_is text number t.rest, size_is text number t.rest, t.place_is)
@@ -259,7 +270,7 @@ unfolding compiled_under found_of found_by told_of compile_said choose said lowe
 refusal_few version text room = go (ltb most_text_bytes (length text)) (ltb room (room_for text)) (said text) refl
   where
     go : (a b : Bool) (p : reader.Answer (List Policy)) → said text ≡ p
-        → (compile_said (told_of text (choose a (λ _. Unfit 1) (λ _. choose b (λ _. Unfit 2) (λ _. found_by version text p))))).refusal ≤ 17
+        → (compile_said (told_of text (choose a (λ _. Err (Unfit 1)) (λ _. choose b (λ _. Err (Unfit 2)) (λ _. found_by version text p))))).refusal ≤ 17
     go true b p q = omega arith
     go false true p q = omega arith
     go false false (took ps r) q = omega arith
@@ -267,13 +278,13 @@ refusal_few version text room = go (ltb most_text_bytes (length text)) (ltb room
 
 pub other_version : OtherVersion
 unfolding OtherVersion UnderItsNumber compiled_of table_after compile_said
-other_version number text old room = ((named_not, λ n. ap (λ (r : Compiled). (compile_said r).refusal) (by_none number _ _ n)), λ n. (by_none number _ _ n, by_none number _ _ n))
+other_version number text old room = ((named_not, λ n. ap (λ (r : Result Compiled Refused). (compile_said r).refusal) (by_none number _ _ n)), λ n. (by_none number _ _ n, by_none number _ _ n))
   where
     named_not : (compile_said (compiled_of number text room)).refusal ≡ 30 → NoVersion number
     named_not e version q =
         let f = refusal_few version text room in
         let u : compiled_of number text room ≡ compiled_under version text room = ap (λ (n : ℕ). compiled_of n text room) (sym q) ∙ (under_its_number version text old room).0 in
-        let z : (compile_said (compiled_under version text room)).refusal ≡ 30 = ap (λ (r : Compiled). (compile_said r).refusal) (sym u) ∙ e in
+        let z : (compile_said (compiled_under version text room)).refusal ≡ 30 = ap (λ (r : Result Compiled Refused). (compile_said r).refusal) (sym u) ∙ e in
         omega arith
 
 table_said : (version : Version) (text old : List ℕ) (ps : List Policy) → length text ≤ most_text_bytes → room_for text ≤ length old → said text ≡ took ps []
@@ -300,21 +311,20 @@ text_and_version_alone version text old policies bytes e =
     let p = parted (compiled_bytes version k.value) old bytes k.used in
     (ap (take bytes) t ∙ p.0 ∙ sym (bytes_said_lem version text k.value k.is), ap (drop bytes) t ∙ p.1)
 
-unchanged_under : (version : Version) (text old : List ℕ) (number : ℕ) (at : Spot) → compiled_under version text (length old) ≡ Refused number at
+unchanged_under : (version : Version) (text old : List ℕ) (number : ℕ) (at : Spot) → compiled_under version text (length old) ≡ refused number at
     → table_under version text old ≡ old
 unfolding compiled_under told_of
 unchanged_under version text old number at e = go (found_of version text (length old)) refl e
   where
-    go : (x : Found) → found_of version text (length old) ≡ x → told_of text x ≡ Refused number at → table_under version text old ≡ old
-    go (Accepted p n) q e = absurd (let z : ◌≡◌ {A = ℕ} 0 1 = cc in omega arith)
-    go (Unfit n) q e = sym (same_table version text old (λ p n. clash_unfit) (sym q))
-    go (Turned f) q e = sym (same_table version text old (λ p n. clash) (sym q))
+    go : (x : Result TableSize Unaccepted) → found_of version text (length old) ≡ x → told_of text x ≡ refused number at → table_under version text old ≡ old
+    go (Ok s) q e = absurd (let z : ◌≡◌ {A = ℕ} 0 1 = cc in omega arith)
+    go (Err u) q e = sym (same_table version text old (sym q))
 
 pub nothing_changed : NothingChanged
 unfolding NothingChanged UnderItsNumber OtherVersion
 nothing_changed number text old refusal at e = go number (named number) e
   where
-    go : (number : ℕ) → Named number → compiled_of number text (length old) ≡ Refused refusal at → table_after number text old ≡ old
+    go : (number : ℕ) → Named number → compiled_of number text (length old) ≡ refused refusal at → table_after number text old ≡ old
     go number (a_version version) e =
         let u = under_its_number version text old (length old) in u.1 ∙ unchanged_under version text old refusal at (sym u.0 ∙ e)
     go number (no_version n) e = ((other_version number text old 0).1 n).1
@@ -419,25 +429,26 @@ unfolding HeldRightly held_of held_by choose said
 held_rightly text table policies entries e = go (ltb most_text_bytes (length text)) refl (said text) refl e
   where
     at_bytes : (ps : List Policy) (r : List Lexeme) → ltb most_text_bytes (length text) ≡ false → said text ≡ took ps r → (b : Bool) → starts_with (compiled_bytes (recorded table) ps) table ≡ b
-        → choose b (λ _. Right (length ps) (length (policies_entries (recorded table) 0 ps))) (λ _. Wrong) ≡ Right policies entries → TableHolds text table policies entries
+        → choose b (λ _. Some (table_size (length ps) (length (policies_entries (recorded table) 0 ps)))) (λ _. None) ≡ Some (table_size policies entries) → TableHolds text table policies entries
     at_bytes ps r x q true z e =
         let n = nothing_left text ps r q in
         let all : said text ≡ took ps [] = q ∙ rw n in
-        let count : entries ≡ length (policies_entries (recorded table) 0 ps) = cc in
+        let same : table_size (length ps) (length (policies_entries (recorded table) 0 ps)) ≡ table_size policies entries = cc in
+        let count : entries ≡ length (policies_entries (recorded table) 0 ps) = sym (ap (λ (t : TableSize). t.entries) same) in
         let few = entries_few (recorded table) text ps all in
         record {
           short = ltb-false _ _ x;
           value = ps;
           is = all;
           belongs = (says_exactly text ps).0 all;
-          many = cc;
+          many = sym (ap (λ (t : TableSize). t.policies) same);
           count = count;
           few = omega arith;
           held_all = held_starting (recorded table) table ps z;
         }
     at_bytes ps r x q false z e = absurd (let z : ◌≡◌ {A = ℕ} 0 1 = cc in omega arith)
 
-    go : (a : Bool) → ltb most_text_bytes (length text) ≡ a → (p : reader.Answer (List Policy)) → said text ≡ p → choose a (λ _. Wrong) (λ _. held_by table p) ≡ Right policies entries
+    go : (a : Bool) → ltb most_text_bytes (length text) ≡ a → (p : reader.Answer (List Policy)) → said text ≡ p → choose a (λ _. None) (λ _. held_by table p) ≡ Some (table_size policies entries)
         → TableHolds text table policies entries
     go true x p q e = absurd (let z : ◌≡◌ {A = ℕ} 0 1 = cc in omega arith)
     go false x (took ps r) q e = at_bytes ps r x q (starts_with (compiled_bytes (recorded table) ps) table) refl e
@@ -445,5 +456,5 @@ held_rightly text table policies entries e = go (ltb most_text_bytes (length tex
 
 pub zeros_elsewhere : ZerosElsewhere
 unfolding ZerosElsewhere compile_said
-zeros_elsewhere (Policies policies bytes) h = absurd (h refl)
-zeros_elsewhere (Refused number at) h = (refl, refl)
+zeros_elsewhere (Ok c) h = absurd (h refl)
+zeros_elsewhere (Err f) h = (refl, refl)

@@ -2,7 +2,7 @@
 -- Definitions only.
 -- `compiled_of` and `table_after` are what `compile` answers and leaves in the table by its contract, `compiled_under` and `table_under` the same where the number
 -- that it is given names a version, `begins_of` and `held_of` what `begins` and `held_policies` answer (crates/compiling/specs/Outcome.antt).
-use Rattle.std.specs.Prelude.{◌≡◌, ◌⊎◌, ◌↔◌, true, List, [], ◌∷◌, ℕ, ◌+◌, ◌≤◌, length, take, drop}
+use Rattle.std.specs.Prelude.{◌≡◌, ◌⊎◌, ◌↔◌, true, List, [], ◌∷◌, ℕ, ◌+◌, ◌≤◌, length, take, drop, Some, Result}
 use Rattle.tokens.specs.Sizes.{most_text_bytes}
 use Rattle.reading.specs.Listed.{Lexeme, size, TokensOf}
 use Rattle.reading.specs.Reader as reader
@@ -16,13 +16,12 @@ use Rattle.table.specs.Entries.{policies_entries}
 use Rattle.slices.specs.Parts.{Begins}
 use Rattle.table.specs.Layout.{held}
 use Rattle.table.specs.Recorded.{recorded}
-use Rattle.compiling.specs.Outcome.{room_for, said, compiled_bytes, nowhere, spot_of, compiled_under, compiled_of, compile_said, table_under, table_after}
+use Rattle.compiling.specs.Outcome.{room_for, said, compiled_bytes, table_size, compiled, refused, nowhere, spot_of, compiled_under, compiled_of, compile_said, table_under, table_after}
 use Rattle.compiling.specs.Outcome.{CompiledInto, held_of}
 use Rattle.compiling.specs.Outcome.{begins_of}
 use Rattle.compiling.specs.declared.Spot.{Spot}
 use Rattle.compiling.specs.declared.Compiled.{Compiled}
-use Rattle.compiling.specs.declared.Compiled.TheVariants.{Policies, Refused}
-use Rattle.compiling.specs.declared.Held.TheVariants.{Right}
+use Rattle.compiling.specs.declared.Refused.{Refused}
 
 -- ---- versions
 
@@ -40,7 +39,7 @@ NoVersion number = (version : Version) → version_number version ≡ number →
 unfoldable pub OtherVersion : Type 0
 OtherVersion = (number : ℕ) (text old : List ℕ) (room : ℕ)
     → (((compile_said (compiled_of number text room)).refusal ≡ 30) ↔ NoVersion number)
-    × (NoVersion number → (compiled_of number text room ≡ Refused 30 nowhere) × (table_after number text old ≡ old))
+    × (NoVersion number → (compiled_of number text room ≡ refused 30 nowhere) × (table_after number text old ≡ old))
 
 -- ---- acceptance
 
@@ -55,13 +54,13 @@ pub record BelongsAs (version : Version) (text : List ℕ) (policies bytes : ℕ
 -- their bytes.
 unfoldable pub AcceptedExactly : Type 0
 AcceptedExactly = (version : Version) (text : List ℕ) (room policies bytes : ℕ) → length text ≤ most_text_bytes → room_for text ≤ room
-    → (compiled_under version text room ≡ Policies policies bytes) ↔ BelongsAs version text policies bytes
+    → (compiled_under version text room ≡ compiled policies bytes) ↔ BelongsAs version text policies bytes
 
 -- Refusals 1 and 2 go by the lengths of text and table alone, and come first, 1 before 2; their place is 0, 0, and their length 0.
 unfoldable pub UnfitExactly : Type 0
 UnfitExactly = (version : Version) (text : List ℕ) (room : ℕ)
-    → ((compiled_under version text room ≡ Refused 1 nowhere) ↔ (¬ (length text ≤ most_text_bytes)))
-    × ((compiled_under version text room ≡ Refused 2 nowhere) ↔ ((length text ≤ most_text_bytes) × (¬ (room_for text ≤ room))))
+    → ((compiled_under version text room ≡ refused 1 nowhere) ↔ (¬ (length text ≤ most_text_bytes)))
+    × ((compiled_under version text room ≡ refused 2 nowhere) ↔ ((length text ≤ most_text_bytes) × (¬ (room_for text ≤ room))))
 
 -- ---- refusal
 
@@ -96,11 +95,11 @@ pub record Lengths (text : List ℕ) (number n : ℕ) (rest : List Lexeme) : Typ
 -- A text that is not too long and is lent table enough is refused by a number, with a line, a column and a length, exactly when that holds.
 unfoldable pub RefusedExactly : Type 0
 RefusedExactly = (version : Version) (text : List ℕ) (room number : ℕ) (at : Spot) → length text ≤ most_text_bytes → room_for text ≤ room
-    → (compiled_under version text room ≡ Refused number at) ↔ RefusedThere text number at
+    → (compiled_under version text room ≡ refused number at) ↔ RefusedThere text number at
 
 -- A refusal gives its number and place, and zeros for policies and bytes.
 unfoldable pub ZerosElsewhere : Type 0
-ZerosElsewhere = (r : Compiled) → ((compile_said r).refusal ≡ 0 → ⊥) → ((compile_said r).policies ≡ 0) × ((compile_said r).bytes ≡ 0)
+ZerosElsewhere = (r : Result Compiled Refused) → ((compile_said r).refusal ≡ 0 → ⊥) → ((compile_said r).policies ≡ 0) × ((compile_said r).bytes ≡ 0)
 
 -- ---- the table
 
@@ -119,21 +118,21 @@ BytesOfPolicies = (version : Version) (text : List ℕ) (ps : List Policy) → S
 
 -- A text that is accepted has these bytes at the table's start, a function of the text and the version alone; the bytes past those stay.
 unfoldable pub TextAndVersionAlone : Type 0
-TextAndVersionAlone = (version : Version) (text old : List ℕ) (policies bytes : ℕ) → compiled_under version text (length old) ≡ Policies policies bytes
+TextAndVersionAlone = (version : Version) (text old : List ℕ) (policies bytes : ℕ) → compiled_under version text (length old) ≡ compiled policies bytes
     → (take bytes (table_under version text old) ≡ bytes_for version text) × (drop bytes (table_under version text old) ≡ drop bytes old)
 
 -- A refusal changes no byte of the table.
 unfoldable pub NothingChanged : Type 0
-NothingChanged = (number : ℕ) (text old : List ℕ) (refusal : ℕ) (at : Spot) → compiled_of number text (length old) ≡ Refused refusal at
+NothingChanged = (number : ℕ) (text old : List ℕ) (refusal : ℕ) (at : Spot) → compiled_of number text (length old) ≡ refused refusal at
     → table_after number text old ≡ old
 
 -- 8 bytes of table for each byte of text are enough.
 unfoldable pub EnoughRoom : Type 0
-EnoughRoom = (version : Version) (text : List ℕ) (room policies bytes : ℕ) → compiled_under version text room ≡ Policies policies bytes → bytes ≤ room_for text
+EnoughRoom = (version : Version) (text : List ℕ) (room policies bytes : ℕ) → compiled_under version text room ≡ compiled policies bytes → bytes ≤ room_for text
 
 -- No policies use no bytes.
 unfoldable pub NoPoliciesNoBytes : Type 0
-NoPoliciesNoBytes = (version : Version) (text : List ℕ) (room bytes : ℕ) → compiled_under version text room ≡ Policies 0 bytes → bytes ≡ 0
+NoPoliciesNoBytes = (version : Version) (text : List ℕ) (room bytes : ℕ) → compiled_under version text room ≡ compiled 0 bytes → bytes ≡ 0
 
 -- Policies use as many bytes under one version as under another.
 unfoldable pub AsManyBytes : Type 0
@@ -148,7 +147,7 @@ VersionRecorded = (version : Version) (table : List ℕ) (p : Policy) (ps : List
 
 -- So a table into which a text with a policy was compiled records the version that it was compiled under.
 unfoldable pub CompiledRecords : Type 0
-CompiledRecords = (version : Version) (text old : List ℕ) (policies bytes : ℕ) → compiled_under version text (length old) ≡ Policies policies bytes
+CompiledRecords = (version : Version) (text old : List ℕ) (policies bytes : ℕ) → compiled_under version text (length old) ≡ compiled policies bytes
     → (policies ≡ 0 → ⊥) → recorded (table_under version text old) ≡ version
 
 -- A text without policies has no version: it has the same bytes, none, under each.
@@ -159,7 +158,7 @@ NoPoliciesNoVersion = (version : Version) → compiled_bytes version [] ≡ []
 
 -- Any two results that the contract of `compile` allows coincide, and so do the tables.
 unfoldable pub OneCompiled : Type 0
-OneCompiled = (number : ℕ) (text old new new' : List ℕ) (r r' : Compiled) → CompiledInto number text old new r → CompiledInto number text old new' r'
+OneCompiled = (number : ℕ) (text old new new' : List ℕ) (r r' : Result Compiled Refused) → CompiledInto number text old new r → CompiledInto number text old new' r'
     → (r ≡ r') × (new ≡ new')
 
 -- the text is a rule text of at most 8,192 bytes, and the table begins with the bytes that it compiles to under some version
@@ -176,7 +175,7 @@ BeginsExactly = (text table : List ℕ) → (begins_of text table ≡ true) ↔ 
 
 -- A table into which a text was compiled begins right.
 unfoldable pub CompiledBegins : Type 0
-CompiledBegins = (version : Version) (text old : List ℕ) (policies bytes : ℕ) → compiled_under version text (length old) ≡ Policies policies bytes
+CompiledBegins = (version : Version) (text old : List ℕ) (policies bytes : ℕ) → compiled_under version text (length old) ≡ compiled policies bytes
     → begins_of text (table_under version text old) ≡ true
 
 -- the text is a rule text of at most 8,192 bytes that says so many policies, and the table has their entries from its beginning on, under the version that it
@@ -193,4 +192,4 @@ pub record TableHolds (text table : List ℕ) (policies entries : ℕ) : Type 0 
 
 -- What a reader of a table may count on that begins right.
 unfoldable pub HeldRightly : Type 0
-HeldRightly = (text table : List ℕ) (policies entries : ℕ) → held_of text table ≡ Right policies entries → TableHolds text table policies entries
+HeldRightly = (text table : List ℕ) (policies entries : ℕ) → held_of text table ≡ Some (table_size policies entries) → TableHolds text table policies entries

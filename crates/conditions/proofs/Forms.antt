@@ -1,4 +1,4 @@
--- A condition by its first token, and a choice after its first part. Assumes nothing.
+-- A condition by its first token. Assumes nothing.
 use mathlib.Core.Path.{◌≡◌, refl, ◌∙◌}
 use mathlib.Core.Bool.{Bool, true, false}
 use mathlib.Core.List.{List, [], ◌∷◌}
@@ -20,8 +20,6 @@ use Rattle.grammar.specs.Parser.{no_text, no_level, is_text_of, read_operator, r
 use Rattle.grammar.proofs.Completeness.{no_sort_of, of_sort}
 use Rattle.parts.specs.Names.{root_from}
 use Rattle.parts.proofs.Sorts.{literal_some, root_some}
-
--- ---- by the first token
 
 on_same : {A : Type 0} (k : Lexeme → Bool) (f : Lexeme → Reader A) (g g' : Reader A) (i : List Lexeme) → g i ≡ g' i → on k f g i ≡ on k f g' i
 unfolding on choose
@@ -98,9 +96,3 @@ module _ (text : List ℕ) (t : Token) where
           flat_first n₃ = rw (deeper_is d deep) (simple_same (read_condition (d - 1)) (
               next_off text t (is kinds.bang) _ _ (ne_eqb _ _ n₁) ∙ next_off text t (is kinds.left_round) _ _ (ne_eqb _ _ n₂) ∙ next_off text t (is kinds.if_word) _ _ (ne_eqb _ _ n₃)
               ∙ refused_same no_text no_level (level n₁ n₂ n₃)))
-
--- a choice after its first part
-pub choice_second : (inner : Reader Tree) (i : List Lexeme) {m : List Lexeme} {a : Tree} → before kinds.then_word inner i ≡ took a m
-    → read_conditional inner i ≡ bind (before kinds.else_word inner m) (λ b. mapped (choice a b) inner)
-unfolding read_conditional bind
-choice_second inner i e = rw e

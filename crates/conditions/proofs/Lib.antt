@@ -1,5 +1,3 @@
-pub mod Earlier
-pub mod Apart
 pub mod Chains
 pub mod Forms
-pub mod Choosing
+pub mod Nested

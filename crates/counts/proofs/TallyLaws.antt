@@ -1,7 +1,7 @@
 -- Laws of the lines of a tally. Assumes nothing.
 use mathlib.Core.Path.{◌≡◌}
 use mathlib.Core.List.{List, [], ◌∷◌, ◌++◌}
-use Prim.Native.Nat.{ℕ, ◌+◌, ◌*◌, ◌≤◌}
+use Prim.Native.Nat.{ℕ, ◌+◌, ◌*◌}
 use native.Mathlib.Numerals.{add-one}
 use native.Mathlib.Omega.{arith}
 use lib.ListN.{get_or}
@@ -27,11 +27,6 @@ module _ (word counts : List ℕ) (from : ℕ) where
   unfolding count_lines
   count_on n p e q = rw (add-one n) (both_added p (rw (add-one n, e) at q))
 
-  -- all of them
-  pub counts_put : {a b : List ℕ} {at filled n many : ℕ} → Added a at (count_lines word counts from n) b filled → n ≤ many → many ≤ n
-      → Added a at (count_lines word counts from many) b filled
-  counts_put {n = n} {many} p low high = let e : n ≡ many = omega arith in rw e at p
-
 -- ---- groups
 
 pub group_put : (counts : List ℕ) (from policies : ℕ) {a b c : List ℕ} {at mid next : ℕ} → Added a at (count_lines outcome_word counts from 4) b mid
@@ -50,11 +45,6 @@ module _ (counts : List ℕ) (policies : ℕ) where
       → Added a at (request_lines counts policies (k + 1)) d next
   unfolding request_lines
   request_on k p q r = rw (add-one k) (both_added p (both_added (rw (add-one k) at q) r))
-
-  -- all of them
-  pub requests_put : {a b : List ℕ} {at filled k many : ℕ} → Added a at (request_lines counts policies k) b filled → k ≤ many → many ≤ k
-      → Added a at (request_lines counts policies many) b filled
-  requests_put {k = k} {many} p low high = let e : k ≡ many = omega arith in rw e at p
 
 -- ---- the tally
 

@@ -1,18 +1,12 @@
 // The lines of a tally, put into a lent buffer: how many rows there are, and the counts of each request and the sums, a line for each.
+// A buffer that grows would be no plainer: it takes an allocator, and each line could fail.
 #![tactic(auto)]
 
 ghost use Rattle.std.specs.Prelude.{◌≡◌, ◌+◌, ◌*◌, ◌≤◌, length};
 ghost use Rattle.folder.specs.Added.{Added};
 ghost use Rattle.counts.specs.Tallied.{count_lines, group_lines, request_lines, tally_lines};
 
-use folder::lines::{put_one, put_two, put_word};
-
-// A count as a number.
-fn whole(count: u32) -> usize
-    ensures { result ≡ count }
-{
-    count as usize
-}
+use folder::lines::{put_numbers, put_word};
 
 // A line for each of so many counts from a place on: a word, the number of the count from 1, and the count.
 fn put_counts(
@@ -28,11 +22,8 @@ fn put_counts(
         × (result ≤ at + 50 * many) }
 {
     let mut filled = at;
-    let mut n = 0;
-    while n < many {
-        let count = whole(counts[from + n]);
-        filled = put_two(out, filled, word, n + 1, count);
-        n += 1;
+    for n in 0..many {
+        filled = put_numbers(out, filled, word, &[n + 1, counts[from + n] as usize]);
     }
     filled
 }
@@ -54,11 +45,9 @@ fn put_requests(out: &mut [u8], at: usize, counts: &[u32], many: usize, policies
         × (result ≤ at + 3429 * many) }
 {
     let mut filled = at;
-    let mut k = 0;
-    while k < many {
-        let heading = put_one(out, filled, b"request ", k + 1);
+    for k in 0..many {
+        let heading = put_numbers(out, filled, b"request ", &[k + 1]);
         filled = put_group(out, heading, counts, 68 * k, policies);
-        k += 1;
     }
     filled
 }
@@ -68,7 +57,7 @@ pub fn put_tally(out: &mut [u8], counts: &[u32], rows: usize, many: usize, polic
     requires { (612 ≤ length counts.now) × (many ≤ 8) × (policies ≤ 64) × (30863 ≤ length out.old) }
     ensures { Added out.old 0 (tally_lines counts.now rows many policies) out.new result × (result ≤ 30863) }
 {
-    let first = put_one(out, 0, b"rows ", rows);
+    let first = put_numbers(out, 0, b"rows ", &[rows]);
     let requests = put_requests(out, first, counts, many, policies);
     let sums = put_word(out, requests, b"sums\n");
     put_group(out, sums, counts, 544, policies)

@@ -1,5 +1,5 @@
 -- When a policy is satisfied that is met from its last entry: its target matches, and its condition, if any, is true. Assumes nothing.
-use mathlib.Core.Path.{◌≡◌, sym, ◌∙◌}
+use mathlib.Core.Path.{◌≡◌, refl, sym, ◌∙◌}
 use mathlib.Core.Bool.{Bool, true, false}
 use mathlib.Core.List.{List}
 use Prim.Native.Nat.{ℕ, ◌-◌}
@@ -10,7 +10,15 @@ use Rattle.placing.specs.Said.{condition_words, policy_words, tree_words}
 use Rattle.meaning.specs.Values.{with_action}
 use Rattle.meaning.specs.Conditions.{settles, verdict, is_yes}
 use Rattle.meaning.specs.Targets.{Request}
+use Rattle.meaning.specs.declared.Verdict.{Verdict}
+use Rattle.meaning.specs.declared.Verdict.TheVariants.{Yes, No, Missing}
 use Rattle.meaning.specs.Decisions.{Terms, under, target_matches, condition_holds, satisfied}
+
+-- what is not Yes is not true
+pub not_yes : (v : Verdict) → (v ≡ Yes → ⊥) → false ≡ is_yes v
+not_yes Yes n = absurd (n refl)
+not_yes No n = refl
+not_yes Missing n = refl
 
 module _ (t : List ℕ) (terms : Terms) (table : List ℕ) (end : ℕ) (x : Entry) where
   pub no_condition : x.second ≡ end - 1 → true ≡ condition_holds terms (policy_words t (policy_at table end x)).condition

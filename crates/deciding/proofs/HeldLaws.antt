@@ -1,4 +1,6 @@
 -- A table that holds its text: its policies are those that the text says, and can be evaluated there. Assumes nothing.
+use Rattle.compiling.specs.Outcome.{table_size}
+use Rattle.std.specs.Prelude.{Err, Ok, None, Some}
 use mathlib.Core.Path.{◌≡◌, refl, sym, ◌∙◌, ap}
 use mathlib.Core.List.{List, []}
 use Prim.Native.Nat.{ℕ, ◌≤◌}
@@ -17,7 +19,6 @@ use Rattle.stored.specs.Ready.{ReadyPolicies}
 use Rattle.stored.proofs.Theorems.{compiled_says, compiled_ready}
 use Rattle.compiling.specs.Outcome.{said, held_of}
 use Rattle.compiling_promise.specs.Promise.{HeldRightly, TableHolds}
-use Rattle.compiling.specs.declared.Held.TheVariants.{Right, Wrong}
 use Rattle.compiling.proofs.Outcomes.{right_begins, wrong_begins}
 use Rattle.compiling_promise.proofs.Promised.{held_rightly}
 use Rattle.bags.specs.declared.sections.Sections.{Sections}
@@ -29,7 +30,6 @@ use Rattle.meaning.specs.Targets.{Request}
 use Rattle.meaning.specs.Decisions.{under, policies_marked}
 use Rattle.meaning.specs.declared.Marked.{Marked}
 use Rattle.deciding.specs.Answers.{policies_in, policies_of, held_decide}
-use Rattle.deciding.specs.declared.Answer.TheVariants.{Decided, Refused}
 
 -- the policies that a text says are those that its tokens are read as
 pub policies_said : (text : List ℕ) (ps : List Policy) → said text ≡ took ps [] → policies_of text ≡ ps
@@ -41,7 +41,7 @@ pub plain_row : (s : List ℕ) (p : Sections) (heads values : List ℕ) → row_
 unfolding row_view chosen_of columns_first
 plain_row s p heads values = refl
 
-module _ (text table : List ℕ) (policies entries : ℕ) (h : held_of text table ≡ Right policies entries) where
+module _ (text table : List ℕ) (policies entries : ℕ) (h : held_of text table ≡ Some (table_size policies entries)) where
   holds : TableHolds text table policies entries
   unfolding HeldRightly
   holds = held_rightly text table policies entries h
@@ -67,10 +67,10 @@ module _ (text table : List ℕ) (policies entries : ℕ) (h : held_of text tabl
   held_few = rw holds.many (policies_placed text holds.value says.read).few
 
   pub held_decides : (view : View) (q : Request) {m : Marked} → m ≡ policies_marked (under (recorded table) view) q (words_of text (policies_at table entries))
-      → Decided m ≡ held_decide text table view q
+      → Ok m ≡ held_decide text table view q
   unfolding held_decide
   held_decides view q e = rw (e, held_says, ← right_begins text table (sym h))
 
-pub wrong_decides : (text table : List ℕ) (view : View) (q : Request) → held_of text table ≡ Wrong → Refused 20 ≡ held_decide text table view q
+pub wrong_decides : (text table : List ℕ) (view : View) (q : Request) → held_of text table ≡ None → Err 20 ≡ held_decide text table view q
 unfolding held_decide
 wrong_decides text table view q h = rw (← wrong_begins text table (sym h))

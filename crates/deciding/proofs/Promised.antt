@@ -1,4 +1,6 @@
 -- What is promised of deciding. Assumes nothing.
+use Rattle.meaning.specs.declared.Marked.{Marked}
+use Rattle.std.specs.Prelude.{Err, Ok, Result}
 use mathlib.Core.Path.{◌≡◌, refl, subst}
 use mathlib.Core.Bool.{Bool, true, false}
 use mathlib.Core.List.{List}
@@ -12,8 +14,6 @@ use Rattle.bags.specs.Sections.{is_bag}
 use Rattle.meaning.specs.Targets.{Request, is_system, is_subject, is_action, is_resource}
 use Rattle.deciding.specs.Answers.{decide_answer, decide_said}
 use Rattle.deciding.specs.Promise.{DecideCall, RequestRefused, bad_subject, bad_action, bad_resource, DecideRefused, never_the_system, bad_request, no_bag, not_compiled, none_wrong, DecideRefusedExactly, AnsweredAlike}
-use Rattle.deciding.specs.declared.Answer.{Answer}
-use Rattle.deciding.specs.declared.Answer.TheVariants.{Decided, Refused}
 use Rattle.deciding.proofs.Answering.{the_system, refused_21, refused_22, refused_23, refused_24, refused_20, decided_then}
 
 -- ---- a text and its table
@@ -85,10 +85,10 @@ decide_refused_exactly c number =
     ((λ e. subst (DecideRefused c) e (told c.text c.table c.bag c.request)), refusal_is c.text c.table c.bag c.request)
 
 -- a refusal gives its number, and zeros elsewhere
-pub zeros_elsewhere : (a : Answer) → ((decide_said a).refusal ≡ 0 → ⊥) → ((decide_said a).outcome ≡ 0) × ((decide_said a).policy ≡ 0) × ((decide_said a).mark ≡ 0)
+pub zeros_elsewhere : (a : Result Marked ℕ) → ((decide_said a).refusal ≡ 0 → ⊥) → ((decide_said a).outcome ≡ 0) × ((decide_said a).policy ≡ 0) × ((decide_said a).mark ≡ 0)
 unfolding decide_said
-zeros_elsewhere (Decided m) n = absurd (n refl)
-zeros_elsewhere (Refused number) n = (refl, refl, refl)
+zeros_elsewhere (Ok m) n = absurd (n refl)
+zeros_elsewhere (Err number) n = (refl, refl, refl)
 
 -- ---- what a text says
 

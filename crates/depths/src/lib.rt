@@ -35,15 +35,10 @@ fn column_naming(s: &[u8], n: usize, heads: &[usize; MOST_COLUMNS], root: u8, pa
     requires { Counted s.now n heads.now }
     ensures { result ≡ naming n s.now heads.now 0 root (unblanked path.now) }
 {
-    let mut left = n;
-    let mut i = 0;
-    while 0 < left {
-        let head = heads[i];
-        i += 1;
-        if names(s, head, root, path) {
-            return i as u8;
+    for i in 0..n {
+        if names(s, heads[i], root, path) {
+            return (i + 1) as u8;
         }
-        left -= 1;
     }
     0
 }
@@ -66,7 +61,7 @@ fn column_of(text: &[u8], x: Entry, s: &[u8], n: usize, heads: &[usize; MOST_COL
 fn deeper_of(but: u8, a: u8, k: u8) -> u8
     ensures { result ≡ deeper but a k }
 {
-    if (a < k) & (k != but) { k } else { a }
+    if a < k && k != but { k } else { a }
 }
 
 // The last column, `but` aside, that the entries from number `first` up to `end` name.
@@ -86,12 +81,10 @@ fn depth(
     ensures { result ≡ depth_from (end - first) text.now table.now s.now n heads.now but first 0 }
 {
     let mut deepest = 0;
-    let mut at = first;
-    while at < end {
+    for at in first..end {
         let x = entry_at(table, at);
         let k = column_of(text, x, s, n, heads);
         deepest = deeper_of(but, deepest, k);
-        at += 1;
     }
     deepest
 }
@@ -100,14 +93,14 @@ fn depth(
 fn from_zero(column: u8) -> u8
     ensures { result ≡ column - 1 }
 {
-    if column == 0 { 0 } else { column - 1 }
+    column.saturating_sub(1)
 }
 
 // 1 for yes, 0 for no.
 fn one_if(b: bool) -> u8
     ensures { result ≡ cond b 1 0 }
 {
-    if b { 1 } else { 0 }
+    u8::from(b)
 }
 
 // A byte as a number that indexes.

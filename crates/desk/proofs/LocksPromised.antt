@@ -27,8 +27,8 @@ use Rattle.permits.proofs.Says.{permit_says}
 use Rattle.permits.proofs.Means.{permit_means}
 use Rattle.locks.specs.Forms.{Lockable}
 use Rattle.locks.specs.Promise.{LockCall, Answers, no_lock, no_room, permit, answer_to, room_left, permit_for, AnsweredExactly, RoomUnchanged, PermitStands, OneLock}
-use Rattle.locks.specs.declared.Answer.{Answer}
-use Rattle.locks.specs.declared.Answer.TheVariants.{Written, Refused}
+use Rattle.locks.specs.Answers.{Answer}
+use Rattle.std.specs.Prelude.{Ok, Err}
 use Rattle.locks.proofs.Exactly.{made, all_fit}
 use Rattle.locks.proofs.Promised as locks
 use Rattle.desk.specs.Answers.{locked_as, lock_says, lock_for, lock_room, decide_says, compile_says}
@@ -69,10 +69,10 @@ lock_refusals c = go ((lock_exactly c (lock_for c).refusal).0 refl)
     go (promises.none_wrong s h) = Memᴰ.head refl
 
 -- an answer that is a refusal
-refused : (a : Answer) → ((locked_as a).refusal ≡ 0 → ⊥) → (number : ℕ) × (a ≡ Refused number)
+refused : (a : Answer) → ((locked_as a).refusal ≡ 0 → ⊥) → (number : ℕ) × (a ≡ Err number)
 unfolding locked_as
-refused (Written n) h = absurd (h refl)
-refused (Refused n) h = (n, refl)
+refused (Ok n) h = absurd (h refl)
+refused (Err n) h = (n, refl)
 
 pub lock_stays : (c : LockCall) → ((lock_for c).refusal ≡ 0 → ⊥) → lock_room c ≡ c.room
 unfolding lock_says RoomUnchanged

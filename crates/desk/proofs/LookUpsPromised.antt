@@ -1,4 +1,5 @@
 -- What the desk promises of look-ups: what is found is the attribute that deciding sees, and where a string's bytes lie. Assumes nothing.
+use Rattle.std.specs.Prelude.{None, Option, Some, Result, Ok, Err}
 use mathlib.Core.Path.{◌≡◌, refl, sym, ◌∙◌}
 use mathlib.Core.Bool.{Bool, true, false, cond}
 use mathlib.Core.List.{List, [], ◌∷◌}
@@ -14,11 +15,7 @@ use Rattle.slices.specs.Parts.{part, IsPart}
 use Rattle.slices.proofs.Equal.{same_decides}
 use Rattle.bags.specs.Reading.{byte, each, following}
 use Rattle.bags.specs.Sections.{path_at, kind_at, entry_end, sections_of, Sectioned, is_bag}
-use Rattle.bags.specs.declared.After.{After}
-use Rattle.bags.specs.declared.After.TheVariants.{At, Bad}
 use Rattle.bags.specs.declared.sections.Sections.{Sections}
-use Rattle.bags.specs.declared.sections.Divided.{Divided}
-use Rattle.bags.specs.declared.sections.Divided.TheVariants.{In, Broken}
 use Rattle.bags.proofs.SectionLaws.{entry_at, sections_at}
 use Rattle.bags.proofs.ValueLaws.{Ended, string, number, flag, list, value_at_lem}
 use Rattle.lookups.specs.Values.{nought, unit, value_number, value_at, ValueWhole}
@@ -26,8 +23,6 @@ use Rattle.lookups.specs.Values as values
 use Rattle.lookups.specs.Lookups as lookups
 use Rattle.lookups.specs.Lookups.{look_in, bag_entry_at, section_at, base_of, bag_of, divided, lookup_of, start_of, length_of, EntryOf, the_first, a_later}
 use Rattle.lookups.specs.declared.values.Value.{Value}
-use Rattle.lookups.specs.declared.Answer.{Answer}
-use Rattle.lookups.specs.declared.Answer.TheVariants.{Found, Refused}
 use Rattle.lookups.proofs.Answers.{refused, found, string_inside}
 use Rattle.lookups.proofs.BagLaws.{bag_whole}
 use Rattle.lookups.proofs.FindLaws.{bag_is_base}
@@ -72,7 +67,7 @@ module _ (bag : List ℕ) where
       go false n = (refl, refl)
 
   -- no entry's value is absent
-  entry_there : (at e : ℕ) → entry_end bag at ≡ At e → (value_at bag (kind_at bag at)).kind ≡ 0 → ⊥
+  entry_there : (at e : ℕ) → entry_end bag at ≡ Some e → (value_at bag (kind_at bag at)).kind ≡ 0 → ⊥
   unfolding value_at
   entry_there at e q = rw (ne_eqb (byte bag (kind_at bag at)) 0 (some (value_at_lem (byte bag (kind_at bag at)) bag (kind_at bag at + 1) e (entry_at bag at e q).valued))) (some (value_at_lem (byte bag (kind_at bag at)) bag (kind_at bag at + 1) e (entry_at bag at e q).valued))
     where
@@ -93,7 +88,7 @@ module _ (bag path : List ℕ) where
   -- of the section of a root
   data Under (root : ℕ) : Value → Type 0 where
     nowhere : Under root values.absent
-    somewhere : {p : Sections} {start entry : ℕ} → sections_of bag ≡ In p → SectionOf p root start → EntryOf bag (byte bag start) (start + 1) entry → path_at bag entry ≡ path
+    somewhere : {p : Sections} {start entry : ℕ} → sections_of bag ≡ Some p → SectionOf p root start → EntryOf bag (byte bag start) (start + 1) entry → path_at bag entry ≡ path
         → Under root (value_at bag (kind_at bag entry))
 
   among_entries : (n at : ℕ) → Among n at (look_in values.absent (each n (entry_end bag) (bag_entry_at bag) at) path)
@@ -101,28 +96,28 @@ module _ (bag path : List ℕ) where
   among_entries zero at = none_there
   among_entries (suc n) at = go (entry_end bag at) refl (among_entries n)
     where
-      later : {v : Value} {e : ℕ} → entry_end bag at ≡ At e → Among n e v → Among (suc n) at v
+      later : {v : Value} {e : ℕ} → entry_end bag at ≡ Some e → Among n e v → Among (suc n) at v
       later q none_there = none_there
       later q (one_there m k) = one_there (a_later q m) k
 
-      pick : {v : Value} {e : ℕ} → entry_end bag at ≡ At e → (b : Bool) → same (path_at bag at) path ≡ b → Among (suc n) at v → Among (suc n) at (cond b (value_at bag (kind_at bag at)) v)
+      pick : {v : Value} {e : ℕ} → entry_end bag at ≡ Some e → (b : Bool) → same (path_at bag at) path ≡ b → Among (suc n) at v → Among (suc n) at (cond b (value_at bag (kind_at bag at)) v)
       pick q true k rest = one_there (the_first q) ((same_decides (path_at bag at) path).sound k)
       pick q false k rest = rest
 
-      go : (a : After) → entry_end bag at ≡ a → ((e : ℕ) → Among n e (look_in values.absent (each n (entry_end bag) (bag_entry_at bag) e) path))
+      go : (a : Option ℕ) → entry_end bag at ≡ a → ((e : ℕ) → Among n e (look_in values.absent (each n (entry_end bag) (bag_entry_at bag) e) path))
           → Among (suc n) at (look_in values.absent (following a λ e. bag_entry_at bag at e ∷ each n (entry_end bag) (bag_entry_at bag) e) path)
-      go (At e) q rest = pick q (same (path_at bag at) path) refl (later q (rest e))
-      go Bad q rest = none_there
+      go (Some e) q rest = pick q (same (path_at bag at) path) refl (later q (rest e))
+      go None q rest = none_there
 
   among_section : (b : ℕ) → Among (byte bag b) (b + 1) (look_in values.absent (section_at bag b) path)
   unfolding section_at
   among_section b = among_entries (byte bag b) (b + 1)
 
-  under : {p : Sections} {root start : ℕ} {v : Value} → sections_of bag ≡ In p → SectionOf p root start → Among (byte bag start) (start + 1) v → Under root v
+  under : {p : Sections} {root start : ℕ} {v : Value} → sections_of bag ≡ Some p → SectionOf p root start → Among (byte bag start) (start + 1) v → Under root v
   under d s none_there = nowhere
   under d s (one_there m k) = somewhere d s m k
 
-  under_base : (p : Sections) → sections_of bag ≡ In p → (root : ℕ) → Under root (look_in values.absent (base_of bag p root) path)
+  under_base : (p : Sections) → sections_of bag ≡ Some p → (root : ℕ) → Under root (look_in values.absent (base_of bag p root) path)
   unfolding base_of look_in
   under_base p d root = go (eqb root 1) refl (eqb root 2) refl (eqb root 3) refl
     where
@@ -137,9 +132,9 @@ module _ (bag path : List ℕ) where
   unfolding bag_of look_in
   under_bag root = go (sections_of bag) refl
     where
-      go : (d : Divided) → sections_of bag ≡ d → Under root (look_in values.absent (divided d λ p. base_of bag p root) path)
-      go (In p) q = under_base p q root
-      go Broken q = nowhere
+      go : (d : Option Sections) → sections_of bag ≡ d → Under root (look_in values.absent (divided d λ p. base_of bag p root) path)
+      go (Some p) q = under_base p q root
+      go None q = nowhere
 
   -- with its kind and its place
   stands_in : {root : ℕ} {v : Value} → Under root v → (v.kind ≡ 0 → ⊥) → StandsIn bag root path v.kind v.place
@@ -169,9 +164,9 @@ module _ (bag path : List ℕ) where
   unfolding bag_of look_in view_in base_bag datum_of
   bag_means root = go (sections_of bag)
     where
-      go : (d : Divided) → datum_in bag (look_in values.absent (divided d λ p. base_of bag p root) path) ≡ view_in bag d root path
-      go (In p) = look_means bag (base_of bag p root) path
-      go Broken = refl
+      go : (d : Option Sections) → datum_in bag (look_in values.absent (divided d λ p. base_of bag p root) path) ≡ view_in bag d root path
+      go (Some p) = look_means bag (base_of bag p root) path
+      go None = refl
 
 -- ---- what is found, by its kind
 
@@ -193,10 +188,10 @@ module _ (bag : List ℕ) (kind : ℕ) (x : Float) (place : ℕ) where
   unfolding datum_of value_number
   absent_means k c p = rw k (none_found refl (c ∙ rw k) p)
 
-means : (bag : List ℕ) (v : Value) → Told bag v → ValueWhole bag v → Means bag (found_as (lookups.lookup_said (Found v))) (datum_in bag v)
+means : (bag : List ℕ) (v : Value) → Told bag v → ValueWhole bag v → Means bag (found_as (lookups.lookup_said (Ok v))) (datum_in bag v)
 means bag v t w = go (eqb v.kind 0) refl
   where
-    go : (b : Bool) → eqb v.kind 0 ≡ b → Means bag (found_as (lookups.lookup_said (Found v))) (datum_in bag v)
+    go : (b : Bool) → eqb v.kind 0 ≡ b → Means bag (found_as (lookups.lookup_said (Ok v))) (datum_in bag v)
     go true q = let k = eqb-true v.kind 0 q in absent_means bag v.kind v.number v.place k t.counted (t.nowhere_then k)
     go false q = let e = w (eqb-false v.kind 0 q) in by_kind bag v.kind v.number v.place e.0 t.counted (value_at_lem v.kind bag v.place e.0 e.1)
 
@@ -213,8 +208,8 @@ module _ (bag : List ℕ) (root : ℕ) (path : List ℕ) where
       v : Value
       v = look_in values.absent (bag_of bag root) path
 
-      go : (b : Bool) → ((found_as (lookups.lookup_said (cond b (Found v) (Refused 24)))).kind ≡ 0 → ⊥)
-          → StandsIn bag root path (found_as (lookups.lookup_said (cond b (Found v) (Refused 24)))).kind (found_as (lookups.lookup_said (cond b (Found v) (Refused 24)))).place
+      go : (b : Bool) → ((found_as (lookups.lookup_said (cond {A = Result Value ℕ} b (Ok v) (Err 24)))).kind ≡ 0 → ⊥)
+          → StandsIn bag root path (found_as (lookups.lookup_said (cond {A = Result Value ℕ} b (Ok v) (Err 24)))).kind (found_as (lookups.lookup_said (cond {A = Result Value ℕ} b (Ok v) (Err 24)))).place
       go true n = stands_in bag path (under_bag bag path root) n
       go false n = absurd (n refl)
 
@@ -243,9 +238,9 @@ module _ (bag : List ℕ) (root : ℕ) (path : List ℕ) where
   unfolding lookup_says string_says start_of length_of
   string_empty = go (lookup_of bag root path)
     where
-      go : (a : Answer) → ((found_as (lookups.lookup_said a)).kind ≡ 1 → ⊥) → ◌≡◌ {A = DeskString} (record { start = start_of a; length = length_of bag a }) (record { start = 0; length = 0 })
-      go (Found v) n = rw (ne_eqb v.kind 1 n)
-      go (Refused m) n = refl
+      go : (a : Result Value ℕ) → ((found_as (lookups.lookup_said a)).kind ≡ 1 → ⊥) → ◌≡◌ {A = DeskString} (record { start = start_of a; length = length_of bag a }) (record { start = 0; length = 0 })
+      go (Ok v) n = rw (ne_eqb v.kind 1 n)
+      go (Err m) n = refl
 
   pub string_rightly : (lookup_says bag root path).kind ≡ 1
       → (view_of bag root path ≡ text (part bag (string_says bag root path).start (string_says bag root path).length))
@@ -256,9 +251,9 @@ module _ (bag : List ℕ) (root : ℕ) (path : List ℕ) where
       v : Value
       v = look_in values.absent (bag_of bag root) path
 
-      go : (b : Bool) → is_bag bag ≡ b → (found_as (lookups.lookup_said (cond b (Found v) (Refused 24)))).kind ≡ 1
-          → (view_of bag root path ≡ text (part bag (start_of (cond b (Found v) (Refused 24))) (length_of bag (cond b (Found v) (Refused 24)))))
-          × (start_of (cond b (Found v) (Refused 24)) + length_of bag (cond b (Found v) (Refused 24)) ≤ length bag)
+      go : (b : Bool) → is_bag bag ≡ b → (found_as (lookups.lookup_said (cond {A = Result Value ℕ} b (Ok v) (Err 24)))).kind ≡ 1
+          → (view_of bag root path ≡ text (part bag (start_of (cond {A = Result Value ℕ} b (Ok v) (Err 24))) (length_of bag (cond {A = Result Value ℕ} b (Ok v) (Err 24)))))
+          × (start_of (cond {A = Result Value ℕ} b (Ok v) (Err 24)) + length_of bag (cond {A = Result Value ℕ} b (Ok v) (Err 24)) ≤ length bag)
       go true form k = rw (← bag_means bag path root, k) (refl, string_inside bag root path v (sym (found bag root path form)) k)
       go false form k = absurd (omega arith)
 
@@ -267,9 +262,9 @@ module _ (bag : List ℕ) (root : ℕ) (path : List ℕ) where
   unfolding lookup_says string_says start_of length_of
   string_placed = go (lookup_of bag root path)
     where
-      go : (a : Answer) → (found_as (lookups.lookup_said a)).kind ≡ 1 → (start_of a ≡ (found_as (lookups.lookup_said a)).place + 1) × (length_of bag a ≡ byte bag (found_as (lookups.lookup_said a)).place)
-      go (Found v) k = let e : v.kind ≡ 1 = k in rw e (refl, refl)
-      go (Refused n) k = absurd (omega arith)
+      go : (a : Result Value ℕ) → (found_as (lookups.lookup_said a)).kind ≡ 1 → (start_of a ≡ (found_as (lookups.lookup_said a)).place + 1) × (length_of bag a ≡ byte bag (found_as (lookups.lookup_said a)).place)
+      go (Ok v) k = let e : v.kind ≡ 1 = k in rw e (refl, refl)
+      go (Err n) k = absurd (omega arith)
 
 pub part_rightly : (bag : Bor (List ℕ)) (root : ℕ) (path : List ℕ) (r : Bor (List ℕ)) → StringAllows bag root path r
     → IsPart bag r (string_says bag.now root path).start (string_says bag.now root path).length

@@ -35,14 +35,14 @@ use Rattle.meaning.proofs.Deciding as meaning_proofs
 use Rattle.meaning.proofs.Marking as marking
 use Rattle.deciding.specs.Answers.{words_in, view_in, view_of, decide_answer, decide_said}
 use Rattle.deciding.specs.Promise.{DecideCall, Wellformed, RequestRefused, bad_subject, bad_action, bad_resource, DecideRefused, never_the_system, bad_request, no_bag, not_compiled, none_wrong, DecideRefusedExactly, AnsweredAlike}
-use Rattle.deciding.specs.declared.Answer.TheVariants.{Decided}
 use Rattle.deciding.proofs.Answering.{the_system}
 use Rattle.deciding.proofs.HeldLaws.{policies_said}
 use Rattle.deciding.proofs.Promised.{decide_refused_exactly, zeros_elsewhere, begins_then, answered_alike}
 use Rattle.lookups.specs.Lookups as lookups
 use Rattle.lookups.specs.Lookups.{look_in, bag_of, lookup_of}
 use Rattle.lookups.specs.Values.{nought, absent}
-use Rattle.lookups.specs.declared.Answer.TheVariants.{Found, Refused}
+use Rattle.std.specs.Prelude.{Result, Ok, Err}
+use Rattle.lookups.specs.declared.values.Value.{Value}
 use Rattle.lookups.proofs.Answers.{refused}
 use Rattle.desk.specs.Answers.{decide_says, decision_for, found_as, lookup_says}
 use Rattle.desk.specs.Promises.{Says, SayAlike, Yes, allowed, system, Granted, OutcomeIs, by_permit, by_forbid, by_none, by_system, MarkIs, every_bit, no_bit}
@@ -389,7 +389,7 @@ module _ (c : DecideCall) where
   abbrev mark_there : ℕ
   mark_there = mark_over c.text terms c.request
 
-  answered : Heard → decide_answer c.text c.table c.bag c.request ≡ Decided (marked_of terms c.request (words_in c.text))
+  answered : Heard → decide_answer c.text c.table c.bag c.request ≡ Ok (marked_of terms c.request (words_in c.text))
   unfolding decide_answer decision_of decided_mark
   answered (of_the_system s) = rw s
   answered (of_another f w b) = rw (f.other, f.subject_is, f.action_is, f.resource_is, (bag_exactly c.bag).1 w, begins_then c.text c.table b)
@@ -467,7 +467,7 @@ module _ (bag : List ℕ) (root : ℕ) (path : List ℕ) where
   unfolding lookup_says lookup_of
   looked = go (is_bag bag) refl
     where
-      go : (b : Bool) → is_bag bag ≡ b → Looked (found_as (lookups.lookup_said (cond b (Found (look_in absent (bag_of bag root) path)) (Refused 24))))
+      go : (b : Bool) → is_bag bag ≡ b → Looked (found_as (lookups.lookup_said (cond {A = Result Value ℕ} b (Ok (look_in absent (bag_of bag root) path)) (Err 24))))
       go true e = looked_up e
       go false e = refused_there e
 

@@ -25,7 +25,9 @@ use Rattle.compiling.specs.Outcome.{spot, nowhere, room_for, compiled_bytes, sai
 use Rattle.compiling_promise.specs.Promise.{UnderItsNumber, NoVersion, OtherVersion, VersionRecorded, AcceptedExactly, UnfitExactly, RefusedThere, RefusedExactly, NothingChanged, ZerosElsewhere, CompiledBegins, BeginsExactly, EnoughRoom, NoPoliciesNoBytes}
 use Rattle.compiling.specs.declared.Spot.{Spot}
 use Rattle.compiling.specs.declared.Compiled.{Compiled}
-use Rattle.compiling.specs.declared.Compiled.TheVariants.{Policies, Refused}
+use Rattle.compiling.specs.declared.Refused.{Refused}
+use Rattle.compiling.specs.Outcome as compiling
+use Rattle.std.specs.Prelude.{Result, Ok, Err}
 use Rattle.compiling_promise.proofs.Promised as compiling_proofs
 use Rattle.compiling_promise.proofs.Promised.{under_its_number, other_version, version_recorded, accepted, unfit, refused_there, nothing_changed, zeros_elsewhere}
 use Rattle.desk.specs.Answers.{compiled_as, spot_said, compile_says, compile_leaves, says_under, leaves_under, begins_says}
@@ -48,7 +50,7 @@ one_version version table (p ∷ ps) some b = version_recorded version table p p
 
 module _ (version : Version) (text table : List ℕ) where
   -- what compiling answers under the version's number is what it answers under the version
-  abbrev answer : Compiled
+  abbrev answer : Result Compiled Refused
   answer = compiled_of (version_number version) text (length table)
 
   answer_is : answer ≡ compiled_under version text (length table)
@@ -60,24 +62,24 @@ module _ (version : Version) (text table : List ℕ) where
   after_is = (under_its_number version text table (length table)).1
 
   -- what compiling answers, and why
-  data Told (c : Compiled) : Type 0 where
-    told_accepted : (ps : List Policy) → Says text ps → room_for text ≤ length table → c ≡ Policies (length ps) (length (compiled_bytes version ps)) → Told c
-    told_long : most_text_bytes < length text → c ≡ Refused 1 nowhere → Told c
-    told_no_room : length text ≤ most_text_bytes → length table < room_for text → c ≡ Refused 2 nowhere → Told c
-    told_broken : (number : ℕ) (at : Spot) → length text ≤ most_text_bytes → room_for text ≤ length table → RefusedThere text number at → c ≡ Refused number at → Told c
+  data Told (c : Result Compiled Refused) : Type 0 where
+    told_accepted : (ps : List Policy) → Says text ps → room_for text ≤ length table → c ≡ compiling.compiled (length ps) (length (compiled_bytes version ps)) → Told c
+    told_long : most_text_bytes < length text → c ≡ compiling.refused 1 nowhere → Told c
+    told_no_room : length text ≤ most_text_bytes → length table < room_for text → c ≡ compiling.refused 2 nowhere → Told c
+    told_broken : (number : ℕ) (at : Spot) → length text ≤ most_text_bytes → room_for text ≤ length table → RefusedThere text number at → c ≡ compiling.refused number at → Told c
 
-  by_tokens : length text ≤ most_text_bytes → room_for text ≤ length table → (c : Compiled) → answer ≡ c → Told c
+  by_tokens : length text ≤ most_text_bytes → room_for text ≤ length table → (c : Result Compiled Refused) → answer ≡ c → Told c
   unfolding AcceptedExactly RefusedExactly
-  by_tokens l h (Policies policies bytes) e =
-      let b = (accepted version text (length table) policies bytes l h).0 (sym answer_is ∙ e) in
-      told_accepted b.value (record { short = l; belongs = b.belongs }) h (ap₂ Policies b.many b.used)
-  by_tokens l h (Refused number at) e = told_broken number at l h ((refused_there version text (length table) number at l h).0 (sym answer_is ∙ e)) refl
+  by_tokens l h (Ok a) e =
+      let b = (accepted version text (length table) a.policies a.bytes l h).0 (sym answer_is ∙ e) in
+      told_accepted b.value (record { short = l; belongs = b.belongs }) h (ap₂ compiling.compiled b.many b.used)
+  by_tokens l h (Err r) e = told_broken r.number r.spot l h ((refused_there version text (length table) r.number r.spot l h).0 (sym answer_is ∙ e)) refl
 
-  long_answer : most_text_bytes < length text → answer ≡ Refused 1 nowhere
+  long_answer : most_text_bytes < length text → answer ≡ compiling.refused 1 nowhere
   unfolding UnfitExactly
   long_answer h = answer_is ∙ (unfit version text (length table)).0.1 (λ l. omega arith)
 
-  no_room_answer : length text ≤ most_text_bytes → length table < room_for text → answer ≡ Refused 2 nowhere
+  no_room_answer : length text ≤ most_text_bytes → length table < room_for text → answer ≡ compiling.refused 2 nowhere
   unfolding UnfitExactly
   no_room_answer l h = answer_is ∙ (unfit version text (length table)).1.1 (l, λ m. omega arith)
 
@@ -91,7 +93,7 @@ module _ (version : Version) (text table : List ℕ) where
 
   -- ---- demand 1
 
-  number_few : {c : Compiled} → Told c → (compile_said c).refusal ≤ 17
+  number_few : {c : Result Compiled Refused} → Told c → (compile_said c).refusal ≤ 17
   unfolding compile_said
   number_few (told_accepted ps s h e) = rw e (omega arith)
   number_few (told_long l e) = rw e (omega arith)
@@ -102,7 +104,7 @@ module _ (version : Version) (text table : List ℕ) where
   unfolding compile_says
   few_under = number_few told
 
-  its_place : {c : Compiled} → Told c → 2 < (compile_said c).refusal → RefusedThere text (compile_said c).refusal (spot_said (compiled_as (compile_said c)))
+  its_place : {c : Result Compiled Refused} → Told c → 2 < (compile_said c).refusal → RefusedThere text (compile_said c).refusal (spot_said (compiled_as (compile_said c)))
   unfolding compile_said
   its_place (told_accepted ps s h e) = rw e (λ n. absurd (omega arith))
   its_place (told_long l e) = rw e (λ n. absurd (omega arith))
@@ -113,7 +115,7 @@ module _ (version : Version) (text table : List ℕ) where
   unfolding compile_says
   placed_under = its_place told
 
-  without_place : {c : Compiled} → Told c → (compile_said c).refusal ≤ 2 → spot_said (compiled_as (compile_said c)) ≡ nowhere
+  without_place : {c : Result Compiled Refused} → Told c → (compile_said c).refusal ≤ 2 → spot_said (compiled_as (compile_said c)) ≡ nowhere
   unfolding compile_said
   without_place (told_accepted ps s h e) = rw e (λ n. refl)
   without_place (told_long l e) = rw e (λ n. refl)
@@ -126,14 +128,14 @@ module _ (version : Version) (text table : List ℕ) where
 
   -- ---- demand 2
 
-  accepted_says : {c : Compiled} → Told c → (compile_said c).refusal ≡ 0 → Belongs text
+  accepted_says : {c : Result Compiled Refused} → Told c → (compile_said c).refusal ≡ 0 → Belongs text
   unfolding compile_said
   accepted_says (told_accepted ps s h e) = rw e (λ n. record { policies = ps; says = s })
   accepted_says (told_long l e) = rw e (λ n. absurd (omega arith))
   accepted_says (told_no_room l h e) = rw e (λ n. absurd (omega arith))
   accepted_says (told_broken number at l h r e) = rw e (λ n. absurd (let k = (token_number r).0 in omega arith))
 
-  says_accepted : (ps : List Policy) → Says text ps → room_for text ≤ length table → answer ≡ Policies (length ps) (length (compiled_bytes version ps))
+  says_accepted : (ps : List Policy) → Says text ps → room_for text ≤ length table → answer ≡ compiling.compiled (length ps) (length (compiled_bytes version ps))
   unfolding AcceptedExactly
   says_accepted ps s h =
       answer_is ∙ (accepted version text (length table) (length ps) (length (compiled_bytes version ps)) s.short h).1 (record { value = ps; belongs = s.belongs; many = refl; used = refl })
@@ -142,7 +144,7 @@ module _ (version : Version) (text table : List ℕ) where
   unfolding compile_says compile_said
   accepted_exactly h = (accepted_says told, λ b. rw (says_accepted b.policies b.says h))
 
-  roomy : {c : Compiled} → Told c → (compile_said c).refusal ≡ 0 → room_for text ≤ length table
+  roomy : {c : Result Compiled Refused} → Told c → (compile_said c).refusal ≡ 0 → room_for text ≤ length table
   unfolding compile_said
   roomy (told_accepted ps s h e) = λ n. h
   roomy (told_long l e) = rw e (λ n. absurd (omega arith))
@@ -179,19 +181,19 @@ module _ (version : Version) (text table : List ℕ) where
   unfolding compile_says compile_said EnoughRoom
   enough_under = go answer refl
     where
-      go : (c : Compiled) → answer ≡ c → (compile_said c).bytes ≤ room_for text
-      go (Policies policies bytes) e = compiling_proofs.enough_room version text (length table) policies bytes (sym answer_is ∙ e)
-      go (Refused number at) e = zero-le
+      go : (c : Result Compiled Refused) → answer ≡ c → (compile_said c).bytes ≤ room_for text
+      go (Ok a) e = compiling_proofs.enough_room version text (length table) a.policies a.bytes (sym answer_is ∙ e)
+      go (Err r) e = zero-le
 
   no_bytes_under : (says_under version text table).policies ≡ 0 → (says_under version text table).bytes ≡ 0
   unfolding compile_says compile_said NoPoliciesNoBytes
   no_bytes_under = go answer refl
     where
-      go : (c : Compiled) → answer ≡ c → (compile_said c).policies ≡ 0 → (compile_said c).bytes ≡ 0
-      go (Policies policies bytes) e n = compiling_proofs.no_policies_no_bytes version text (length table) bytes (sym answer_is ∙ e ∙ ap (λ (p : ℕ). Policies p bytes) n)
-      go (Refused number at) e n = refl
+      go : (c : Result Compiled Refused) → answer ≡ c → (compile_said c).policies ≡ 0 → (compile_said c).bytes ≡ 0
+      go (Ok a) e n = compiling_proofs.no_policies_no_bytes version text (length table) a.bytes (sym answer_is ∙ e ∙ ap (λ (p : ℕ). compiling.compiled p a.bytes) n)
+      go (Err r) e n = refl
 
-  many_few : {c : Compiled} → Told c → (compile_said c).policies ≤ 64
+  many_few : {c : Result Compiled Refused} → Told c → (compile_said c).policies ≤ 64
   unfolding compile_said
   many_few (told_accepted ps s h e) = rw e (policies_placed text ps (read_as text ps s)).few
   many_few (told_long l e) = rw e zero-le
@@ -204,7 +206,7 @@ module _ (version : Version) (text table : List ℕ) where
 
   -- ---- the refusals by size, and the zeros
 
-  long_then : {c : Compiled} → Told c → (compile_said c).refusal ≡ 1 → most_text_bytes < length text
+  long_then : {c : Result Compiled Refused} → Told c → (compile_said c).refusal ≡ 1 → most_text_bytes < length text
   unfolding compile_said
   long_then (told_accepted ps s h e) = rw e (λ n. absurd (omega arith))
   long_then (told_long l e) = λ n. l
@@ -215,7 +217,7 @@ module _ (version : Version) (text table : List ℕ) where
   unfolding compile_says compile_said
   too_long = (long_then told, λ h. rw (long_answer h))
 
-  no_room_then : {c : Compiled} → Told c → (compile_said c).refusal ≡ 2 → (length text ≤ most_text_bytes) × (length table < room_for text)
+  no_room_then : {c : Result Compiled Refused} → Told c → (compile_said c).refusal ≡ 2 → (length text ≤ most_text_bytes) × (length table < room_for text)
   unfolding compile_said
   no_room_then (told_accepted ps s h e) = rw e (λ n. absurd (omega arith))
   no_room_then (told_long l e) = rw e (λ n. absurd (omega arith))
@@ -228,7 +230,7 @@ module _ (version : Version) (text table : List ℕ) where
 
   -- ---- the refusals by token
 
-  refused_as : {number line column size : ℕ} → answer ≡ Refused number (spot line column size)
+  refused_as : {number line column size : ℕ} → answer ≡ compiling.refused number (spot line column size)
       → says_under version text table ≡ record { refusal = number; line = line; column = column; length = size; policies = 0; bytes = 0 }
   unfolding compile_says compile_said
   refused_as e = rw e
@@ -306,9 +308,9 @@ module _ (number : ℕ) (text table : List ℕ) where
   unfolding compile_says compile_said NothingChanged
   table_stays = go (compiled_of number text (length table)) refl
     where
-      go : (c : Compiled) → compiled_of number text (length table) ≡ c → ((compile_said c).refusal ≡ 0 → ⊥) → table_after number text table ≡ table
-      go (Policies policies bytes) e n = absurd (n refl)
-      go (Refused refusal at) e n = nothing_changed number text table refusal at e
+      go : (c : Result Compiled Refused) → compiled_of number text (length table) ≡ c → ((compile_said c).refusal ≡ 0 → ⊥) → table_after number text table ≡ table
+      go (Ok a) e n = absurd (n refl)
+      go (Err r) e n = nothing_changed number text table r.number r.spot e
 
   -- ---- demand 2
 

@@ -1,5 +1,5 @@
 -- What each call of the desk answers and leaves, as functions of what it is lent: document 01's numbers and values for each case. Definitions only.
-use Rattle.std.specs.Prelude.{Bool, cond, List, ℕ, length}
+use Rattle.std.specs.Prelude.{Bool, cond, List, ℕ, length, Ok, Err}
 use Rattle.grammar.specs.Versions.{version_number}
 use Rattle.grammar.specs.declared.Version.{Version}
 use Rattle.compiling.specs.Outcome as compiling
@@ -15,9 +15,8 @@ use Rattle.sheets.specs.Promise.{SheetCall}
 use Rattle.tallies.specs.Tallies as tallies
 use Rattle.tallies.specs.Promise.{TallyCall}
 use Rattle.locks.specs.Answers as locks
+use Rattle.locks.specs.Answers.{Answer}
 use Rattle.locks.specs.Promise.{LockCall}
-use Rattle.locks.specs.declared.Answer.{Answer}
-use Rattle.locks.specs.declared.Answer.TheVariants.{Written, Refused}
 use Rattle.desk.specs.declared.DeskCompiled.{DeskCompiled}
 use Rattle.desk.specs.declared.DeskDecision.{DeskDecision}
 use Rattle.desk.specs.declared.DeskValue.{DeskValue}
@@ -132,8 +131,8 @@ rows_say question = cond (is_question question) (sheets.rows_asked question) 0
 
 -- the refusal, or the permit's length
 unfoldable pub locked_as : Answer → DeskLock
-locked_as (Written length) = record { refusal = 0; length = length }
-locked_as (Refused number) = record { refusal = number; length = 0 }
+locked_as (Ok length) = record { refusal = 0; length = length }
+locked_as (Err number) = record { refusal = number; length = 0 }
 
 -- what is answered
 unfoldable pub lock_says : List ℕ → List ℕ → List ℕ → List ℕ → List ℕ → DeskLock

@@ -1,6 +1,6 @@
 -- What the desk's promises rest on, on one page: theorems of the crates below that no other page of specs/ states. proofs/Grounded.antt cites the proof of
 -- each. Definitions only. That a look-up has one answer, and that a string's bytes are one part of the bag, is in `OneResult` (Promises.antt).
-use Rattle.std.specs.Prelude.{◌≡◌, true, false, cond, List, [], ◌↔◌, ℕ, ◌^◌, ◌≤◌, ◌<◌, ltb, length, get_or, pos}
+use Rattle.std.specs.Prelude.{◌≡◌, true, false, cond, List, [], ◌↔◌, ℕ, ◌^◌, ◌≤◌, ◌<◌, ltb, length, get_or, pos, Some}
 use Rattle.std.specs.Float.{binary64}
 use Rattle.std.specs.Float.Ieee.{of_int, div}
 use Rattle.slices.specs.Decides.{Decides}
@@ -29,7 +29,6 @@ use Rattle.bags.specs.Paths.{is_path}
 use Rattle.bags.specs.Sections.{sections_of, is_bag}
 use Rattle.bags.specs.Forms.{Contents, BagBytes, ABag}
 use Rattle.bags.specs.declared.sections.Sections.{Sections}
-use Rattle.bags.specs.declared.sections.Divided.TheVariants.{In}
 use Rattle.lookups.specs.Values.{nought}
 use Rattle.questions.specs.Questions.{Question, head_of, cell, is_question}
 use Rattle.questions.specs.Forms.{Column, QuestionBytes, AQuestion}
@@ -91,7 +90,7 @@ pub record Grounds : Type 0 where
   pub one_question : (s : List ℕ) (base base' : Contents) (cs cs' : List Column) → QuestionBytes s base cs → QuestionBytes s base' cs'
       → (base ≡ base') × (cs ≡ cs')
   -- What deciding sees of a row is the base that its bytes say, with each column's attribute set to the candidate of its choice, or removed.
-  pub row_holds : (s : List ℕ) (base : Contents) (cs : List Column) (p : Sections) (choices : List ℕ) → QuestionBytes s base cs → sections_of s ≡ In p
+  pub row_holds : (s : List ℕ) (base : Contents) (cs : List Column) (p : Sections) (choices : List ℕ) → QuestionBytes s base cs → sections_of s ≡ Some p
       → Chooses (columns_in s p) s (first_in p) choices → (root : ℕ) (path : List ℕ)
       → look (bag_of_row s p (columns_in s p) (first_in p) choices) root path ≡ look (row_bag (as_bag base) (picked_all cs choices)) root path
   -- An impossible path or a root byte other than 1 to 3 is absent: kind 0, number and place 0.
@@ -106,5 +105,5 @@ pub record Grounds : Type 0 where
       → RowHeld question p choices heads grid values
       → row_view question p (columns_in question p) heads values root path ≡ look (bag_of_row question p (columns_in question p) (first_in p) choices) root path
   -- `has`: an entry with exactly that path, in a bag (a row without columns) and in a row.
-  pub has_is_presence : (s : List ℕ) (p : Sections) (n at : ℕ) (choices : List ℕ) (root : ℕ) (path : List ℕ) → sections_of s ≡ In p
+  pub has_is_presence : (s : List ℕ) (p : Sections) (n at : ℕ) (choices : List ℕ) (root : ℕ) (path : List ℕ) → sections_of s ≡ Some p
       → present (look (bag_of_row s p n at choices) root path) ≡ has_path (bag_of_row s p n at choices root) path

@@ -4,7 +4,7 @@
 -- `compile_says`, `decision_for`, `lookup_says`, `page_for` and `refusal_for` are what the calls answer, `compile_leaves`, `sheet_for` and `counts_for` what they leave
 -- in the table, the sheet and the counts (Answers.antt; src/lib.rt has the contracts). That every call ends and reads nothing outside what it is lent is what the
 -- prover shows of every function; no call has a `requires`, so this holds for arbitrary bytes.
-use Rattle.std.specs.Prelude.{◌≡◌, ◌⊎◌, ◌↔◌, Bool, true, false, ℕ, suc, ◌+◌, ◌-◌, ◌*◌, ◌^◌, ◌≤◌, ◌<◌, length, get_or, take, drop}
+use Rattle.std.specs.Prelude.{◌≡◌, ◌⊎◌, ◌↔◌, Bool, true, false, ℕ, suc, ◌+◌, ◌-◌, ◌*◌, ◌^◌, ◌≤◌, ◌<◌, length, get_or, take, drop, Some}
 use mathlib.Core.List.{List, [], ◌∷◌, ◌++◌, map, Memᴰ}
 use Rattle.std.specs.Borrow.{Bor}
 use Rattle.slices.specs.Parts.{IsPart, part}
@@ -24,7 +24,6 @@ use Rattle.bags.specs.Forms.{Contents, BagBytes, NoBag}
 use Rattle.bags.specs.Reading.{byte}
 use Rattle.bags.specs.Sections.{path_at, kind_at, sections_of}
 use Rattle.bags.specs.declared.sections.Sections.{Sections}
-use Rattle.bags.specs.declared.sections.Divided.TheVariants.{In}
 use Rattle.questions.specs.Forms.{Column, QuestionBytes, NoQuestion}
 use Rattle.questions.specs.Questions.{product}
 use Rattle.questions.specs.Sizes.{most_rows}
@@ -388,7 +387,7 @@ pub data SectionOf (p : Sections) : ℕ → ℕ → Type 0 where
 -- an entry with exactly this path stands in the section of this root; its kind, and the place of the byte after its kind byte
 pub record StandsIn (bag : List ℕ) (root : ℕ) (path : List ℕ) (kind place : ℕ) : Type 0 where
   pub sections : Sections
-  pub divided : sections_of bag ≡ In sections
+  pub divided : sections_of bag ≡ Some sections
   pub start : ℕ
   pub section : SectionOf sections root start
   pub entry : ℕ

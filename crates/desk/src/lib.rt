@@ -2,14 +2,12 @@
 // numbers and values. No call has a `requires`: a caller is asked nothing that the types do not say. specs/Promises.antt states what is promised of them.
 #![tactic(auto)]
 
-ghost use Rattle.std.specs.Prelude.{◌≡◌};
+ghost use Rattle.std.specs.Prelude.{◌≡◌, Ok};
 ghost use Rattle.targets.specs.Matching.{request};
 ghost use Rattle.deciding.specs.Answers.{decide_said};
-ghost use Rattle.deciding.specs.declared.Answer.TheVariants.{Decided};
 ghost use Rattle.desk.specs.Answers.{begins_says, decided_as, decide_says, lookup_says, string_says, rows_say};
 ghost use Rattle.desk.specs.Promises.{CompileAllows, SheetAllows, StringAllows, TallyAllows, LockAllows};
 
-use compiling::Compiled;
 use meaning::{Decision, Marked};
 use tallies::COUNTS;
 
@@ -68,19 +66,19 @@ pub fn desk_compile(text: &[u8], table: &mut [u8], version: u64) -> DeskCompiled
     ensures { CompileAllows version text.now table.old table.new result }
 {
     match compiling::compile(version, text, table) {
-        Compiled::Policies(policies, bytes) => DeskCompiled {
+        Ok(c) => DeskCompiled {
             refusal: 0, // accepted
             line: 0,
             column: 0,
             length: 0,
-            policies: policies,
-            bytes: bytes,
+            policies: c.policies,
+            bytes: c.bytes,
         },
-        Compiled::Refused(number, spot) => DeskCompiled {
-            refusal: number as u32,
-            line: spot.line,
-            column: spot.column,
-            length: spot.length,
+        Err(r) => DeskCompiled {
+            refusal: r.number as u32,
+            line: r.spot.line,
+            column: r.spot.column,
+            length: r.spot.length,
             policies: 0,
             bytes: 0,
         },
@@ -96,20 +94,19 @@ pub fn desk_begins(text: &[u8], table: &[u8]) -> bool
 
 // A decision by its outcome's number, with its policy and its mark.
 fn decided(m: Marked) -> DeskDecision
-    ensures { result ≡ decided_as (decide_said (Decided m)) }
+    ensures { result ≡ decided_as (decide_said (Ok m)) }
 {
-    let d = m.d;
-    match d {
+    match m.d {
         Decision::Allowed(policy) => DeskDecision {
             refusal: 0,
             outcome: 1,
-            policy: policy,
+            policy,
             mark: m.mark,
         },
         Decision::Forbidden(policy) => DeskDecision {
             refusal: 0,
             outcome: 2,
-            policy: policy,
+            policy,
             mark: m.mark,
         },
         Decision::Nothing => DeskDecision {
@@ -128,20 +125,20 @@ fn decided(m: Marked) -> DeskDecision
 }
 
 // Decides a request over a bag, by the policies of a text whose table is lent.
-pub fn desk_decide<'a>(
-    text: &'a [u8],
+pub fn desk_decide(
+    text: &[u8],
     table: &[u8],
-    bag: &'a [u8],
+    bag: &[u8],
     subject: &[u8],
-    action: &'a [u8],
+    action: &[u8],
     resource: &[u8],
 ) -> DeskDecision
     ensures { result ≡ decide_says text.now table.now bag.now
         (request subject.now action.now resource.now) }
 {
     match deciding::decide(text, table, bag, subject, action, resource) {
-        deciding::Answer::Decided(m) => decided(m),
-        deciding::Answer::Refused(number) => DeskDecision {
+        Ok(m) => decided(m),
+        Err(number) => DeskDecision {
             refusal: number as u32,
             outcome: 0,
             policy: 0,
@@ -155,13 +152,13 @@ pub fn desk_lookup(bag: &[u8], root: u8, path: &[u8]) -> DeskValue
     ensures { result ≡ lookup_says bag.now root path.now }
 {
     match lookups::lookup(bag, root, path) {
-        lookups::Answer::Found(v) => DeskValue {
+        Ok(v) => DeskValue {
             refusal: 0,
             kind: v.kind as u32,
             number: v.number,
             place: v.place,
         },
-        lookups::Answer::Refused(number) => DeskValue {
+        Err(number) => DeskValue {
             refusal: number as u32,
             kind: 0,
             number: 0.0,
@@ -189,12 +186,12 @@ pub fn string_part<'a>(bag: &'a [u8], root: u8, path: &[u8]) -> &'a [u8]
 }
 
 // A page of the sheet from a start row on, written into the part of the lent sheet from byte `at` on. All other bytes stay, and a refusal changes nothing.
-pub fn desk_sheet<'a>(
-    text: &'a [u8],
+pub fn desk_sheet(
+    text: &[u8],
     table: &[u8],
-    question: &'a [u8],
+    question: &[u8],
     subject: &[u8],
-    action: &'a [u8],
+    action: &[u8],
     resource: &[u8],
     start: usize,
     sheet: &mut [u8],
@@ -206,12 +203,12 @@ pub fn desk_sheet<'a>(
     match sheets::sheet(
         text, table, question, subject, action, resource, start, sheet, at,
     ) {
-        sheets::Answer::Listed(written, next) => DeskPage {
+        Ok(page) => DeskPage {
             refusal: 0,
-            written: written,
-            next: next,
+            written: page.written,
+            next: page.next,
         },
-        sheets::Answer::Refused(number) => DeskPage {
+        Err(number) => DeskPage {
             refusal: number as u32,
             written: 0,
             next: 0,
@@ -229,19 +226,18 @@ pub fn desk_rows(question: &[u8]) -> usize
 // The tally of so many requests over one question. `requests` has subject, action and resource of each, each behind a length byte. `counts` has nine groups of 68
 // numbers, one for each of eight requests and the sums: the rows of outcome 1 to 4, then those that policy 1 to 64 decides. Answers the refusal's number, 0 where
 // nothing is refused; a refusal changes nothing.
-pub fn desk_tally<'a>(
-    text: &'a [u8],
+pub fn desk_tally(
+    text: &[u8],
     table: &[u8],
-    question: &'a [u8],
+    question: &[u8],
     many: usize,
-    requests: &'a [u8],
+    requests: &[u8],
     counts: &mut [u32; COUNTS],
 ) -> u32
     ensures { TallyAllows text.now table.now question.now many requests.now counts.old
         counts.new result }
 {
-    let number = tallies::tally(text, table, question, many, requests, counts);
-    number as u32
+    tallies::tally(text, table, question, many, requests, counts) as u32
 }
 
 // What writing a lock's permit answers: the permit's length.
@@ -264,11 +260,8 @@ pub fn desk_lock(
         room.old room.new result }
 {
     match locking::lock(vocabulary, lock, actions, resource, room) {
-        locks::Answer::Written(length) => DeskLock {
-            refusal: 0,
-            length: length,
-        },
-        locks::Answer::Refused(number) => DeskLock {
+        Ok(length) => DeskLock { refusal: 0, length },
+        Err(number) => DeskLock {
             refusal: number as u32,
             length: 0,
         },

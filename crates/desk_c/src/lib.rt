@@ -28,12 +28,12 @@ pub extern "C" fn desk_begins(text: &[u8], table: &[u8]) -> bool
 
 // Decides a request over a bag, by the policies of a text whose table is lent.
 #[unsafe(no_mangle)]
-pub extern "C" fn desk_decide<'a>(
-    text: &'a [u8],
+pub extern "C" fn desk_decide(
+    text: &[u8],
     table: &[u8],
-    bag: &'a [u8],
+    bag: &[u8],
     subject: &[u8],
-    action: &'a [u8],
+    action: &[u8],
     resource: &[u8],
 ) -> DeskDecision
     ensures { result ≡ decide_says text.now table.now bag.now
@@ -60,12 +60,12 @@ pub extern "C" fn desk_string(bag: &[u8], root: u8, path: &[u8]) -> DeskString
 
 // A page of the sheet from a start row on, written into the part of the lent sheet from byte `at` on. All other bytes stay, and a refusal changes nothing.
 #[unsafe(no_mangle)]
-pub extern "C" fn desk_sheet<'a>(
-    text: &'a [u8],
+pub extern "C" fn desk_sheet(
+    text: &[u8],
     table: &[u8],
-    question: &'a [u8],
+    question: &[u8],
     subject: &[u8],
-    action: &'a [u8],
+    action: &[u8],
     resource: &[u8],
     start: usize,
     sheet: &mut [u8],
@@ -91,12 +91,12 @@ pub extern "C" fn desk_rows(question: &[u8]) -> usize
 // numbers, one for each of eight requests and the sums: the rows of outcome 1 to 4, then those that policy 1 to 64 decides. Answers the refusal's number, 0 where
 // nothing is refused; a refusal changes nothing.
 #[unsafe(no_mangle)]
-pub extern "C" fn desk_tally<'a>(
-    text: &'a [u8],
+pub extern "C" fn desk_tally(
+    text: &[u8],
     table: &[u8],
-    question: &'a [u8],
+    question: &[u8],
     many: usize,
-    requests: &'a [u8],
+    requests: &[u8],
     counts: &mut [u32; COUNTS],
 ) -> u32
     ensures { TallyAllows text.now table.now question.now many requests.now counts.old

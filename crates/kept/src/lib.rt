@@ -24,6 +24,7 @@ use deciding::row::condition_holds;
 use depths::{AIMS, LOOKS, end_of, wide};
 use marks::{by_marks, lowest};
 use meaning::Marked;
+use operands::Row;
 use questions::sizes::{MOST_CANDIDATES, MOST_COLUMNS};
 use slots::KEPT;
 use table::{Entry, entry_at};
@@ -66,10 +67,8 @@ fn forget(stale: bool, notes: &mut [u8; NOTES], at: usize)
     ensures notes_len_2 { length notes.new ≡ notes_size }
 {
     if stale {
-        let mut c = 0;
-        while c < MOST_CANDIDATES {
+        for c in 0..MOST_CANDIDATES {
             notes[at + c] = 0;
-            c += 1;
         }
     }
 }
@@ -82,60 +81,37 @@ fn note_of(hit: bool) -> u8
 }
 
 // Whether the policy of which x is the last entry, number end - 1, is satisfied in the row, where it is known whether its target matches.
-fn satisfied_where<'a>(
-    aimed: bool,
-    text: &'a [u8],
-    table: &[u8],
-    end: usize,
-    x: Entry,
-    s: &'a [u8],
-    places: &[u16; KEPT],
-    values: &[usize; MOST_COLUMNS],
-    action: &'a [u8],
-) -> bool
-    requires last { Last text.now table.now end x }
-    requires row_at { RowAt s.now places.now values.now }
+fn satisfied_where(aimed: bool, row: &Row, end: usize, x: Entry) -> bool
+    requires { Last row.now.text.now row.now.table.now end x }
     ensures { result ≡ aimed && condition_holds
-        (under (recorded table.now) (with_action action.now (placed_view s.now places.now values.now)))
-        (policy_words text.now (policy_at table.now end x)).condition }
+        (under (recorded row.now.table.now)
+        (with_action row.now.action.now (placed_view row.now.s.now row.now.places.now row.now.values.now)))
+        (policy_words row.now.text.now (policy_at row.now.table.now end x)).condition }
 {
-    if !aimed {
-        return false;
-    }
-    condition_holds(&text, &table, end, x, &s, places, values, &action)
+    aimed && condition_holds(row, end, x)
 }
 
 // Whether a policy is satisfied in the row: as its note for this choice says; where it says nothing, or is stale, the policy is met and noted.
-fn met<'a>(
-    note: Note,
-    notes: &mut [u8; NOTES],
-    looks: &[u8; LOOKS],
-    text: &'a [u8],
-    table: &[u8],
-    s: &'a [u8],
-    places: &[u16; KEPT],
-    values: &[usize; MOST_COLUMNS],
-    action: &'a [u8],
-) -> bool
+fn met(note: Note, notes: &mut [u8; NOTES], looks: &[u8; LOOKS], row: &Row) -> bool
     requires i_lt_most_policies { (note.i < most_policies) × (note.choice < most_candidates) × (length notes.old ≡ notes_size) }
-    requires last_ending { LastEnding text.now table.now (end_at looks.now note.i) }
-    requires row_at { RowAt s.now places.now values.now }
+    requires last_ending { LastEnding row.now.text.now row.now.table.now (end_at looks.now note.i) }
     ensures by_index { (sat : ℕ → Bool) → sat note.choice ≡ note.aimed && condition_holds
-        (under (recorded table.now) (with_action action.now (placed_view s.now places.now values.now)))
-        (policy_words text.now (policy_ending table.now (end_at looks.now note.i))).condition
+        (under (recorded row.now.table.now)
+        (with_action row.now.action.now (placed_view row.now.s.now row.now.places.now row.now.values.now)))
+        (policy_words row.now.text.now (policy_ending row.now.table.now (end_at looks.now note.i))).condition
         → (note.stale ≡ false → RowSays notes.old note.i sat) → Met sat note.i note.choice notes.old result notes.new }
     ensures notes_len { length notes.new ≡ notes_size }
 {
-    let row = MOST_CANDIDATES * note.i;
-    forget(note.stale, notes, row);
-    let at = row + note.choice as usize;
+    let first = MOST_CANDIDATES * note.i;
+    forget(note.stale, notes, first);
+    let at = first + note.choice as usize;
     let said = notes[at];
     if said != 0 {
         return said == 2;
     }
     let end = end_of(looks, note.i);
-    let x = entry_at(table, end - 1);
-    let hit = satisfied_where(note.aimed, text, table, end, x, s, places, values, action);
+    let x = entry_at(row.table, end - 1);
+    let hit = satisfied_where(note.aimed, row, end, x);
     notes[at] = note_of(hit);
     hit
 }
@@ -158,17 +134,17 @@ fn bit_if(b: bool, bit: u64) -> u64
 // What the policies decide in the row, with their mark. Notes and mark are those of a row that chooses alike in the columns before number `from` of the
 // walk, and are then this row's; `looks` has what each policy looks at. Only the policies are met to which that column or a later one can matter: the others
 // say what they said.
-pub fn decision_from<'a>(
+pub fn decision_from(
     walk: Walk,
     looks: &[u8; LOOKS],
     notes: &mut [u8; NOTES],
     choices: &[u8; MOST_COLUMNS],
-    text: &'a [u8],
+    text: &[u8],
     table: &[u8],
-    s: &'a [u8],
+    s: &[u8],
     places: &[u16; KEPT],
     values: &[usize; MOST_COLUMNS],
-    action: &'a [u8],
+    action: &[u8],
 ) -> Marked
     requires policies_value { walk.policies ≡ length (policies_at table.now walk.entries) }
     requires policies_le_most_policies { walk.policies ≤ most_policies }
@@ -185,7 +161,14 @@ pub fn decision_from<'a>(
         → DecidedFrom (recorded table.now) text.now s.now walk.p walk.n (kept_heads places.now) q
         (policies_at table.now walk.entries) looks.now values.now result notes.new }
 {
-    let from = walk.from;
+    let row = Row {
+        text,
+        table,
+        s,
+        places,
+        values,
+        action,
+    };
     let again = walk.mark & walk.late;
     let mut left = walk.late;
     let mut mark = walk.mark - again;
@@ -197,16 +180,16 @@ pub fn decision_from<'a>(
         let other = wide(looks[MOST_POLICIES + i]);
         let aim = looks[AIMS + i];
         let note = Note {
-            i: i,
-            choice: choice,
-            stale: from < other,
+            i,
+            choice,
+            stale: walk.from < other,
             aimed: aim == 1,
         };
-        let satisfied = met(note, notes, looks, text, table, s, places, values, action);
+        let satisfied = met(note, notes, looks, &row);
         let bit = bit_at(i);
-        mark = mark + bit_if(satisfied, bit);
-        left = left - bit;
+        mark += bit_if(satisfied, bit);
+        left -= bit;
     }
     let d = by_marks(mark, walk.permits);
-    Marked { d: d, mark: mark }
+    Marked { d, mark }
 }

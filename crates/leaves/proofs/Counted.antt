@@ -17,7 +17,8 @@ use Rattle.tokens.specs.declared.reader.Token.{Token}
 use Rattle.reading.specs.Lexemes.{lexeme}
 use Rattle.grammar.specs.Rules.{inside}
 use Rattle.parts.proofs.Texts.{between, inside_is}
-use Rattle.leaves.proofs.Wildcards.{between_byte, between_none}
+use Rattle.leaves.proofs.Wildcards.{byte_next}
+use Rattle.std.proofs.Math.ListN.{drop_of_length-le}
 
 begin_few : (s : List ℕ) → beginning_count s ≤ length s
 unfolding beginning_count
@@ -28,27 +29,21 @@ begin_few (x ∷ s) = go (goes_on_character x) (begin_few s)
     go true h = omega arith
     go false h = omega arith
 
--- what was counted of a string that starts at `start`, up to i
-pub record Counted (text : List ℕ) (end start : ℕ) (n i : ℕ) : Type 0 where
-  pub low : start ≤ i
-  pub high : i ≤ end + 1
+-- what was counted of a string, up to i
+pub record Counted (s : List ℕ) (n i : ℕ) : Type 0 where
   pub few : n ≤ i
-  pub fits : end ≤ length text
-  pub count : beginning_count (between text end start) ≡ n + beginning_count (between text end i)
+  pub count : beginning_count s ≡ n + beginning_count (drop i s)
 
-pub counted_none : (text : List ℕ) (end start : ℕ) → start ≤ end + 1 → end ≤ length text → Counted text end start 0 start
-counted_none text end start h l = record { low = omega arith; high = h; few = omega arith; fits = l; count = sym (zero-add _) }
+pub counted_none : (s : List ℕ) → Counted s 0 0
+counted_none s = record { few = omega arith; count = sym (zero-add _) }
 
-module _ {text : List ℕ} {end start n i : ℕ} (s : Counted text end start n i) where
+module _ {s : List ℕ} {n i : ℕ} (k : Counted s n i) where
   -- one byte more
-  pub counted_more : i + 1 < end → Counted text end start (n + bool_byte (not (goes_on_character (get_or text i 0)))) (i + 1)
+  pub counted_more : i < length s → Counted s (n + bool_byte (not (goes_on_character (get_or s i 0)))) (i + 1)
   unfolding beginning_count
   counted_more h = record {
-    low = let x = s.low in omega arith;
-    high = omega arith;
-    fits = s.fits;
-    few = few_more (not (goes_on_character (get_or text i 0))) s.few;
-    count = s.count ∙ rw (between_byte text end i h s.fits) (step (goes_on_character (get_or text i 0)) (beginning_count (between text end (i + 1))));
+    few = few_more (not (goes_on_character (get_or s i 0))) k.few;
+    count = k.count ∙ rw (byte_next s i h) (step (goes_on_character (get_or s i 0)) (beginning_count (drop (i + 1) s)));
   }
     where
       few_more : (b : Bool) → n ≤ i → n + bool_byte b ≤ i + 1
@@ -60,18 +55,15 @@ module _ {text : List ℕ} {end start n i : ℕ} (s : Counted text end start n i
       step false m = omega arith
 
   -- all bytes were counted
-  pub counted_all : end ≤ i + 1 → utf8 (between text end start) ≡ true → ltb 100 n ≡ ltb 100 (length (points (between text end start)))
+  pub counted_all : length s ≤ i → utf8 s ≡ true → ltb 100 n ≡ ltb 100 (length (points s))
   unfolding beginning_count
   counted_all h u =
       let n_is : n + 0 ≡ n = omega arith in
-      rw (points_counted (between text end start) ((utf8_decides (between text end start)).sound u), s.count, between_none text end i h, n_is)
+      rw (points_counted s ((utf8_decides s).sound u), k.count, drop_of_length-le s h, n_is)
 
 -- a string of at most so many bytes has no more characters
-pub counted_few : (text : List ℕ) (end start : ℕ) → end ≤ length text → end - start ≤ 101 → utf8 (between text end start) ≡ true → false ≡ ltb 100 (length (points (between text end start)))
-counted_few text end start l h u =
-    let short : length (between text end start) ≤ 100 = rw (length-take-le (end - 1 - start) (drop start text) (rw (length-drop start text) (omega arith))) (omega arith) in
-    let few : beginning_count (between text end start) ≤ 100 = let x = begin_few (between text end start) in omega arith in
-    sym (rw (points_counted (between text end start) ((utf8_decides (between text end start)).sound u)) (le-ltb _ _ few))
+counted_few : (s : List ℕ) → length s ≤ 100 → utf8 s ≡ true → false ≡ ltb 100 (length (points s))
+counted_few s h u = sym (rw (points_counted s ((utf8_decides s).sound u)) (le-ltb _ _ (let x = begin_few s in omega arith)))
 
 -- ---- of what a string has between its quotes
 
@@ -80,7 +72,9 @@ module _ (text : List ℕ) (t : Token) (u : utf8 (inside (lexeme text t)) ≡ tr
   same_text = rw (inside_is text t) at u
 
   pub inside_few : t.end ≤ length text → t.end - t.start ≤ 102 → false ≡ ltb 100 (length (points (inside (lexeme text t))))
-  inside_few l h = rw (inside_is text t) (counted_few text t.end (t.start + 1) l (omega arith) same_text)
+  inside_few l h =
+      let short : length (between text t.end (t.start + 1)) ≤ 100 = rw (length-take-le (t.end - 1 - (t.start + 1)) (drop (t.start + 1) text) (rw (length-drop (t.start + 1) text) (omega arith))) (omega arith) in
+      rw (inside_is text t) (counted_few (between text t.end (t.start + 1)) short same_text)
 
-  pub inside_counted : {n i : ℕ} → Counted text t.end (t.start + 1) n i → t.end ≤ i + 1 → ltb 100 n ≡ ltb 100 (length (points (inside (lexeme text t))))
+  pub inside_counted : {n i : ℕ} → Counted (between text t.end (t.start + 1)) n i → length (between text t.end (t.start + 1)) ≤ i → ltb 100 n ≡ ltb 100 (length (points (inside (lexeme text t))))
   inside_counted c h = rw (inside_is text t) (counted_all c h same_text)

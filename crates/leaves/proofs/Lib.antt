@@ -1,3 +1,4 @@
 pub mod Simple
 pub mod Wildcards
 pub mod Counted
+pub mod Handed

@@ -5,6 +5,7 @@ use mathlib.Core.List.{List, [], ◌∷◌}
 use Prim.Native.Nat.{ℕ, ◌≤◌, ◌<◌}
 use native.Mathlib.Omega.{arith}
 use borrow.Author.Tests.{eq-eqb, ne_eqb}
+use Rattle.std.specs.Prelude.{Option, Some, None}
 use Rattle.tokens.specs.Kinds as kinds
 use Rattle.tokens.specs.declared.reader.Token.{Token}
 use Rattle.reading.specs.Lexemes.{Lexeme, lexeme, is}
@@ -21,34 +22,30 @@ use Rattle.parts.proofs.Roots.{root_small}
 
 -- ---- comparators
 
-kind_some : (c : Comparator) → comparator_kind c ≡ 0 → ⊥
-kind_some Comparator.Equal e = omega arith
-kind_some Comparator.NotEqual e = omega arith
-kind_some Comparator.More e = omega arith
-kind_some Comparator.AtLeast e = omega arith
-kind_some Comparator.Less e = omega arith
-kind_some Comparator.AtMost e = omega arith
-
-module _ (x : Lexeme) where
-  pub compares : (comparing x.kind ≡ 0 → ⊥) → is_comparator x ≡ true
+module _ (x : Lexeme) {k : ℕ} where
+  pub compares : comparing x.kind ≡ Some k → is_comparator x ≡ true
   unfolding comparing
-  compares n = go (is_comparator x) n
+  compares e = go (is_comparator x) e
     where
-      go : (b : Bool) → (cond b (comparator_kind (comparator_of (of_kind x.kind))) 0 ≡ 0 → ⊥) → b ≡ true
-      go true n = refl
-      go false n = absurd (n refl)
+      go : (b : Bool) → cond b (Some (comparator_kind (comparator_of (of_kind x.kind)))) None ≡ Some k → b ≡ true
+      go true e = refl
+      go false e = cc
 
-  pub no_compare : comparing x.kind ≡ 0 → is_comparator x ≡ false
-  unfolding comparing
-  no_compare e = go (is_comparator x) e
-    where
-      go : (b : Bool) → cond b (comparator_kind (comparator_of (of_kind x.kind))) 0 ≡ 0 → b ≡ false
-      go true e = absurd (kind_some (comparator_of (of_kind x.kind)) e)
-      go false e = refl
-
-  pub compare_is : (comparing x.kind ≡ 0 → ⊥) → comparator_kind (comparator_of x) ≡ comparing x.kind
+  pub compare_is : comparing x.kind ≡ Some k → comparator_kind (comparator_of x) ≡ k
   unfolding comparing comparator_of
-  compare_is n = rw (compares n)
+  compare_is e = go (is_comparator x) e
+    where
+      go : (b : Bool) → cond b (Some (comparator_kind (comparator_of x))) None ≡ Some k → comparator_kind (comparator_of x) ≡ k
+      go true e = cc
+      go false e = absurd cc
+
+pub no_compare : (x : Lexeme) → comparing x.kind ≡ None → is_comparator x ≡ false
+unfolding comparing
+no_compare x e = go (is_comparator x) e
+  where
+    go : (b : Bool) → cond b (Some (comparator_kind (comparator_of (of_kind x.kind)))) None ≡ None → b ≡ false
+    go true e = absurd cc
+    go false e = refl
 
 -- ---- patterns
 
@@ -118,21 +115,17 @@ bare_truth (literal (truth false)) e h = record { value = false; reads = refl; e
 
 -- ---- what follows an attribute as left operand
 
-which_some : (w : Which) → which_kind w ≡ 0 → ⊥
-which_some Which.All e = omega arith
-which_some Which.Any e = omega arith
-
-pub rest_plain : (root : Root) (way : Way) {s : Span} → spanned_by way ≡ s → call_after way ≡ 0 → read_rest root way ≡ read_operator (attribute root s)
+pub rest_plain : (root : Root) (way : Way) {s : Span} → spanned_by way ≡ s → call_after way ≡ None → read_rest root way ≡ read_operator (attribute root s)
 unfolding spanned_by call_after read_rest
 rest_plain root (uncalled p) e h = ap (λ (s : Span). read_operator (attribute root s)) e
-rest_plain root (calling p w) e h = absurd (which_some w h)
+rest_plain root (calling p w) e h = absurd cc
 
 pub record Called (root : Root) (way : Way) (s : Span) (kind : ℕ) : Type 0 where
   pub which : Which
   pub kind_is : which_kind which ≡ kind
   pub reads : read_rest root way ≡ read_call which root s
 
-pub rest_call : (root : Root) (way : Way) {s : Span} {kind : ℕ} → spanned_by way ≡ s → call_after way ≡ kind → (kind ≡ 0 → ⊥) → Called root way s kind
+pub rest_call : (root : Root) (way : Way) {s : Span} {kind : ℕ} → spanned_by way ≡ s → call_after way ≡ Some kind → Called root way s kind
 unfolding spanned_by call_after read_rest
-rest_call root (uncalled p) e h n = absurd (n (sym h))
-rest_call root (calling p w) e h n = record { which = w; kind_is = h; reads = ap (read_call w root) e }
+rest_call root (uncalled p) e h = absurd cc
+rest_call root (calling p w) e h = record { which = w; kind_is = cc; reads = ap (read_call w root) e }

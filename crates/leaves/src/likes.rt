@@ -14,17 +14,12 @@ fn is_long(text: &[u8], t: Token) -> bool
     requires { Reads text.now 0 t × (utf8 (inside (lexeme text.now t)) ≡ true) }
     ensures { result ≡ ltb most_pattern_characters (length (points (inside (lexeme text.now t)))) }
 {
-    let end = t.end;
-    if end - t.start <= MOST_PATTERN_CHARACTERS + 2 {
+    if t.end - t.start <= MOST_PATTERN_CHARACTERS + 2 {
         return false;
     }
     let mut characters = 0;
-    let mut i = t.start + 1;
-    while i + 1 < end {
-        let b = text[i];
-        let begins = !((0x80 <= b) & (b <= 0xBF)) as usize;
-        characters = characters + begins;
-        i += 1;
+    for &b in &text[t.start + 1..t.end - 1] {
+        characters += !((0x80 <= b) & (b <= 0xBF)) as usize;
     }
     MOST_PATTERN_CHARACTERS < characters
 }
@@ -37,20 +32,18 @@ pub fn is_pattern(text: &[u8], t: Token) -> bool
     if is_long(text, t) {
         return false;
     }
-    let end = t.end;
+    if t.end - t.start <= 2 {
+        return true;
+    }
     let mut wildcards = 0;
     let mut star = false;
-    let mut i = t.start + 1;
-    while i + 1 < end {
-        let b = text[i];
+    for &b in &text[t.start + 1..t.end - 1] {
         let again = b == b'*';
         if (b == b'[') | (b == b'{') | (star & again) {
             return false;
         }
-        let wild = (again | (b == b'?')) as usize;
-        wildcards = wildcards + wild;
+        wildcards += (again | (b == b'?')) as usize;
         star = again;
-        i += 1;
     }
     wildcards <= MOST_WILDCARDS
 }

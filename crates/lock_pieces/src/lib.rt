@@ -14,12 +14,11 @@ pub fn put(room: &mut [u8], at: usize, bytes: &[u8]) -> usize
     requires { at + length bytes.now ≤ length room.old }
     ensures { PutOver room.old at bytes.now room.new result }
 {
-    let mut i = 0;
-    while i < bytes.len() {
+    // not by copy_from_slice, which may call memmove: C programs are asked for memcpy and memset alone
+    for i in 0..bytes.len() {
         room[at + i] = bytes[i];
-        i += 1;
     }
-    at + i
+    at + bytes.len()
 }
 
 // A string with its quotes.
@@ -46,16 +45,12 @@ fn put_mark(room: &mut [u8], at: usize, mark: u8) -> usize
     requires { at + length (mark_text mark) ≤ length room.old }
     ensures { PutOver room.old at (mark_text mark) room.new result }
 {
-    if mark == b'>' {
-        return put(room, at, b" > ");
+    match mark {
+        b'>' => put(room, at, b" > "),
+        b'<' => put(room, at, b" < "),
+        kinds::AT_LEAST => put(room, at, b" >= "),
+        _ => put(room, at, b" <= "),
     }
-    if mark == b'<' {
-        return put(room, at, b" < ");
-    }
-    if mark == kinds::AT_LEAST {
-        return put(room, at, b" >= ");
-    }
-    put(room, at, b" <= ")
 }
 
 // A test as a condition.
@@ -63,17 +58,21 @@ pub fn put_test(room: &mut [u8], at: usize, sort: u8, mark: u8, path: &[u8], val
     requires { at + length (test_text (test_by sort mark path.now value.now)) ≤ length room.old }
     ensures { PutOver room.old at (test_text (test_by sort mark path.now value.now)) room.new result }
 {
-    if sort == EQUALITY {
-        let left = put_attribute(room, at, path);
-        let between = put(room, left, b" == ");
-        return put_quoted(room, between, value);
+    match sort {
+        EQUALITY => {
+            let left = put_attribute(room, at, path);
+            let between = put(room, left, b" == ");
+            put_quoted(room, between, value)
+        }
+        MEMBERSHIP => {
+            let left = put_quoted(room, at, value);
+            let between = put(room, left, b" in ");
+            put_attribute(room, between, path)
+        }
+        _ => {
+            let left = put_attribute(room, at, path);
+            let between = put_mark(room, left, mark);
+            put(room, between, value)
+        }
     }
-    if sort == MEMBERSHIP {
-        let left = put_quoted(room, at, value);
-        let between = put(room, left, b" in ");
-        return put_attribute(room, between, path);
-    }
-    let left = put_attribute(room, at, path);
-    let between = put_mark(room, left, mark);
-    put(room, between, value)
 }

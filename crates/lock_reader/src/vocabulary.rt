@@ -1,6 +1,5 @@
-// The vocabulary: entries one after the other, each a word, a path and a sort. The table of the classes is made once and lent to every call.
+// The vocabulary: entries one after the other, each a word, a path and a sort.
 ghost use Rattle.std.specs.Prelude.{◌≡◌};
-ghost use Rattle.tokens.specs.Table.{class_table};
 ghost use Rattle.locks.specs.Reading.{no_entry, entry_places_at, find_from, most, is_short_word, is_entry, is_vocabulary, EntryLies, EntryIs};
 
 use bags::paths::is_path;
@@ -58,27 +57,22 @@ fn entry_at(vocabulary: &[u8], at: usize) -> EntryPlaces
 pub fn find(vocabulary: &[u8], from: usize, word: &[u8]) -> EntryPlaces
     ensures { EntryIs vocabulary.now result (find_from most vocabulary.now from word.now) }
 {
-    let mut left = WORDS;
     let mut at = from;
-    while 0 < left {
+    for _ in 0..WORDS {
         let e = entry_at(vocabulary, at);
         if e.sort == 0 {
             return no_entry();
         }
-        let start = e.word;
-        let stop = e.stop;
-        if same(&vocabulary[start..stop], word) {
+        if same(&vocabulary[e.word..e.stop], word) {
             return e;
         }
         at = e.next;
-        left -= 1;
     }
     no_entry()
 }
 
 // Whether bytes are a word of document 01.
-fn is_word(classes: &[u8; 256], word: &[u8]) -> bool
-    requires { classes.now ≡ class_table }
+fn is_word(word: &[u8]) -> bool
     ensures { result ≡ is_short_word word.now }
 {
     if word.len() == 0 {
@@ -87,47 +81,37 @@ fn is_word(classes: &[u8; 256], word: &[u8]) -> bool
     if 64 < word.len() {
         return false;
     }
-    is_of(classes, Sort::Letters, word[0])
-        & (run_end(classes, word, 0, Sort::WordBytes) == word.len())
+    // Tried with `&&`: where the run was not asked for, `returns-else-is_of` has no end of it to compare.
+    is_of(Sort::Letters, word[0]) & (run_end(word, 0, Sort::WordBytes) == word.len())
 }
 
 // Whether an entry is one of a vocabulary, and no later one has its word.
-fn is_entry(classes: &[u8; 256], vocabulary: &[u8], e: EntryPlaces) -> bool
-    requires classes_value { classes.now ≡ class_table }
+fn is_entry(vocabulary: &[u8], e: EntryPlaces) -> bool
     requires entry_lies { EntryLies vocabulary.now e }
     ensures { result ≡ is_entry vocabulary.now e }
 {
-    let word = e.word;
-    let stop = e.stop;
-    let path = e.path;
-    let end = e.end;
-    let next = e.next;
     if (e.sort == 0) | (NUMBER < e.sort) {
         return false;
     }
-    let later = find(vocabulary, next, &vocabulary[word..stop]);
-    is_word(classes, &vocabulary[word..stop])
-        & is_path(classes, &vocabulary[path..end])
-        & (later.sort == 0)
+    let word = &vocabulary[e.word..e.stop];
+    let later = find(vocabulary, e.next, word);
+    is_word(word) & is_path(&vocabulary[e.path..e.end]) & (later.sort == 0)
 }
 
 // Whether bytes are a vocabulary.
-pub fn is_vocabulary(classes: &[u8; 256], vocabulary: &[u8]) -> bool
-    requires { classes.now ≡ class_table }
+pub fn is_vocabulary(vocabulary: &[u8]) -> bool
     ensures { result ≡ is_vocabulary vocabulary.now }
 {
-    let mut left = WORDS;
     let mut at = 0;
-    while at < vocabulary.len() {
-        if left == 0 {
-            return false;
+    for _ in 0..WORDS {
+        if vocabulary.len() <= at {
+            return true;
         }
         let e = entry_at(vocabulary, at);
-        if !is_entry(classes, vocabulary, e) {
+        if !is_entry(vocabulary, e) {
             return false;
         }
         at = e.next;
-        left -= 1;
     }
-    true
+    vocabulary.len() <= at
 }

@@ -14,7 +14,8 @@ use Rattle.bags.specs.Reading.{byte}
 use Rattle.bags.proofs.Laid.{Laid, laid_none, laid_cons, laid_part, laid_join, laid_split, laid_head, laid_is}
 use Rattle.placing.specs.Said.{Word}
 use Rattle.permits.specs.Meaning.{AString}
-use Rattle.locks.specs.Reading.{ThingStep, wrong, last, on, in_front, stepped, things_from, step_by, no_piece, is_rule_string, action_at, action_step}
+use Rattle.locks.specs.Reading.{ThingStep, wrong, last, on, in_front, stepped, things_from, step_by, is_rule_string, action_at, action_step}
+use Rattle.std.specs.Prelude.{Some, None}
 use Rattle.locks.specs.Forms.{ActionBytes, action}
 use Rattle.locks.proofs.Strings.{string_test, test_string}
 use Rattle.locks.proofs.ListedLaws.{at_last, at_on}
@@ -59,8 +60,8 @@ module _ (a : List ℕ) (at : ℕ) where
 
   -- the piece there is bad, or a string
   data Found : Type 0 where
-    bad : action_at a at ≡ no_piece → Found
-    good : Acts here (at + 1 + byte a at) → action_at a at ≡ record { good = true; start = at + 1; end = at + 1 + byte a at } → Found
+    bad : action_at a at ≡ None → Found
+    good : Acts here (at + 1 + byte a at) → action_at a at ≡ Some (record { start = at + 1; end = at + 1 + byte a at }) → Found
 
   found : Found
   unfolding action_at
@@ -76,12 +77,12 @@ module _ (a : List ℕ) (at : ℕ) where
   string_of : (k : ℕ) → k ≡ at + 1 + byte a at → part a (at + 1) (k - (at + 1)) ≡ here
   string_of k q = let z : k - (at + 1) ≡ byte a at = omega arith in rw z
 
-  step_good : action_at a at ≡ record { good = true; start = at + 1; end = at + 1 + byte a at }
+  step_good : action_at a at ≡ Some (record { start = at + 1; end = at + 1 + byte a at })
       → action_step a at ≡ step_by false (eqb (at + 1 + byte a at) (length a)) here (at + 1 + byte a at)
   unfolding action_step
   step_good q = rw (q, string_of (at + 1 + byte a at) refl)
 
-  step_bad : action_at a at ≡ no_piece → action_step a at ≡ wrong
+  step_bad : action_at a at ≡ None → action_step a at ≡ wrong
   unfolding action_step step_by
   step_bad q = rw q
 

@@ -12,8 +12,8 @@ use Rattle.placing.specs.Said.{Word}
 use Rattle.permits.specs.Permits.{Test, quoted, test_text, permit_text}
 use Rattle.locks.specs.Reading.{is_vocabulary, is_rule_string, tests_read, actions_read, are_some, text_of, size_with, between_actions, between_tests, tests_text, actions_text}
 use Rattle.locks.specs.Answers.{PutOver, Read, together, read_of, framed, size_for, answer_for, room_by, Locked, Writable, no_lock_refusal, no_room_refusal}
-use Rattle.locks.specs.declared.Size.TheVariants.{Of, Bad}
-use Rattle.locks.specs.declared.Answer.TheVariants.{Written, Refused}
+use Rattle.std.specs.Prelude.{Some, None}
+use Rattle.std.specs.Prelude.{Ok, Err}
 use Rattle.locks.proofs.PutLaws.{put_both, room_left, over_start}
 
 -- the permit's length, by those of its actions, its resource and its tests
@@ -45,11 +45,11 @@ put_frame acts r ts {o} p₁ p₂ p₃ p₄ p₅ p₆ p₇ h =
 -- ---- the permit's length
 
 module _ (v l a r : List ℕ) where
-  pub size_no_vocabulary : is_vocabulary v ≡ false → Bad ≡ size_for r (read_of v l a r)
+  pub size_no_vocabulary : is_vocabulary v ≡ false → None ≡ size_for r (read_of v l a r)
   unfolding read_of size_for
   size_no_vocabulary h = rw h
 
-  pub size_no_resource : is_vocabulary v ≡ true → is_rule_string r ≡ false → Bad ≡ size_for r (read_of v l a r)
+  pub size_no_resource : is_vocabulary v ≡ true → is_rule_string r ≡ false → None ≡ size_for r (read_of v l a r)
   unfolding read_of size_for
   size_no_resource h k = rw (h, k)
 
@@ -58,38 +58,38 @@ module _ (v l a r : List ℕ) where
     unfolding read_of
     is_read = rw (h, k)
 
-    pub size_no_actions : Bad ≡ size_with 0 between_actions quoted (actions_read a) → Bad ≡ size_for r (read_of v l a r)
+    pub size_no_actions : None ≡ size_with 0 between_actions quoted (actions_read a) → None ≡ size_for r (read_of v l a r)
     unfolding size_with size_for
     size_no_actions e = rw is_read (go (actions_read a) e)
       where
-        go : (o : Option (List Word)) → Bad ≡ size_with 0 between_actions quoted o → Bad ≡ size_for r (together o (tests_read v l))
+        go : (o : Option (List Word)) → None ≡ size_with 0 between_actions quoted o → None ≡ size_for r (together o (tests_read v l))
         go none e = refl
         go (some x) e = absurd (let z : ◌≡◌ {A = ℕ} 0 1 = cc in omega arith)
 
-    pub size_no_tests : (x : ℕ) → Of x ≡ size_with 0 between_actions quoted (actions_read a) → Bad ≡ size_with 0 between_tests test_text (tests_read v l) → Bad ≡ size_for r (read_of v l a r)
+    pub size_no_tests : (x : ℕ) → Some x ≡ size_with 0 between_actions quoted (actions_read a) → None ≡ size_with 0 between_tests test_text (tests_read v l) → None ≡ size_for r (read_of v l a r)
     unfolding size_with size_for
     size_no_tests n e f = rw is_read (go (actions_read a) (tests_read v l) e f)
       where
-        go : (o : Option (List Word)) (p : Option (List Test)) → Of n ≡ size_with 0 between_actions quoted o → Bad ≡ size_with 0 between_tests test_text p → Bad ≡ size_for r (together o p)
+        go : (o : Option (List Word)) (p : Option (List Test)) → Some n ≡ size_with 0 between_actions quoted o → None ≡ size_with 0 between_tests test_text p → None ≡ size_for r (together o p)
         go none p e f = refl
         go (some x) none e f = refl
         go (some x) (some y) e f = absurd (let z : ◌≡◌ {A = ℕ} 0 1 = cc in omega arith)
 
-    pub size_of_both : (x y : ℕ) → Of x ≡ size_with 0 between_actions quoted (actions_read a) → Of y ≡ size_with 0 between_tests test_text (tests_read v l)
-        → Of (58 + length r + x + y) ≡ size_for r (read_of v l a r)
+    pub size_of_both : (x y : ℕ) → Some x ≡ size_with 0 between_actions quoted (actions_read a) → Some y ≡ size_with 0 between_tests test_text (tests_read v l)
+        → Some (58 + length r + x + y) ≡ size_for r (read_of v l a r)
     unfolding size_with size_for permit_text framed text_of
     size_of_both n m e f = rw is_read (go (actions_read a) (tests_read v l) e f)
       where
-        go : (o : Option (List Word)) (p : Option (List Test)) → Of n ≡ size_with 0 between_actions quoted o → Of m ≡ size_with 0 between_tests test_text p
-            → Of (58 + length r + n + m) ≡ size_for r (together o p)
+        go : (o : Option (List Word)) (p : Option (List Test)) → Some n ≡ size_with 0 between_actions quoted o → Some m ≡ size_with 0 between_tests test_text p
+            → Some (58 + length r + n + m) ≡ size_for r (together o p)
         go none p e f = absurd (let z : ◌≡◌ {A = ℕ} 0 1 = cc in omega arith)
         go (some x) none e f = absurd (let z : ◌≡◌ {A = ℕ} 0 1 = cc in omega arith)
         go (some x) (some y) e f =
             let i : n ≡ 0 + length (text_of between_actions quoted (some x)) = of_same e in
             let j : m ≡ 0 + length (text_of between_tests test_text (some y)) = of_same f in
-            ap Of (omega (arith, framed_long (text_of between_actions quoted (some x)) r (text_of between_tests test_text (some y))))
+            ap Some (omega (arith, framed_long (text_of between_actions quoted (some x)) r (text_of between_tests test_text (some y))))
           where
-            of_same : {i j : ℕ} → Of i ≡ Of j → i ≡ j
+            of_same : {i j : ℕ} → Some i ≡ Some j → i ≡ j
             of_same q = cc
 
 -- ---- what is answered, by the permit's length
@@ -102,27 +102,27 @@ record Has (v l a r : List ℕ) (n : ℕ) : Type 0 where
   tests : tests_read v l ≡ some read.tests
   size : n ≡ length (permit_text read.actions r read.tests)
 
-module _ (v l a r : List ℕ) (n : ℕ) (e : size_for r (read_of v l a r) ≡ Of n) where
+module _ (v l a r : List ℕ) (n : ℕ) (e : size_for r (read_of v l a r) ≡ Some n) where
   has : Has v l a r n
   unfolding read_of size_for
   has = go (is_vocabulary v && is_rule_string r) refl
     where
       both : (o : Option (List Word)) (p : Option (List Test)) → actions_read a ≡ o → tests_read v l ≡ p → read_of v l a r ≡ together o p → Has v l a r n
-      both none p x y q = absurd (let z : Bad ≡ Of n = bad q in let k : ◌≡◌ {A = ℕ} 0 1 = cc in omega arith)
+      both none p x y q = absurd (let z : None ≡ Some n = bad q in let k : ◌≡◌ {A = ℕ} 0 1 = cc in omega arith)
         where
-          bad : read_of v l a r ≡ none → Bad ≡ Of n
+          bad : read_of v l a r ≡ none → None ≡ Some n
           bad q = ap (size_for r) (sym q) ∙ e
-      both (some s) none x y q = absurd (let z : Bad ≡ Of n = bad q in let k : ◌≡◌ {A = ℕ} 0 1 = cc in omega arith)
+      both (some s) none x y q = absurd (let z : None ≡ Some n = bad q in let k : ◌≡◌ {A = ℕ} 0 1 = cc in omega arith)
         where
-          bad : read_of v l a r ≡ none → Bad ≡ Of n
+          bad : read_of v l a r ≡ none → None ≡ Some n
           bad q = ap (size_for r) (sym q) ∙ e
       both (some s) (some t) x y q = record { read = record { actions = s; tests = t }; is = q; actions = x; tests = y; size = size (ap (size_for r) (sym q) ∙ e) }
         where
-          size : size_for r (some (record { actions = s; tests = t })) ≡ Of n → n ≡ length (permit_text s r t)
+          size : size_for r (some (record { actions = s; tests = t })) ≡ Some n → n ≡ length (permit_text s r t)
           size q = cc
 
       go : (b : Bool) → (is_vocabulary v && is_rule_string r) ≡ b → Has v l a r n
-      go false q = absurd (let z : Bad ≡ Of n = ap (size_for r) (sym none_read) ∙ e in let k : ◌≡◌ {A = ℕ} 0 1 = cc in omega arith)
+      go false q = absurd (let z : None ≡ Some n = ap (size_for r) (sym none_read) ∙ e in let k : ◌≡◌ {A = ℕ} 0 1 = cc in omega arith)
         where
           none_read : read_of v l a r ≡ none
           none_read = rw q
@@ -141,25 +141,25 @@ module _ (v l a r : List ℕ) (n : ℕ) (e : size_for r (read_of v l a r) ≡ Of
           fits = omega (arith, ap length framed_is, has.size);
         }
 
-    pub no_room : length room < n → Locked v l a r room (Refused no_room_refusal) room
+    pub no_room : length room < n → Locked v l a r room (Err no_room_refusal) room
     unfolding answer_for room_by
     no_room h =
         let k : length room < length (permit_text has.read.actions r has.read.tests) = omega (arith, has.size) in
         record { answered = rw (has.is, lt-leb _ _ k); bytes = rw (has.is, lt-leb _ _ k) }
 
-    pub written : (new : List ℕ) (m : ℕ) → n ≤ length room → PutOver room 0 (framed (actions_text a) r (tests_text v l)) new m → Locked v l a r room (Written n) new
+    pub written : (new : List ℕ) (m : ℕ) → n ≤ length room → PutOver room 0 (framed (actions_text a) r (tests_text v l)) new m → Locked v l a r room (Ok n) new
     unfolding answer_for room_by
     written new m h p =
         let k : length (permit_text has.read.actions r has.read.tests) ≤ length room = omega (arith, has.size) in
         record { answered = rw (has.is, le-leb _ _ k, ← has.size); bytes = over_start p ∙ rw (framed_is, has.is, le-leb _ _ k) }
 
-pub no_lock : (v l a r room : List ℕ) → size_for r (read_of v l a r) ≡ Bad → Locked v l a r room (Refused no_lock_refusal) room
+pub no_lock : (v l a r room : List ℕ) → size_for r (read_of v l a r) ≡ None → Locked v l a r room (Err no_lock_refusal) room
 unfolding answer_for room_by size_for
 no_lock v l a r room e = go (read_of v l a r) refl
   where
-    go : (o : Option Read) → read_of v l a r ≡ o → Locked v l a r room (Refused no_lock_refusal) room
+    go : (o : Option Read) → read_of v l a r ≡ o → Locked v l a r room (Err no_lock_refusal) room
     go none q = record { answered = rw q; bytes = rw q }
-    go (some x) q = absurd (let z : Of (length (permit_text x.actions r x.tests)) ≡ Bad = of_some q in let k : ◌≡◌ {A = ℕ} 0 1 = cc in omega arith)
+    go (some x) q = absurd (let z : Some (length (permit_text x.actions r x.tests)) ≡ None = of_some q in let k : ◌≡◌ {A = ℕ} 0 1 = cc in omega arith)
       where
-        of_some : read_of v l a r ≡ some x → Of (length (permit_text x.actions r x.tests)) ≡ Bad
+        of_some : read_of v l a r ≡ some x → Some (length (permit_text x.actions r x.tests)) ≡ None
         of_some q = ap (size_for r) (sym q) ∙ e

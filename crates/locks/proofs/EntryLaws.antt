@@ -23,7 +23,8 @@ use Rattle.tokens.specs.declared.classes.Sort.TheVariants.{Letters, WordBytes, S
 use Rattle.bags.specs.Paths.{every}
 use Rattle.bags.specs.Reading.{byte}
 use Rattle.placing.specs.Said.{Word}
-use Rattle.locks.specs.Reading.{no_entry, word_end, path_end, entry_places_at, word_of, find_from, is_short_word, is_entry, entries_from, is_rule_string, EntryLies, EntryIs, no_piece, action_at, ActionIs}
+use Rattle.locks.specs.Reading.{no_entry, word_end, path_end, entry_places_at, word_of, find_from, is_short_word, is_entry, entries_from, is_rule_string, EntryLies, EntryIs, action_at, ActionIs}
+use Rattle.std.specs.Prelude.{Some, None}
 use Rattle.locks.specs.declared.Piece.{Piece}
 use Rattle.locks.specs.declared.vocabulary.EntryPlaces.{EntryPlaces}
 
@@ -142,10 +143,10 @@ module _ (v : List ℕ) where
   entries_end zero at h = sym (le-leb _ _ h)
   entries_end (suc n) at h = rw (le-leb _ _ h)
 
-  pub entries_full : (n at : ℕ) → n ≡ 0 → at < length v → false ≡ entries_from n v at
+  pub entries_none : (n at : ℕ) → n ≤ 0 → leb (length v) at ≡ entries_from n v at
   unfolding entries_from
-  entries_full zero at z h = sym (lt-leb _ _ h)
-  entries_full (suc n) at z h = absurd (omega arith)
+  entries_none zero at h = refl
+  entries_none (suc n) at h = absurd (omega arith)
 
   module _ (at : ℕ) (e : EntryPlaces) (q : e ≡ entry_places_at v at) (h : at < length v) where
     pub entries_bad : (n : ℕ) → (n ≡ 0 → ⊥) → is_entry v e ≡ false → false ≡ entries_from n v at
@@ -169,32 +170,41 @@ short_string s h = go (leb (length s) 127) refl h
     go true e w = leb-true _ _ e
     go false e w = absurd (let z : ◌≡◌ {A = ℕ} 0 1 = cc in omega arith)
 
+-- no part is some part
+pub no_part : {p : Piece} → None ≡ Some p → ⊥
+no_part e = let z : ◌≡◌ {A = ℕ} 0 1 = cc in omega arith
+
 module _ (a : List ℕ) (at : ℕ) where
-  action_none : (r : Piece) → r ≡ no_piece → no_piece ≡ action_at a at → ActionIs a r (action_at a at)
-  action_none r p q =
-      record { answer = p ∙ q; order = rw p (omega arith); high = rw p (omega arith); few = rw p (omega arith) }
+  action_none : None ≡ action_at a at → ActionIs a None (action_at a at)
+  action_none q = record { answer = q; order = λ x e. absurd (no_part e); high = λ x e. absurd (no_part e); few = λ x e. absurd (no_part e) }
 
-  module _ (r : Piece) (p : r ≡ no_piece) where
-    pub action_past : length a ≤ at → ActionIs a r (action_at a at)
-    unfolding action_at
-    action_past h = action_none r p (simp (le-ltb _ _ h))
+  pub action_past : length a ≤ at → ActionIs a None (action_at a at)
+  unfolding action_at
+  action_past h = action_none (simp (le-ltb _ _ h))
 
-    pub action_cut : at < length a → length a < at + 1 + byte a at → ActionIs a r (action_at a at)
-    unfolding action_at
-    action_cut h k = action_none r p (simp (lt-ltb _ _ h, lt-leb _ _ k))
+  pub action_cut : at < length a → length a < at + 1 + byte a at → ActionIs a None (action_at a at)
+  unfolding action_at
+  action_cut h k = action_none (simp (lt-ltb _ _ h, lt-leb _ _ k))
 
-    pub action_bad : at < length a → at + 1 + byte a at ≤ length a → is_rule_string (take (at + 1 + byte a at - (at + 1)) (drop (at + 1) a)) ≡ false
-        → ActionIs a r (action_at a at)
-    unfolding action_at part
-    action_bad h k b =
-        let n : at + 1 + byte a at - (at + 1) ≡ byte a at = omega arith in
-        action_none r p (simp (lt-ltb _ _ h, le-leb _ _ k, rw n at b))
+  pub action_bad : at < length a → at + 1 + byte a at ≤ length a → is_rule_string (take (at + 1 + byte a at - (at + 1)) (drop (at + 1) a)) ≡ false
+      → ActionIs a None (action_at a at)
+  unfolding action_at part
+  action_bad h k b =
+      let n : at + 1 + byte a at - (at + 1) ≡ byte a at = omega arith in
+      action_none (simp (lt-ltb _ _ h, le-leb _ _ k, rw n at b))
 
   pub action_good : at < length a → at + 1 + byte a at ≤ length a → is_rule_string (take (at + 1 + byte a at - (at + 1)) (drop (at + 1) a)) ≡ true
-      → ActionIs a (record { good = true; start = at + 1; end = at + 1 + byte a at }) (action_at a at)
+      → ActionIs a (Some (record { start = at + 1; end = at + 1 + byte a at })) (action_at a at)
   unfolding action_at part
   action_good h k b =
       let n : at + 1 + byte a at - (at + 1) ≡ byte a at = omega arith in
       let s = short_string _ (rw n at b) in
       let l : length (take (byte a at) (drop (at + 1) a)) ≡ byte a at = length-take-le (byte a at) (drop (at + 1) a) (omega (arith, length-drop (at + 1) a)) in
-      record { answer = simp (lt-ltb _ _ h, le-leb _ _ k, rw n at b); order = omega arith; high = omega arith; few = omega arith }
+      let r : Piece = record { start = at + 1; end = at + 1 + byte a at } in
+      let same_part : (x : Piece) → Some r ≡ Some x → r ≡ x = λ x e. cc in
+      record {
+        answer = simp (lt-ltb _ _ h, le-leb _ _ k, rw n at b);
+        order = λ x e. rw (← same_part x e) (omega arith);
+        high = λ x e. rw (← same_part x e) (omega arith);
+        few = λ x e. rw (← same_part x e) (omega arith);
+      }

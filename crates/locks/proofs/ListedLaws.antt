@@ -8,7 +8,7 @@ use native.Mathlib.Omega.{arith}
 use lib.ListN.{length, length-append}
 use Rattle.permits.specs.Permits.{between}
 use Rattle.locks.specs.Reading.{ThingStep, wrong, last, on, in_front, stepped, things_from, step_by, text_of, size_with, are_some}
-use Rattle.locks.specs.declared.Size.TheVariants.{Of, Bad}
+use Rattle.std.specs.Prelude.{Some, None}
 
 module _ {A : Type 0} (next : ℕ → ThingStep A) where
   stepped_some : (s : ThingStep A) (rest : ℕ → Option (List A)) → stepped s rest ≡ some [] → ⊥
@@ -66,11 +66,11 @@ module _ {A : Type 0} (next : ℕ → ThingStep A) where
 -- ---- what they are in a permit
 
 module _ {A : Type 0} (sep : List ℕ) (text : A → List ℕ) (next : ℕ → ThingStep A) (n at : ℕ) (bad end : Bool) (x : A) (m : ℕ) (q : next at ≡ step_by bad end x m) where
-  pub size_wrong : (k : ℕ) → 0 < n → bad ≡ true → Bad ≡ size_with k sep text (things_from n next at)
+  pub size_wrong : (k : ℕ) → 0 < n → bad ≡ true → None ≡ size_with k sep text (things_from n next at)
   unfolding size_with step_by
   size_wrong k h b = rw (at_wrong next n at x m h (q ∙ rw b))
 
-  pub size_last : (k : ℕ) → 0 < n → bad ≡ false → end ≡ true → Of (k + length (text x)) ≡ size_with k sep text (things_from n next at)
+  pub size_last : (k : ℕ) → 0 < n → bad ≡ false → end ≡ true → Some (k + length (text x)) ≡ size_with k sep text (things_from n next at)
   unfolding size_with between step_by
   size_last k h b e = rw (at_last next n at x m h (q ∙ rw (b, e)))
 
@@ -79,7 +79,7 @@ module _ {A : Type 0} (sep : List ℕ) (text : A → List ℕ) (next : ℕ → T
   unfolding size_with between
   before_size k none w = refl
   before_size k (some []) w = absurd (w refl)
-  before_size k (some (y ∷ ys)) w = ap Of (simp length-append (omega arith))
+  before_size k (some (y ∷ ys)) w = ap Some (simp length-append (omega arith))
 
   pub size_on : (k : ℕ) → 0 < n → bad ≡ false → end ≡ false
       → size_with (k + length (text x) + length sep) sep text (things_from (n - 1) next m) ≡ size_with k sep text (things_from n next at)
@@ -87,7 +87,7 @@ module _ {A : Type 0} (sep : List ℕ) (text : A → List ℕ) (next : ℕ → T
   size_on k h b e = rw (at_on next n at x m h (q ∙ rw (b, e))) (before_size k (things_from (n - 1) next m) (never_empty next (n - 1) m))
 
   module _ (h : are_some (things_from n next at) ≡ true) where
-    not_wrong : bad ≡ false
+    pub not_wrong : bad ≡ false
     unfolding step_by
     not_wrong = go bad refl
       where

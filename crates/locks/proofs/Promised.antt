@@ -10,8 +10,8 @@ use lib.ListN.{length, drop}
 use borrow.Author.Tests.{le-leb, lt-leb, leb-true, leb-false}
 use Rattle.locks.specs.Answers.{Read, read_of, answer_for, room_by, no_lock_refusal, no_room_refusal, Locked}
 use Rattle.locks.specs.Promise.{LockCall, permit_for, Answers, no_lock, no_room, permit, answer_to, AnsweredExactly, RoomUnchanged, PermitStands, OneLock}
-use Rattle.locks.specs.declared.Answer.{Answer}
-use Rattle.locks.specs.declared.Answer.TheVariants.{Written, Refused}
+use Rattle.locks.specs.Answers.{Answer}
+use Rattle.std.specs.Prelude.{Ok, Err}
 use Rattle.locks.proofs.Exactly.{read_sound, read_complete}
 
 -- what a call is read as
@@ -27,7 +27,7 @@ unfolding answer_for
 answers c = go (read_by c) refl
   where
     fits : (x : Read) → read_by c ≡ some x → (t : Bool) → leb (length (permit_for c x.actions x.tests)) (length c.room) ≡ t
-        → Answers c (cond t (Written (length (permit_for c x.actions x.tests))) (Refused no_room_refusal))
+        → Answers c (cond t (Ok (length (permit_for c x.actions x.tests))) (Err no_room_refusal))
     fits x q true e = permit (read_sound c.vocabulary c.lock c.actions c.resource x q) (leb-true _ _ e)
     fits x q false e = no_room (read_sound c.vocabulary c.lock c.actions c.resource x q) (leb-false _ _ e)
 
@@ -40,7 +40,7 @@ only_answer : (c : LockCall) {answer : Answer} → Answers c answer → answer_t
 unfolding answer_for
 only_answer c (no_lock n) = go (read_by c) refl
   where
-    go : (o : Option Read) → read_by c ≡ o → answer_for c.resource c.room (read_by c) ≡ Refused no_lock_refusal
+    go : (o : Option Read) → read_by c ≡ o → answer_for c.resource c.room (read_by c) ≡ Err no_lock_refusal
     go none q = rw q
     go (some x) q = absurd (n x.actions x.tests (read_sound c.vocabulary c.lock c.actions c.resource x q))
 only_answer c (no_room {actions = acts} {tests = ts} s h) = rw (read_complete c.vocabulary c.lock c.actions c.resource acts ts s, lt-leb _ _ h)
@@ -54,16 +54,16 @@ pub nothing_changed : RoomUnchanged
 unfolding RoomUnchanged answer_for room_by
 nothing_changed c number h = go (read_by c) refl h
   where
-    written_refused : {n m : ℕ} → Written n ≡ Refused m → ⊥
+    written_refused : {n m : ℕ} → Ok n ≡ Err m → ⊥
     written_refused q = let z : ◌≡◌ {A = ℕ} 0 1 = cc in omega arith
 
     fits : (x : Read) (t : Bool) → leb (length (permit_for c x.actions x.tests)) (length c.room) ≡ t
-        → cond t (Written (length (permit_for c x.actions x.tests))) (Refused no_room_refusal) ≡ Refused number
+        → cond t (Ok (length (permit_for c x.actions x.tests))) (Err no_room_refusal) ≡ Err number
         → cond t (permit_for c x.actions x.tests ++ drop (length (permit_for c x.actions x.tests)) c.room) c.room ≡ c.room
     fits x true e q = absurd (written_refused q)
     fits x false e q = refl
 
-    go : (o : Option Read) → read_by c ≡ o → answer_for c.resource c.room (read_by c) ≡ Refused number → room_by c.resource c.room (read_by c) ≡ c.room
+    go : (o : Option Read) → read_by c ≡ o → answer_for c.resource c.room (read_by c) ≡ Err number → room_by c.resource c.room (read_by c) ≡ c.room
     go none q h = rw q
     go (some x) q h = rw q (fits x (leb (length (permit_for c x.actions x.tests)) (length c.room)) refl (rw q at h))
 

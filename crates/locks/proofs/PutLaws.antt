@@ -67,11 +67,11 @@ pub paste_long : (room : List ℕ) (at : ℕ) (b : List ℕ) (i : ℕ) (now : Li
     → length now ≡ length room
 paste_long room at b i now e h g = ap length e ∙ length-paste room at b i (omega arith) g
 
-pub paste_all : (room : List ℕ) (at : ℕ) (b : List ℕ) (i : ℕ) (now : List ℕ) → now ≡ paste room at b i → length b ≤ i → i ≤ length b → PutOver room at b now (at + i)
+pub paste_all : (room : List ℕ) (at : ℕ) (b : List ℕ) (i : ℕ) (now : List ℕ) → now ≡ paste room at b i → length b ≤ i → i ≤ length b → PutOver room at b now (at + length b)
 unfolding put_over
 paste_all room at b i now e h g =
     let q : i ≡ length b = omega arith in
-    record { is = e ∙ append_assoc (take at room) (take i b) (drop (at + i) room) ∙ rw (take_all i b h, q); end = omega arith }
+    record { is = e ∙ append_assoc (take at room) (take i b) (drop (at + i) room) ∙ rw (take_all i b h, q); end = refl }
 
 -- ---- what is left to be put
 

@@ -1,13 +1,13 @@
 -- Laws of the tests of a lock and of the strings of an action list: what stands at a place, and how many bytes it has in a permit. Assumes nothing.
 use mathlib.Core.Path.{◌≡◌, refl, sym, ap, ◌∙◌}
-use mathlib.Core.Bool.{Bool, true, false, cond, not, ◌&&◌, ◌||◌, and-eq-true_iff}
-use mathlib.Core.List.{List, ◌++◌, append_assoc}
+use mathlib.Core.Bool.{Bool, true, false, cond, ◌&&◌, ◌||◌, and-eq-true_iff, false≢true}
+use mathlib.Core.List.{List, [], ◌++◌, append_assoc}
 use Prim.Native.Nat.{ℕ, ◌+◌, ◌-◌, ◌≤◌, ◌<◌}
 use native.Mathlib.Omega.{arith}
 use lib.Dec.{eqb, leb}
 use lib.ListN.{length, take, drop, length-append, length-drop}
 use lib.Seq.{length-take-le}
-use borrow.Author.Tests.{eq-eqb, ne_eqb, leb-true}
+use borrow.Author.Tests.{lt-ltb, le-ltb, eq-eqb, ne_eqb, leb-true}
 use Rattle.slices.specs.Ascii.{bytes}
 use Rattle.slices.specs.Parts.{part}
 use Rattle.tokens.specs.Kinds as kinds
@@ -18,30 +18,47 @@ use Rattle.tokens.specs.declared.reader.Token.{Token}
 use Rattle.grammar.specs.Policies.{Comparator, Comparator.More, Comparator.AtLeast, Comparator.Less, Comparator.AtMost}
 use Rattle.placing.specs.Said.{Word}
 use Rattle.permits.specs.Permits.{equal, member, order, quoted, of_principal, sign_of, test_text}
-use Rattle.locks.specs.Reading.{find_from, most, EntryIs, no_test, goes_with, value_to, value_behind, number_from, number_behind, operand_at, ends_test, PieceIs, test_of, test_at, TestLies, TestIs, comparator_for, mark_text, equality_byte, membership_byte, test_by, test_size, test_in, ActionIs, action_at}
-use Rattle.locks.specs.Reading.{ThingStep, things_from, test_step_of, test_step, action_step_of, action_step, size_with, text_of, are_some, between_tests, between_actions}
+use Rattle.locks.specs.Reading.{find_from, most, EntryIs, no_test, goes_with, value_behind, number_behind, operand_at, ends_test, LiesFrom, PieceIs, test_of, test_with, test_at, TestLies, TestIs, comparator_for, mark_text, equality_byte, membership_byte, test_by, test_size, test_in, ActionIs, action_at}
+use Rattle.locks.specs.Reading.{ThingStep, things_from, step_by, test_step_of, test_step, action_step, size_with, text_of, are_some, between_tests, between_actions}
 use Rattle.locks.specs.declared.Piece.{Piece}
-use Rattle.locks.specs.declared.Size.TheVariants.{Of, Bad}
+use Rattle.std.specs.Prelude.{Some, None}
+use Rattle.std.specs.Prelude as prelude
 use Rattle.locks.specs.declared.vocabulary.EntryPlaces.{EntryPlaces}
 use Rattle.locks.specs.declared.tests.TestPlaces.{TestPlaces}
-use Rattle.locks.proofs.ListedLaws.{none_left, size_wrong, size_last, size_on, text_last, text_on, text_first, some_on}
+use Rattle.locks.proofs.EntryLaws.{no_part}
+use Rattle.locks.proofs.ListedLaws.{none_left, not_wrong, size_wrong, size_last, size_on, text_last, text_on, text_first, some_on}
 
 -- ---- operands
 
-pub value_is : {l : List ℕ} {at s e : ℕ} → RunsTo Blanks l at s → RunsTo WordBytes l s e → PieceIs l at (value_to l s e) (value_behind l at)
+-- the part that is there
+some_part : {l : List ℕ} {at : ℕ} {r : Piece} → LiesFrom l at r → (x : Piece) → Some r ≡ Some x → LiesFrom l at x
+some_part {l} {at} {r} h x e = let q : r ≡ x = cc in rw (← q) h
+
+pub value_some : {l : List ℕ} {at s e : ℕ} → RunsTo Blanks l at s → RunsTo WordBytes l s e → s < e
+    → PieceIs l at (Some (record { start = s; end = e })) (value_behind l at)
 unfolding value_behind
-value_is {l} {at} {s} {e} a b =
-    record { answer = rw (← a.place, ← b.place); lies = record { from = a.low; order = b.low; high = b.high } }
+value_some {l} {at} {s} {e} a b h =
+    record { answer = rw (← a.place, ← b.place, lt-ltb _ _ h); lies = some_part (record { from = a.low; order = b.low; high = b.high }) }
 
-pub number_is : {l : List ℕ} {at : ℕ} {t : Token} → t ≡ token_at l at → Reads l at t → PieceIs l at (number_from t) (number_behind l at)
+pub value_none : {l : List ℕ} {at s e : ℕ} → RunsTo Blanks l at s → RunsTo WordBytes l s e → e ≤ s → PieceIs l at None (value_behind l at)
+unfolding value_behind
+value_none {l} {at} {s} {e} a b h = record { answer = rw (← a.place, ← b.place, le-ltb _ _ h); lies = λ x q. absurd (no_part q) }
+
+pub number_some : {l : List ℕ} {at : ℕ} {t : Token} → t ≡ token_at l at → Reads l at t → t.kind ≡ kinds.number
+    → PieceIs l at (Some (record { start = t.start; end = t.end })) (number_behind l at)
 unfolding number_behind
-number_is {l} {at} {t} q r = record { answer = ap number_from q; lies = record { from = r.low; order = r.order; high = r.high } }
+number_some {l} {at} {t} q r k =
+    record { answer = rw (← q, eq-eqb _ _ k); lies = some_part (record { from = r.low; order = r.order; high = r.high }) }
 
-pub operand_value : {l : List ℕ} {mark at : ℕ} {p : Piece} → mark ≡ kinds.colon_outside → PieceIs l at p (value_behind l at) → PieceIs l at p (operand_at l mark at)
+pub number_none : {l : List ℕ} {at : ℕ} {t : Token} → t ≡ token_at l at → (t.kind ≡ kinds.number → ⊥) → PieceIs l at None (number_behind l at)
+unfolding number_behind
+number_none {l} {at} {t} q k = record { answer = rw (← q, ne_eqb _ _ k); lies = λ x e. absurd (no_part e) }
+
+pub operand_value : {l : List ℕ} {mark at : ℕ} {p : prelude.Option Piece} → mark ≡ kinds.colon_outside → PieceIs l at p (value_behind l at) → PieceIs l at p (operand_at l mark at)
 unfolding operand_at
 operand_value {l} {mark} {at} {p} h q = record { answer = q.answer ∙ rw (eq-eqb _ _ h); lies = q.lies }
 
-pub operand_number : {l : List ℕ} {mark at : ℕ} {p : Piece} → (mark ≡ kinds.colon_outside → ⊥) → PieceIs l at p (number_behind l at) → PieceIs l at p (operand_at l mark at)
+pub operand_number : {l : List ℕ} {mark at : ℕ} {p : prelude.Option Piece} → (mark ≡ kinds.colon_outside → ⊥) → PieceIs l at p (number_behind l at) → PieceIs l at p (operand_at l mark at)
 unfolding operand_at
 operand_number {l} {mark} {at} {p} h q = record { answer = q.answer ∙ rw (ne_eqb _ _ h); lies = q.lies }
 
@@ -49,14 +66,37 @@ operand_number {l} {mark} {at} {p} h q = record { answer = q.answer ∙ rw (ne_e
 
 -- all that is asked of it
 abbrev pub asked : List ℕ → EntryPlaces → ℕ → Piece → ℕ → Bool
-asked l e mark o next = o.good && leb (o.end - o.start) 127 && goes_with e.sort mark && ends_test l next
+asked l e mark o next = leb (o.end - o.start) 127 && goes_with e.sort mark && ends_test l next
 
-module _ {v l : List ℕ} {at s w : ℕ} {e : EntryPlaces} {m : Token} {o : Piece} {n : ℕ} (a : RunsTo Blanks l at s) (b : RunsTo WordBytes l s w)
-    (f : EntryIs v e (find_from most v 0 (take (w - s) (drop s l)))) (t : m ≡ token_at l w) (p : PieceIs l m.end o (operand_at l m.kind m.end))
-    (x : RunsTo Blanks l o.end n) where
+-- no test is one of no length
+none_lies : (v l : List ℕ) (r : TestPlaces) → r ≡ no_test → TestLies v l r
+none_lies v l r q =
+    rw q
+    (record {
+      path_low = omega arith;
+      path_high = omega arith;
+      path_few = omega arith;
+      value_low = omega arith;
+      value_high = omega arith;
+      value_few = omega arith;
+      next_high = omega arith;
+    })
+
+-- where no operand stands behind the mark
+pub test_bare : {v l : List ℕ} {at s w : ℕ} {e : EntryPlaces} {m : Token} {o : prelude.Option Piece} → RunsTo Blanks l at s → RunsTo WordBytes l s w
+    → EntryIs v e (find_from most v 0 (take (w - s) (drop s l))) → m ≡ token_at l w → PieceIs l m.end o (operand_at l m.kind m.end) → o ≡ None
+    → (r : TestPlaces) → r ≡ no_test → TestIs v l r (test_at v l at)
+unfolding test_at test_with part
+test_bare {v} {l} {at} {s} {w} {e} {m} {o} a b f t p z r q =
+    let k : test_with l e m.kind None ≡ test_at v l at = rw (← a.place, ← b.place, ← f.answer, ← t, ← p.answer, z) in
+    record { answer = q ∙ k; lies = none_lies v l r q }
+
+module _ {v l : List ℕ} {at s w : ℕ} {e : EntryPlaces} {m : Token} {u : prelude.Option Piece} {o : Piece} {n : ℕ} (a : RunsTo Blanks l at s) (b : RunsTo WordBytes l s w)
+    (f : EntryIs v e (find_from most v 0 (take (w - s) (drop s l)))) (t : m ≡ token_at l w) (p : PieceIs l m.end u (operand_at l m.kind m.end))
+    (there : u ≡ Some o) (x : RunsTo Blanks l o.end n) where
   test_of_lem : test_of l e m.kind o n ≡ test_at v l at
-  unfolding test_at part
-  test_of_lem = rw (← a.place, ← b.place, ← f.answer, ← t, ← p.answer, ← x.place)
+  unfolding test_at test_with part
+  test_of_lem = rw (← a.place, ← b.place, ← f.answer, ← t, ← p.answer, there, ← x.place)
 
   pub test_found : asked l e m.kind o n ≡ true
       → TestIs v l (record { sort = e.sort; path = e.path; stop = e.end; mark = m.kind; value = o.start; end = o.end; next = n }) (test_at v l at)
@@ -64,8 +104,9 @@ module _ {v l : List ℕ} {at s w : ℕ} {e : EntryPlaces} {m : Token} {o : Piec
   test_found y =
       let z = (and-eq-true_iff _ (ends_test l n)).0 y in
       let z' = (and-eq-true_iff _ (goes_with e.sort m.kind)).0 z.0 in
-      let k = leb-true (o.end - o.start) 127 ((and-eq-true_iff o.good _).0 z'.0).1 in
-      let q : o.start ≤ o.end = p.lies.order in
+      let k = leb-true (o.end - o.start) 127 z'.0 in
+      let d = p.lies o there in
+      let q : o.start ≤ o.end = d.order in
       record {
         answer = sym (rw y) ∙ test_of_lem;
         lies =
@@ -73,8 +114,8 @@ module _ {v l : List ℕ} {at s w : ℕ} {e : EntryPlaces} {m : Token} {o : Piec
               path_low = f.lies.path_low;
               path_high = f.lies.path_high;
               path_few = f.lies.path_few;
-              value_low = p.lies.order;
-              value_high = p.lies.high;
+              value_low = d.order;
+              value_high = d.high;
               value_few = omega arith;
               next_high = x.high;
             };
@@ -82,21 +123,7 @@ module _ {v l : List ℕ} {at s w : ℕ} {e : EntryPlaces} {m : Token} {o : Piec
 
   pub test_none : (r : TestPlaces) → r ≡ no_test → asked l e m.kind o n ≡ false → TestIs v l r (test_at v l at)
   unfolding test_of
-  test_none r q y =
-      record {
-        answer = q ∙ sym (rw y) ∙ test_of_lem;
-        lies =
-            rw q
-            (record {
-              path_low = omega arith;
-              path_high = omega arith;
-              path_few = omega arith;
-              value_low = omega arith;
-              value_high = omega arith;
-              value_few = omega arith;
-              next_high = omega arith;
-            });
-      }
+  test_none r q y = record { answer = q ∙ sym (rw y) ∙ test_of_lem; lies = none_lies v l r q }
 
 -- ---- how many bytes a test has
 
@@ -146,14 +173,14 @@ module _ (sort mark : ℕ) (p w : Word) where
 
 -- ---- how many bytes all have
 
-pub few_of : (n k m : ℕ) → n ≤ k → Of n ≡ Of m → m ≤ k
+pub few_of : (n k m : ℕ) → n ≤ k → Some n ≡ Some m → m ≤ k
 few_of n k m h e = let q : n ≡ m = cc in omega arith
 
-pub none_of : (k m : ℕ) → Bad ≡ Of m → m ≤ k
+pub none_of : (k m : ℕ) → None ≡ Some m → m ≤ k
 none_of k m e = absurd (let z : ◌≡◌ {A = ℕ} 0 1 = cc in omega arith)
 
 module _ {A : Type 0} (sep : List ℕ) (text : A → List ℕ) (next : ℕ → ThingStep A) where
-  pub size_none : (n k at : ℕ) → n ≤ 0 → Bad ≡ size_with k sep text (things_from n next at)
+  pub size_none : (n k at : ℕ) → n ≤ 0 → None ≡ size_with k sep text (things_from n next at)
   unfolding size_with
   size_none n k at h = rw (none_left next n at h)
 
@@ -167,13 +194,13 @@ module _ (v l : List ℕ) (n at : ℕ) (t : TestPlaces) (a : TestIs v l t (test_
     long : length (test_text (test_in v l t)) ≡ r
     long = test_long a.lies ∙ sym s
 
-    pub tests_wrong : t.sort ≡ 0 → Bad ≡ size_with k between_tests test_text (things_from n (test_step v l) at)
+    pub tests_wrong : t.sort ≡ 0 → None ≡ size_with k between_tests test_text (things_from n (test_step v l) at)
     tests_wrong z = size_wrong between_tests test_text (test_step v l) n at _ _ _ _ step_is k h (eq-eqb _ _ z)
 
     module _ (z : t.sort ≡ 0 → ⊥) where
-      pub tests_last : t.next ≡ length l → Of (k + r) ≡ size_with k between_tests test_text (things_from n (test_step v l) at)
+      pub tests_last : t.next ≡ length l → Some (k + r) ≡ size_with k between_tests test_text (things_from n (test_step v l) at)
       tests_last e =
-          ap (λ (x : ℕ). Of (k + x)) (sym long)
+          ap (λ (x : ℕ). Some (k + x)) (sym long)
           ∙ size_last between_tests test_text (test_step v l) n at _ _ _ _ step_is k h (ne_eqb _ _ z) (eq-eqb _ _ e)
 
       pub tests_on : (t.next ≡ length l → ⊥)
@@ -201,34 +228,42 @@ module _ (v l : List ℕ) (n at : ℕ) (t : TestPlaces) (a : TestIs v l t (test_
 
 -- ---- actions
 
-module _ (a : List ℕ) (n at : ℕ) (p : Piece) (w : ActionIs a p (action_at a at)) where
+-- where no string stands
+module _ (a : List ℕ) (n at : ℕ) (r : prelude.Option Piece) (w : ActionIs a r (action_at a at)) (z : r ≡ None) where
+  wrong_step : action_step a at ≡ step_by true false [] 0
+  unfolding action_step step_by
+  wrong_step = rw (← w.answer, z)
+
+  pub actions_wrong : (k : ℕ) → 0 < n → None ≡ size_with k between_actions quoted (things_from n (action_step a) at)
+  actions_wrong k h = size_wrong between_actions quoted (action_step a) n at _ _ _ _ wrong_step k h refl
+
+  pub actions_there : are_some (things_from n (action_step a) at) ≡ true → ⊥
+  actions_there h = false≢true (sym (not_wrong between_actions quoted (action_step a) n at _ _ _ _ wrong_step h))
+
+module _ (a : List ℕ) (n at : ℕ) (r : prelude.Option Piece) (w : ActionIs a r (action_at a at)) (p : Piece) (is : r ≡ Some p) where
   -- the string there
   abbrev pub string_of : Word
   string_of = part a p.start (p.end - p.start)
 
-  action_step_lem : action_step a at ≡ action_step_of a p
+  action_step_lem : action_step a at ≡ step_by false (eqb p.end (length a)) (part a p.start (p.end - p.start)) p.end
   unfolding action_step
-  action_step_lem = rw (← w.answer)
+  action_step_lem = rw (← w.answer, is)
 
   quoted_long : length (quoted string_of) ≡ p.end - p.start + 2
-  quoted_long = simp length-append (omega (arith, part_long a p.start p.end w.order w.high))
+  quoted_long = simp length-append (omega (arith, part_long a p.start p.end (w.order p is) (w.high p is)))
 
   module _ (k : ℕ) (h : 0 < n) where
-    pub actions_wrong : not p.good ≡ true → Bad ≡ size_with k between_actions quoted (things_from n (action_step a) at)
-    actions_wrong z = size_wrong between_actions quoted (action_step a) n at _ _ _ _ action_step_lem k h z
+    pub actions_last : p.end ≡ length a → Some (k + (p.end - p.start) + 2) ≡ size_with k between_actions quoted (things_from n (action_step a) at)
+    actions_last e =
+        let q : k + (p.end - p.start) + 2 ≡ k + length (quoted string_of) = omega (arith, quoted_long) in
+        ap Some q ∙ size_last between_actions quoted (action_step a) n at _ _ _ _ action_step_lem k h refl (eq-eqb _ _ e)
 
-    module _ (z : not p.good ≡ false) where
-      pub actions_last : p.end ≡ length a → Of (k + (p.end - p.start) + 2) ≡ size_with k between_actions quoted (things_from n (action_step a) at)
-      actions_last e =
-          let q : k + (p.end - p.start) + 2 ≡ k + length (quoted string_of) = omega (arith, quoted_long) in
-          ap Of q ∙ size_last between_actions quoted (action_step a) n at _ _ _ _ action_step_lem k h z (eq-eqb _ _ e)
-
-      pub actions_on : (p.end ≡ length a → ⊥)
-          → size_with (k + (p.end - p.start) + 2 + 2) between_actions quoted (things_from (n - 1) (action_step a) p.end) ≡ size_with k between_actions quoted (things_from n (action_step a) at)
-      actions_on e =
-          let q : k + (p.end - p.start) + 2 + 2 ≡ k + length (quoted string_of) + 2 = omega (arith, quoted_long) in
-          ap (λ (x : ℕ). size_with x between_actions quoted (things_from (n - 1) (action_step a) p.end)) q
-          ∙ size_on between_actions quoted (action_step a) n at _ _ _ _ action_step_lem k h z (ne_eqb _ _ e)
+    pub actions_on : (p.end ≡ length a → ⊥)
+        → size_with (k + (p.end - p.start) + 2 + 2) between_actions quoted (things_from (n - 1) (action_step a) p.end) ≡ size_with k between_actions quoted (things_from n (action_step a) at)
+    actions_on e =
+        let q : k + (p.end - p.start) + 2 + 2 ≡ k + length (quoted string_of) + 2 = omega (arith, quoted_long) in
+        ap (λ (x : ℕ). size_with x between_actions quoted (things_from (n - 1) (action_step a) p.end)) q
+        ∙ size_on between_actions quoted (action_step a) n at _ _ _ _ action_step_lem k h refl (ne_eqb _ _ e)
 
   module _ (h : are_some (things_from n (action_step a) at) ≡ true) where
     pub actions_first : length (quoted string_of) ≤ length (text_of between_actions quoted (things_from n (action_step a) at))

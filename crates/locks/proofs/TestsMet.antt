@@ -6,7 +6,7 @@ use mathlib.Core.Logic.{◌⊎◌, inl, inr}
 use mathlib.Core.Option.{some}
 use Prim.Native.Nat.{ℕ, ◌+◌, ◌-◌, ◌≤◌, ◌<◌}
 use native.Mathlib.Omega.{arith}
-use lib.Dec.{eqb, leb, ltb}
+use lib.Dec.{eqb, leb}
 use lib.ListN.{length, get_or, drop, drop_of_length-le}
 use lib.Seq.{get_or-drop}
 use borrow.Author.Tests.{lt-ltb, le-leb, lt-leb, ne_eqb, eqb-true, not-true}
@@ -31,7 +31,9 @@ use Rattle.permits.specs.Permits.{Test, sign_of}
 use Rattle.permits.specs.Meaning.{Orders, more, at_least, less, at_most, AValue, Fits, equal_fits, member_fits, order_fits}
 use Rattle.permits.proofs.Values.{number_long}
 use Rattle.questions.specs.Forms.{Distinct}
-use Rattle.locks.specs.Reading.{find_from, most, goes_with, value_behind, number_behind, operand_at, ends_test, test_of, test_at, path_of, test_by, test_in, is_vocabulary, word_from, word_up_to, word_in, mark_in, operand_in}
+use Rattle.locks.specs.Reading.{find_from, most, goes_with, value_behind, number_behind, operand_at, ends_test, test_of, test_with, test_at, path_of, test_by, test_in, is_vocabulary, word_from, word_up_to, word_in, mark_in, operand_in}
+use Rattle.std.specs.Prelude.{Some}
+use Rattle.std.specs.Prelude as prelude
 use Rattle.locks.specs.Forms.{WordSort, equality, membership, numbers, sort_byte, VocabularyEntry, AWord, a_word, WrittenTest, TestBytes, value_test, number_test, Meant, an_equality, a_membership, a_comparison, vocabulary_words}
 use Rattle.locks.specs.declared.Piece.{Piece}
 use Rattle.locks.specs.declared.tests.TestPlaces.{TestPlaces}
@@ -129,13 +131,13 @@ longer d h = omega (arith, d.stop)
 -- ---- the test at a place, by its parts
 
 module _ (v l : List ℕ) where
-  test_at_is : (at : ℕ) {w : Word} {m : Token} {o : Piece} {n : ℕ} → word_in l at ≡ w → mark_in l at ≡ m → operand_in l at ≡ o → run_end Blanks l (operand_in l at).end ≡ n
+  test_at_is : (at : ℕ) {w : Word} {m : Token} {o : Piece} {n : ℕ} → word_in l at ≡ w → mark_in l at ≡ m → operand_in l at ≡ Some o → run_end Blanks l o.end ≡ n
       → test_at v l at ≡ test_of l (find_from most v 0 w) m.kind o n
-  unfolding test_at
+  unfolding test_at test_with
   test_at_is at {w} {m} {o} {n} qw qm qo qn =
-      ap (λ (x : Word). test_of l (find_from most v 0 x) (mark_in l at).kind (operand_in l at) (run_end Blanks l (operand_in l at).end)) qw
-      ∙ ap (λ (x : Token). test_of l (find_from most v 0 w) x.kind (operand_in l at) (run_end Blanks l (operand_in l at).end)) qm
-      ∙ ap (λ (x : Piece). test_of l (find_from most v 0 w) m.kind x (run_end Blanks l (operand_in l at).end)) qo
+      ap (λ (x : Word). test_with l (find_from most v 0 x) (mark_in l at).kind (operand_in l at)) qw
+      ∙ ap (λ (x : Token). test_with l (find_from most v 0 w) x.kind (operand_in l at)) qm
+      ∙ ap (λ (x : prelude.Option Piece). test_with l (find_from most v 0 w) m.kind x) qo
       ∙ ap (λ (x : ℕ). test_of l (find_from most v 0 w) m.kind o x) qn
 
   -- a test that is met at a place
@@ -163,13 +165,13 @@ module _ (v l : List ℕ) where
         }
 
     -- all that is asked of a test holds
-    met : (at : ℕ) {w p x : Word} {s : WordSort} {m : Token} {o : Piece} {n : ℕ} → Entered w p s → word_in l at ≡ w → mark_in l at ≡ m → operand_in l at ≡ o
-        → run_end Blanks l (operand_in l at).end ≡ n → o.good ≡ true → o.end - o.start ≤ 127 → goes_with (sort_byte s) m.kind ≡ true → ends_test l n ≡ true
+    met : (at : ℕ) {w p x : Word} {s : WordSort} {m : Token} {o : Piece} {n : ℕ} → Entered w p s → word_in l at ≡ w → mark_in l at ≡ m → operand_in l at ≡ Some o
+        → run_end Blanks l o.end ≡ n → o.end - o.start ≤ 127 → goes_with (sort_byte s) m.kind ≡ true → ends_test l n ≡ true
         → part l o.start (o.end - o.start) ≡ x → Met at (test_by (sort_byte s) m.kind p x) n
     unfolding test_of test_in path_of
-    met at {w} {p} {x} {s} {m} {o} {n} e qw qm qo qn g k a b y =
+    met at {w} {p} {x} {s} {m} {o} {n} e qw qm qo qn k a b y =
         let f = find_from most v 0 w in
-        let c : (o.good && leb (o.end - o.start) 127 && goes_with f.sort m.kind && ends_test l n) ≡ true = rw (g, le-leb _ _ k, e.sort, a, b) in
+        let c : (leb (o.end - o.start) 127 && goes_with f.sort m.kind && ends_test l n) ≡ true = rw (le-leb _ _ k, e.sort, a, b) in
         let t = test_at_is at qw qm qo qn in
         let r : test_at v l at ≡ record { sort = f.sort; path = f.path; stop = f.end; mark = m.kind; value = o.start; end = o.end; next = n } = t ∙ rw c in
         record {
@@ -196,29 +198,27 @@ module _ (v l : List ℕ) where
         letter_first (a_word {b} {rest} e r h) d =
             ap (λ (x : List ℕ). is_of Blanks (get_or x 0 0)) d.is ∙ ap (λ (c : ℕ). eqb c 2) (eqb-true (class_of b) 5 e)
 
-    behind_value : (at : ℕ) {o : Piece} {xe e : ℕ} {b : List ℕ} → operand_in l at ≡ o → o.end ≡ xe → All Blanks b → Laid l xe b e → Stop l e
-        → run_end Blanks l (operand_in l at).end ≡ e
-    behind_value at qo qe ab lb st =
-        ap (λ (x : Piece). run_end Blanks l x.end) qo ∙ ap (run_end Blanks l) qe ∙ run_reads ab lb (stop_calm (stop_byte st)).1
+    behind_value : {xe e : ℕ} {b : List ℕ} → All Blanks b → Laid l xe b e → Stop l e → run_end Blanks l xe ≡ e
+    behind_value ab lb st = run_reads ab lb (stop_calm (stop_byte st)).1
 
     -- the byte behind a value or a number
     after_calm : {xe e : ℕ} {b : List ℕ} → All Blanks b → Laid l xe b e → Stop l e → calm (get_or (drop xe l) 0 0) ≡ true
     after_calm {xe} {e} ab lb st = ap (λ (x : List ℕ). calm (get_or x 0 0)) lb.is ∙ first_calm ab (drop e l) (stop_calm (stop_byte st)).0
 
     value_op : {me xs xe : ℕ} {b x : List ℕ} → All Blanks b → All WordBytes x → 1 ≤ length x → Laid l me b xs → Laid l xs x xe → is_of WordBytes (get_or (drop xe l) 0 0) ≡ false
-        → operand_at l kinds.colon_outside me ≡ record { good = ltb xs xe; start = xs; end = xe }
+        → operand_at l kinds.colon_outside me ≡ Some (record { start = xs; end = xe })
     unfolding operand_at value_behind
     value_op {me} {xs} {xe} {b} {x} ab ax one lb lx n =
         let r : run_end Blanks l me ≡ xs = run_reads ab lb (first_word ax one lx) in
         let q : run_end WordBytes l xs ≡ xe = run_reads ax lx n in
-        rw (r, q)
+        rw (r, q, lt-ltb _ _ (longer lx one))
       where
         first_word : {x : List ℕ} {xs xe : ℕ} → All WordBytes x → 1 ≤ length x → Laid l xs x xe → is_of Blanks (get_or (drop xs l) 0 0) ≡ false
         first_word empty h d = absurd (omega arith)
         first_word (next {b} e a) h d = ap (λ (y : List ℕ). is_of Blanks (get_or y 0 0)) d.is ∙ word_not_blank b e
 
     number_op : (mark : ℕ) {me xe : ℕ} {b n : List ℕ} → eqb mark kinds.colon_outside ≡ false → All Blanks b → Number n → digits n ≤ 15 → Laid l me (b ++ n) xe
-        → calm (get_or (drop xe l) 0 0) ≡ true → operand_at l mark me ≡ record { good = true; start = me + length b; end = xe }
+        → calm (get_or (drop xe l) 0 0) ≡ true → operand_at l mark me ≡ Some (record { start = me + length b; end = xe })
     unfolding operand_at number_behind
     number_op mark {me} {xe} {b} {n} k ab u d ln c =
         let t : token_at l me ≡ token kinds.number (me + length b) xe = token_reads ab (a_number u) d ln (calm_apart n _ c) in
@@ -262,7 +262,7 @@ module _ (v l : List ℕ) where
         let qm = ap (token_at l) t.to ∙ colon_reads ba₂ d₄.0 in
         let qo = ap (λ (y : Token). operand_at l y.kind y.end) qm ∙ value_op bb₂ ax.all ax.some d₅.0 d₅.1 (calm_not_word _ c) in
         let z = d₅.1.stop in
-        met at (entered m) t.word qm qo (behind_value at qo refl bb d₂.1 st) (lt-ltb _ _ (longer d₅.1 ax.some)) (omega (arith, z)) (goes_value s kind) (stop_goes st)
+        met at (entered m) t.word qm qo (behind_value bb d₂.1 st) (omega (arith, z)) (goes_value s kind) (stop_goes st)
         (laid_bytes d₅.1)
 
     -- a word with a number
@@ -284,7 +284,7 @@ module _ (v l : List ℕ) where
         let g = order_goes o in
         let qo = ap (λ (y : Token). operand_at l y.kind y.end) qm ∙ number_op (mark_kind c) g.1 bb₂ u few d₄.1 k in
         let z = d₅.1.stop in
-        met at (entered m) t.word qm qo (behind_value at qo refl bb d₂.1 st) refl (omega (arith, z, number_long u)) g.0 (stop_goes st) (laid_bytes d₅.1)
+        met at (entered m) t.word qm qo (behind_value bb d₂.1 st) (omega (arith, z, number_long u)) g.0 (stop_goes st) (laid_bytes d₅.1)
 
     -- a test as it is meant
     pub test_met : (at : ℕ) {e : ℕ} {a t b : List ℕ} {w : WrittenTest} {u : Test} → All Blanks a → TestBytes t w → All Blanks b → Meant (entries_in v most 0) w u → Fits u

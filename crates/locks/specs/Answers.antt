@@ -1,14 +1,12 @@
 -- What the call answers and leaves in the room, as functions of what it is lent (document 02, request 2). Definitions only.
 use Rattle.std.specs.Prelude.{◌≡◌, Bool, true, cond, ◌&&◌, List, ◌++◌, ℕ, ◌+◌, ◌≤◌, leb, length, take, drop}
+use Rattle.std.specs.Prelude.{Some, None, Result, Ok, Err}
+use Rattle.std.specs.Prelude as prelude
 use Rattle.std.proofs.Math.Option.{Option, none, some}
 use Rattle.slices.specs.Ascii.{bytes}
 use Rattle.placing.specs.Said.{Word}
 use Rattle.permits.specs.Permits.{Test, quoted, permit_text}
 use Rattle.locks.specs.Reading.{is_vocabulary, is_rule_string, tests_read, actions_read, are_some, tests_text, actions_text}
-use Rattle.locks.specs.declared.Size.{Size}
-use Rattle.locks.specs.declared.Size.TheVariants.{Of, Bad}
-use Rattle.locks.specs.declared.Answer.{Answer}
-use Rattle.locks.specs.declared.Answer.TheVariants.{Written, Refused}
 
 -- ---- bytes put over others
 
@@ -48,9 +46,13 @@ framed acts r ts =
     bytes "permit(principal, action in [" ++ (acts ++ (bytes "], resource == " ++ (quoted r ++ (bytes ") when { " ++ (ts ++ bytes " };")))))
 
 -- the permit's length
-unfoldable pub size_for : List ℕ → Option Read → Size
-size_for r none = Bad
-size_for r (some x) = Of (length (permit_text x.actions r x.tests))
+unfoldable pub size_for : List ℕ → Option Read → prelude.Option ℕ
+size_for r none = None
+size_for r (some x) = Some (length (permit_text x.actions r x.tests))
+
+-- what the call answers: the permit's length, or the refusal's number
+abbrev pub Answer : Type 0
+Answer = Result ℕ ℕ
 
 -- the refusals: no lock, no room
 abbrev pub no_lock_refusal : ℕ
@@ -61,7 +63,7 @@ no_room_refusal = 29
 
 -- a permit's length, if it fits
 abbrev pub length_in : List ℕ → List ℕ → Answer
-length_in permit room = cond (leb (length permit) (length room)) (Written (length permit)) (Refused no_room_refusal)
+length_in permit room = cond (leb (length permit) (length room)) (Ok (length permit)) (Err no_room_refusal)
 
 -- a permit over the start of a room, if it fits
 abbrev pub over_start : List ℕ → List ℕ → List ℕ
@@ -69,7 +71,7 @@ over_start permit room = cond (leb (length permit) (length room)) (permit ++ dro
 
 -- what is answered, by what is read
 unfoldable pub answer_for : List ℕ → List ℕ → Option Read → Answer
-answer_for r room none = Refused no_lock_refusal
+answer_for r room none = Err no_lock_refusal
 answer_for r room (some x) = length_in (permit_text x.actions r x.tests) room
 
 -- the room afterwards, by what is read

@@ -1,11 +1,9 @@
 -- When the call gets which refusal, and that bytes say one lock only. Definitions only.
-use Rattle.std.specs.Prelude.{◌≡◌, ◌↔◌, List, ◌++◌, ℕ, ◌≤◌, ◌<◌, length, drop}
+use Rattle.std.specs.Prelude.{◌≡◌, ◌↔◌, Ok, Err, List, ◌++◌, ℕ, ◌≤◌, ◌<◌, length, drop}
 use Rattle.placing.specs.Said.{Word}
 use Rattle.permits.specs.Permits.{Test, permit_text}
 use Rattle.locks.specs.Forms.{Lockable, NoLock}
-use Rattle.locks.specs.Answers.{answer_of, room_after, no_lock_refusal, no_room_refusal}
-use Rattle.locks.specs.declared.Answer.{Answer}
-use Rattle.locks.specs.declared.Answer.TheVariants.{Written, Refused}
+use Rattle.locks.specs.Answers.{Answer, answer_of, room_after, no_lock_refusal, no_room_refusal}
 
 -- what the call is lent: vocabulary, lock, action list, resource, and the room for the permit
 pub record LockCall : Type 0 where
@@ -25,11 +23,11 @@ permit_for c actions tests = permit_text actions c.resource tests
 
 -- When a call gets which answer: 28 where it says no lock; 29 where it says one whose permit is longer than its room; else the permit's length.
 pub data Answers (c : LockCall) : Answer → Type 0 where
-  no_lock : NoLock c.vocabulary c.lock c.actions c.resource → Answers c (Refused no_lock_refusal)
+  no_lock : NoLock c.vocabulary c.lock c.actions c.resource → Answers c (Err no_lock_refusal)
   no_room : {actions : List Word} {tests : List Test} → CallSays c actions tests → length c.room < length (permit_for c actions tests)
-      → Answers c (Refused no_room_refusal)
+      → Answers c (Err no_room_refusal)
   permit : {actions : List Word} {tests : List Test} → CallSays c actions tests → length (permit_for c actions tests) ≤ length c.room
-      → Answers c (Written (length (permit_for c actions tests)))
+      → Answers c (Ok (length (permit_for c actions tests)))
 
 -- what is answered, and the room afterwards
 abbrev pub answer_to : LockCall → Answer
@@ -44,7 +42,7 @@ AnsweredExactly = (c : LockCall) (answer : Answer) → (answer_to c ≡ answer) 
 
 -- A refusal changes nothing.
 unfoldable pub RoomUnchanged : Type 0
-RoomUnchanged = (c : LockCall) (number : ℕ) → answer_to c ≡ Refused number → room_left c ≡ c.room
+RoomUnchanged = (c : LockCall) (number : ℕ) → answer_to c ≡ Err number → room_left c ≡ c.room
 
 -- Where the permit has room it stands over the room's start, and all other bytes stay.
 unfoldable pub PermitStands : Type 0

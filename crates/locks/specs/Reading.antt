@@ -1,6 +1,8 @@
 -- The readers of a lock, its vocabulary and its action list: what stands at a place, and what all of it says. Definitions only;
 -- specs/Forms.antt has the same as document 02 words it.
-use Rattle.std.specs.Prelude.{◌≡◌, Bool, true, false, cond, not, ◌&&◌, ◌||◌, List, [], ◌∷◌, ◌++◌, map, ℕ, zero, suc, ◌+◌, ◌-◌, ◌≤◌, ltb, leb, eqb, length, get_or}
+use Rattle.std.specs.Prelude.{◌≡◌, Bool, true, false, cond, ◌&&◌, ◌||◌, List, [], ◌∷◌, ◌++◌, map, ℕ, zero, suc, ◌+◌, ◌-◌, ◌≤◌, ltb, leb, eqb, length, get_or}
+use Rattle.std.specs.Prelude.{Some, None}
+use Rattle.std.specs.Prelude as prelude
 use Rattle.std.proofs.Math.Option.{Option, none, some}
 use Prim.Native.Char.{code}
 use Rattle.slices.specs.Ascii.{bytes}
@@ -18,8 +20,6 @@ use Rattle.grammar.specs.Policies.{Comparator, Comparator.More, Comparator.AtLea
 use Rattle.placing.specs.Said.{Word}
 use Rattle.permits.specs.Permits.{Test, equal, member, order, between, quoted, sign_of, test_text}
 use Rattle.locks.specs.declared.Piece.{Piece}
-use Rattle.locks.specs.declared.Size.{Size}
-use Rattle.locks.specs.declared.Size.TheVariants.{Of, Bad}
 use Rattle.locks.specs.declared.vocabulary.EntryPlaces.{EntryPlaces}
 use Rattle.locks.specs.declared.tests.TestPlaces.{TestPlaces}
 
@@ -112,10 +112,6 @@ pub record EntryIs (v : List ℕ) (e is_of : EntryPlaces) : Type 0 where
 abbrev pub no_test : TestPlaces
 no_test = record { sort = 0; path = 0; stop = 0; mark = 0; value = 0; end = 0; next = 0 }
 
--- no part
-abbrev pub no_piece : Piece
-no_piece = record { good = false; start = 0; end = 0 }
-
 -- a mark goes with a word's sort: `:` with equality and membership, `>`, `>=`, `<` and `<=` with numbers
 unfoldable pub goes_with : ℕ → ℕ → Bool
 goes_with sort mark =
@@ -123,27 +119,27 @@ goes_with sort mark =
     || eqb sort number_byte && (eqb mark kinds.more || eqb mark kinds.at_least || eqb mark kinds.less || eqb mark kinds.at_most)
 
 -- a value from `start` up to `end`
-abbrev pub value_to : List ℕ → ℕ → ℕ → Piece
-value_to l start end = record { good = ltb start end; start = start; end = end }
+abbrev pub value_to : List ℕ → ℕ → ℕ → prelude.Option Piece
+value_to l start end = cond (ltb start end) (Some (record { start = start; end = end })) None
 
 -- the longest run of word bytes from a place on
-abbrev pub value_from : List ℕ → ℕ → Piece
+abbrev pub value_from : List ℕ → ℕ → prelude.Option Piece
 value_from l start = value_to l start (run_end WordBytes l start)
 
 -- the value behind the blanks at a place
-unfoldable pub value_behind : List ℕ → ℕ → Piece
+unfoldable pub value_behind : List ℕ → ℕ → prelude.Option Piece
 value_behind l at = value_from l (run_end Blanks l at)
 
 -- a token as a number
-abbrev pub number_from : Token → Piece
-number_from t = record { good = eqb t.kind kinds.number; start = t.start; end = t.end }
+abbrev pub number_from : Token → prelude.Option Piece
+number_from t = cond (eqb t.kind kinds.number) (Some (record { start = t.start; end = t.end })) None
 
 -- the number behind the blanks at a place
-unfoldable pub number_behind : List ℕ → ℕ → Piece
+unfoldable pub number_behind : List ℕ → ℕ → prelude.Option Piece
 number_behind l at = number_from (token_at l at)
 
 -- what stands behind a mark: a value behind `:`, a number behind the others
-unfoldable pub operand_at : List ℕ → ℕ → ℕ → Piece
+unfoldable pub operand_at : List ℕ → ℕ → ℕ → prelude.Option Piece
 operand_at l mark at = cond (eqb mark kinds.colon_outside) (value_behind l at) (number_behind l at)
 
 -- a lock ends at a place, or a `&` stands there
@@ -157,16 +153,21 @@ pub record LiesFrom (l : List ℕ) (at : ℕ) (p : Piece) : Type 0 where
   pub high : p.end ≤ length l
 
 -- which part is answered, and that it lies in the bytes from a place on
-pub record PieceIs (l : List ℕ) (at : ℕ) (p is_of : Piece) : Type 0 where
+pub record PieceIs (l : List ℕ) (at : ℕ) (p is_of : prelude.Option Piece) : Type 0 where
   pub answer : p ≡ is_of
-  pub lies : LiesFrom l at p
+  pub lies : (x : Piece) → p ≡ Some x → LiesFrom l at x
 
 -- a test of a word's entry, the mark behind the word, the operand, and the place behind the blanks behind that
 unfoldable pub test_of : List ℕ → EntryPlaces → ℕ → Piece → ℕ → TestPlaces
 test_of l e mark o next =
-    cond (o.good && leb (o.end - o.start) 127 && goes_with e.sort mark && ends_test l next)
+    cond (leb (o.end - o.start) 127 && goes_with e.sort mark && ends_test l next)
     (record { sort = e.sort; path = e.path; stop = e.end; mark = mark; value = o.start; end = o.end; next = next })
     no_test
+
+-- the same where there is an operand; no test where there is none
+unfoldable pub test_with : List ℕ → EntryPlaces → ℕ → prelude.Option Piece → TestPlaces
+test_with l e mark None = no_test
+test_with l e mark (Some o) = test_of l e mark o (run_end Blanks l o.end)
 
 -- of the test at a place: where its word starts and ends, the mark's token, its operand
 abbrev pub word_from : List ℕ → ℕ → ℕ
@@ -181,13 +182,12 @@ word_in l at = part l (word_from l at) (word_up_to l at - word_from l at)
 abbrev pub mark_in : List ℕ → ℕ → Token
 mark_in l at = token_at l (word_up_to l at)
 
-abbrev pub operand_in : List ℕ → ℕ → Piece
+abbrev pub operand_in : List ℕ → ℕ → prelude.Option Piece
 operand_in l at = operand_at l (mark_in l at).kind (mark_in l at).end
 
 -- the test at a place
 unfoldable pub test_at : List ℕ → List ℕ → ℕ → TestPlaces
-test_at v l at =
-    test_of l (find_from most v 0 (word_in l at)) (mark_in l at).kind (operand_in l at) (run_end Blanks l (operand_in l at).end)
+test_at v l at = test_with l (find_from most v 0 (word_in l at)) (mark_in l at).kind (operand_in l at)
 
 -- what a caller may know of a test's places
 pub record TestLies (v l : List ℕ) (t : TestPlaces) : Type 0 where
@@ -234,18 +234,18 @@ unfoldable pub is_rule_string : List ℕ → Bool
 is_rule_string s = leb (length s) 127 && every (is_of StringBytes) s && utf8 s
 
 -- the string behind the length byte at a place
-unfoldable pub action_at : List ℕ → ℕ → Piece
+unfoldable pub action_at : List ℕ → ℕ → prelude.Option Piece
 action_at a at =
     cond (ltb at (length a) && leb (at + 1 + byte a at) (length a) && is_rule_string (part a (at + 1) (byte a at)))
-    (record { good = true; start = at + 1; end = at + 1 + byte a at })
-    no_piece
+    (Some (record { start = at + 1; end = at + 1 + byte a at }))
+    None
 
--- what a caller may know of an action's places
-pub record ActionIs (a : List ℕ) (p is_of : Piece) : Type 0 where
+-- which action is answered, and what a caller may know of its places
+pub record ActionIs (a : List ℕ) (p is_of : prelude.Option Piece) : Type 0 where
   pub answer : p ≡ is_of
-  pub order : p.start ≤ p.end
-  pub high : p.end ≤ length a
-  pub few : p.end ≤ p.start + 127
+  pub order : (x : Piece) → p ≡ Some x → x.start ≤ x.end
+  pub high : (x : Piece) → p ≡ Some x → x.end ≤ length a
+  pub few : (x : Piece) → p ≡ Some x → x.end ≤ x.start + 127
 
 -- ---- one thing after the other
 
@@ -283,8 +283,9 @@ unfoldable pub test_step : List ℕ → List ℕ → ℕ → ThingStep Test
 test_step v l at = test_step_of v l (test_at v l at)
 
 -- an action and what follows it
-abbrev pub action_step_of : List ℕ → Piece → ThingStep Word
-action_step_of a p = step_by (not p.good) (eqb p.end (length a)) (part a p.start (p.end - p.start)) p.end
+abbrev pub action_step_of : List ℕ → prelude.Option Piece → ThingStep Word
+action_step_of a None = wrong
+action_step_of a (Some p) = step_by false (eqb p.end (length a)) (part a p.start (p.end - p.start)) p.end
 
 unfoldable pub action_step : List ℕ → ℕ → ThingStep Word
 action_step a at = action_step_of a (action_at a at)
@@ -305,14 +306,14 @@ text_of sep text none = []
 text_of sep text (some xs) = between sep (map text xs)
 
 -- so many bytes and how many these are
-unfoldable pub size_with : {A : Type 0} → ℕ → List ℕ → (A → List ℕ) → Option (List A) → Size
-size_with k sep text none = Bad
-size_with k sep text (some xs) = Of (k + length (between sep (map text xs)))
+unfoldable pub size_with : {A : Type 0} → ℕ → List ℕ → (A → List ℕ) → Option (List A) → prelude.Option ℕ
+size_with k sep text none = None
+size_with k sep text (some xs) = Some (k + length (between sep (map text xs)))
 
 -- which size is answered, and that it is no more than this
-pub record SizeIs (r is_of : Size) (few : ℕ) : Type 0 where
+pub record SizeIs (r is_of : prelude.Option ℕ) (few : ℕ) : Type 0 where
   pub answer : r ≡ is_of
-  pub small : (n : ℕ) → r ≡ Of n → n ≤ few
+  pub small : (n : ℕ) → r ≡ Some n → n ≤ few
 
 -- whether there are some
 abbrev pub are_some : {A : Type 0} → Option A → Bool

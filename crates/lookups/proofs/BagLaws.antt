@@ -1,4 +1,5 @@
 -- What is found in a bag: a value that is whole, with a finite number, and under a path only. Assumes nothing.
+use Rattle.std.specs.Prelude.{None, Option, Some}
 use Prim.Native.Nat.{ℕ, zero, suc, ◌+◌, ◌-◌}
 use mathlib.Core.List.{List, [], ◌∷◌}
 use mathlib.Core.Bool.{Bool, true, false, ◌&&◌, ◌||◌, cond, false≢true, and-eq-true_iff}
@@ -18,10 +19,7 @@ use Rattle.bags.specs.Reading.{byte, many, each}
 use Rattle.bags.specs.Paths.{every, is_path}
 use Rattle.bags.specs.Values.{value_end}
 use Rattle.bags.specs.Sections.{path_at, kind_at, entry_end, section_end, sections_of, Sectioned}
-use Rattle.bags.specs.declared.After.TheVariants.{At}
 use Rattle.bags.specs.declared.sections.Sections.{Sections}
-use Rattle.bags.specs.declared.sections.Divided.{Divided}
-use Rattle.bags.specs.declared.sections.Divided.TheVariants.{In, Broken}
 use Rattle.bags.proofs.ReadLaws.{First, first}
 use Rattle.bags.proofs.PathLaws.{path_byte, path_bytes}
 use Rattle.bags.proofs.SectionLaws.{entry_at, section_at_lem, sections_at}
@@ -71,7 +69,7 @@ pub value_whole : (s : List ℕ) (k : ℕ) → Valued s k → ValueWhole s (valu
 unfolding value_at
 value_whole s k v n = go (eqb (byte s k) 0) refl n
   where
-    go : (b : Bool) → eqb (byte s k) 0 ≡ b → ((value_at s k).kind ≡ 0 → ⊥) → (e : ℕ) × (value_end (value_at s k).kind s (value_at s k).place ≡ At e)
+    go : (b : Bool) → eqb (byte s k) 0 ≡ b → ((value_at s k).kind ≡ 0 → ⊥) → (e : ℕ) × (value_end (value_at s k).kind s (value_at s k).place ≡ Some e)
     go true q n = absurd (n (simp q))
     go false q n = let w = v.whole (eqb-false (byte s k) 0 q) in (w.0, simp q w.1)
 
@@ -81,7 +79,7 @@ nought_finite = rw (finite_by_bits 0) tt
 unit_finite : T (finite unit)
 unit_finite = rw (finite_by_bits 0x3FF0000000000000) tt
 
-number_finite : (kind : ℕ) (s : List ℕ) (at e : ℕ) → value_end kind s at ≡ At e → T (finite (value_number kind s at))
+number_finite : (kind : ℕ) (s : List ℕ) (at e : ℕ) → value_end kind s at ≡ Some e → T (finite (value_number kind s at))
 unfolding value_number
 number_finite kind s at e h = go (eqb kind 2) (eqb kind 3 && eqb (byte s at) 1) refl
   where
@@ -99,15 +97,15 @@ value_finite s k v = go (eqb (byte s k) 0) refl
     go false q = let w = v.whole (eqb-false (byte s k) 0 q) in simp q (number_finite (byte s k) s (k + 1) w.0 w.1)
 
 -- an entry that ends has a value
-pub entry_valued : (s : List ℕ) (at e : ℕ) → entry_end s at ≡ At e → Valued s (kind_at s at)
+pub entry_valued : (s : List ℕ) (at e : ℕ) → entry_end s at ≡ Some e → Valued s (kind_at s at)
 entry_valued s at e h = let w = entry_at s at e h in record { inside = w.named; whole = λ n. (e, w.valued) }
 
 -- ---- what each entry's value has, and an absent one, what is found has
 
 module _ (s path : List ℕ) (P : Value → Type 0) (none : P absent)
-    (some : (at e : ℕ) → entry_end s at ≡ At e → same (path_at s at) path ≡ true → P (value_at s (kind_at s at))) where
+    (some : (at e : ℕ) → entry_end s at ≡ Some e → same (path_at s at) path ≡ true → P (value_at s (kind_at s at))) where
   -- of n entries, of a section, of the sections of bytes, and of a bag
-  entries_have : (n at e : ℕ) → many n (entry_end s) at ≡ At e → P (look_in absent (each n (entry_end s) (bag_entry_at s) at) path)
+  entries_have : (n at e : ℕ) → many n (entry_end s) at ≡ Some e → P (look_in absent (each n (entry_end s) (bag_entry_at s) at) path)
   entries_have zero at e h = rw (← look_done absent (entry_end s) (bag_entry_at s) path 0 at (omega arith)) none
   entries_have (suc n) at e h = go (same (path_at s at) path) refl (entries_have n f.stop e later)
     where
@@ -117,14 +115,14 @@ module _ (s path : List ℕ) (P : Value → Type 0) (none : P absent)
       less : suc n - 1 ≡ n
       less = omega arith
 
-      later : many n (entry_end s) f.stop ≡ At e
+      later : many n (entry_end s) f.stop ≡ Some e
       later = rw less at f.later
 
       go : (b : Bool) → same (path_at s at) path ≡ b → P (look_in absent (each n (entry_end s) (bag_entry_at s) f.stop) path) → P (look_in absent (each (suc n) (entry_end s) (bag_entry_at s) at) path)
       go true q w = rw (← look_here absent (entry_end s) (bag_entry_at s) path (suc n) at (omega arith) f.stop f.ends q) (some at f.stop f.ends q)
       go false q w = rw (← look_on absent (entry_end s) (bag_entry_at s) path (suc n) at (omega arith) f.stop f.ends q, less) w
 
-  section_has : (b e : ℕ) → section_end s b ≡ At e → P (look_in absent (section_at s b) path)
+  section_has : (b e : ℕ) → section_end s b ≡ Some e → P (look_in absent (section_at s b) path)
   unfolding section_at
   section_has b e h = entries_have (byte s b) (b + 1) e (section_at_lem s b e h).entries
 
@@ -138,9 +136,9 @@ module _ (s path : List ℕ) (P : Value → Type 0) (none : P absent)
   unfolding bag_of look_in
   bag_has root = go (sections_of s) refl
     where
-      go : (d : Divided) → sections_of s ≡ d → P (look_in absent (bag_of s root) path)
-      go (In p) q = rw (bag_is_base s p root q) (base_has p root (sections_at s p q))
-      go Broken q = simp q none
+      go : (d : Option Sections) → sections_of s ≡ d → P (look_in absent (bag_of s root) path)
+      go (Some p) q = rw (bag_is_base s p root q) (base_has p root (sections_at s p q))
+      go None q = simp q none
 
 module _ (s path : List ℕ) where
   -- what is found is whole
@@ -168,6 +166,6 @@ pub impossible_root : (s path : List ℕ) (root : ℕ) → (root ≡ 1 → ⊥) 
 unfolding bag_of look_in
 impossible_root s path root n1 n2 n3 = go (sections_of s) refl
   where
-    go : (d : Divided) → sections_of s ≡ d → look_in absent (bag_of s root) path ≡ absent
-    go (In p) q = rw (bag_is_base s p root q, ← base_none s p root n1 n2 n3)
-    go Broken q = simp q
+    go : (d : Option Sections) → sections_of s ≡ d → look_in absent (bag_of s root) path ≡ absent
+    go (Some p) q = rw (bag_is_base s p root q, ← base_none s p root n1 n2 n3)
+    go None q = simp q

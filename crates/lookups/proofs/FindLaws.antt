@@ -1,4 +1,5 @@
 -- Laws of paths with blanks, and of the search for an entry. Assumes nothing.
+use Rattle.std.specs.Prelude.{Option, Some}
 use Prim.Native.Nat.{ℕ, zero, suc, ◌+◌, ◌-◌, ◌<◌, ◌≤◌}
 use mathlib.Core.List.{List, [], ◌∷◌}
 use mathlib.Core.Bool.{Bool, true, false, ◌||◌, cond}
@@ -19,10 +20,7 @@ use Rattle.tokens.specs.declared.classes.Sort.TheVariants.{Blanks}
 use Rattle.slices.specs.Parts.{part}
 use Rattle.bags.specs.Reading.{byte, each}
 use Rattle.bags.specs.Sections.{sections_of}
-use Rattle.bags.specs.declared.After.{After}
-use Rattle.bags.specs.declared.After.TheVariants.{At}
 use Rattle.bags.specs.declared.sections.Sections.{Sections}
-use Rattle.bags.specs.declared.sections.Divided.TheVariants.{In}
 use Rattle.bags.proofs.ReadLaws.{part_cons, part_none, each_done, each_more}
 use Rattle.tokens.specs.Blanks.{unblanked}
 use Rattle.lookups.specs.Values.{absent}
@@ -34,35 +32,33 @@ pub blank_is : (b : ℕ) → b < 256 → (eqb b 32 || eqb b 9 || eqb b 10 || eqb
 unfolding class_of
 blank_is b h = agree (λ (b : ℕ). eqb b 32 || eqb b 9 || eqb b 10 || eqb b 13) (is_of Blanks) 256 b refl h
 
--- ---- the bytes of a part, and those of a path but its blanks
+-- ---- bytes, and those of a path but its blanks
 
-module _ (s : List ℕ) (x left : ℕ) (p : List ℕ) (y : ℕ) where
-  pub path_end : length p ≤ y → x + left ≤ length s → eqb left 0 ≡ same (part s x left) (unblanked (drop y p))
+module _ (p : List ℕ) (y : ℕ) where
+  pub path_end : (rest : List ℕ) → length p ≤ y → eqb (length rest) 0 ≡ same rest (unblanked (drop y p))
   unfolding unblanked same
-  path_end h f = rw (drop_of_length-le p h) (go left f)
-    where
-      go : (n : ℕ) → x + n ≤ length s → eqb n 0 ≡ same (part s x n) []
-      go zero f = rw (part_none s x)
-      go (suc n) f = rw (part_cons s x (suc n) (omega arith) f) (ne_eqb (suc n) 0 (λ e. omega arith))
+  path_end [] h = rw (drop_of_length-le p h)
+  path_end (b ∷ tail) h = rw (drop_of_length-le p h) (ne_eqb (suc (length tail)) 0 (λ e. omega arith))
 
   module _ (h : y < length p) where
-    pub path_blank : is_of Blanks (byte p y) ≡ true → same (part s x left) (unblanked (drop (y + 1) p)) ≡ same (part s x left) (unblanked (drop y p))
+    pub path_blank : (rest : List ℕ) → is_of Blanks (byte p y) ≡ true → same rest (unblanked (drop (y + 1) p)) ≡ same rest (unblanked (drop y p))
     unfolding unblanked
-    path_blank b = rw (add-one, drop-cons p y 0 h) (simp b)
+    path_blank rest b = rw (add-one, drop-cons p y 0 h) (simp b)
 
     module _ (n : is_of Blanks (byte p y) ≡ false) where
-      pub path_short : left ≡ 0 → false ≡ same (part s x left) (unblanked (drop y p))
+      pub path_short : (rest : List ℕ) → length rest ≡ 0 → false ≡ same rest (unblanked (drop y p))
       unfolding unblanked same
-      path_short e = rw (e, part_none, drop-cons p y 0 h) (simp n)
+      path_short [] e = rw (drop-cons p y 0 h) (simp n)
+      path_short (b ∷ tail) e = absurd (omega arith)
 
-      module _ (some : 0 < left) (fits : x + left ≤ length s) where
-        pub path_differs : (byte s x ≡ byte p y → ⊥) → false ≡ same (part s x left) (unblanked (drop y p))
+      module _ (first : ℕ) (tail : List ℕ) where
+        pub path_differs : (first ≡ byte p y → ⊥) → false ≡ same (first ∷ tail) (unblanked (drop y p))
         unfolding unblanked same
-        path_differs d = rw (part_cons s x left some fits, drop-cons p y 0 h) (simp (n, ne_eqb _ _ d))
+        path_differs d = rw (drop-cons p y 0 h) (simp (n, ne_eqb _ _ d))
 
-        pub path_on : byte s x ≡ byte p y → same (part s (x + 1) (left - 1)) (unblanked (drop (y + 1) p)) ≡ same (part s x left) (unblanked (drop y p))
+        pub path_on : first ≡ byte p y → same tail (unblanked (drop (y + 1) p)) ≡ same (first ∷ tail) (unblanked (drop y p))
         unfolding unblanked same
-        path_on e = rw (part_cons s x left some fits, drop-cons p y 0 h, add-one y) (simp (n, eq-eqb _ _ e))
+        path_on e = rw (drop-cons p y 0 h, add-one y) (simp (n, eq-eqb _ _ e))
 
 -- ---- the bytes of a path that has no blanks, and those of another but its blanks
 
@@ -118,12 +114,12 @@ other_lead s at n lead (x ∷ l) some fits e d = let k : byte s at ≡ x → ⊥
 
 -- ---- the entry with a path
 
-module _ {A : Type 0} (none : A) (next : ℕ → After) (what : ℕ → ℕ → Entry A) (path : List ℕ) (n at : ℕ) where
+module _ {A : Type 0} (none : A) (next : ℕ → Option ℕ) (what : ℕ → ℕ → Entry A) (path : List ℕ) (n at : ℕ) where
   pub look_done : n ≤ 0 → none ≡ look_in none (each n next what at) path
   unfolding look_in
   look_done h = rw (each_done next what n at h)
 
-  module _ (h : 0 < n) (e : ℕ) (q : next at ≡ At e) where
+  module _ (h : 0 < n) (e : ℕ) (q : next at ≡ Some e) where
     pub look_here : same (what at e).path path ≡ true → (what at e).value ≡ look_in none (each n next what at) path
     unfolding look_in
     look_here t = rw (each_more next what n at e h q) (simp t)
@@ -169,6 +165,6 @@ module _ (s : List ℕ) (p : Sections) (root : ℕ) where
   unfolding look_in
   look_none a b c path = look_base (base_none a b c) path
 
-  pub bag_is_base : sections_of s ≡ In p → bag_of s root ≡ base_of s p root
+  pub bag_is_base : sections_of s ≡ Some p → bag_of s root ≡ base_of s p root
   unfolding bag_of
   bag_is_base h = simp h

@@ -1,4 +1,5 @@
 -- What a value that is whole tells of the step over it and of its number. Assumes nothing.
+use Rattle.std.specs.Prelude.{Option, Some}
 use Prim.Native.Nat.{ℕ, ◌+◌, ◌-◌, ◌<◌, ◌≤◌}
 use mathlib.Core.List.{List}
 use mathlib.Core.Bool.{Bool, true}
@@ -11,8 +12,6 @@ use lib.ListN.{length, get_or-eq_default}
 use Rattle.numbers.specs.Bits.{number_at}
 use Rattle.bags.specs.Reading.{byte, many}
 use Rattle.bags.specs.Values.{string_end, value_end}
-use Rattle.bags.specs.declared.After.{After}
-use Rattle.bags.specs.declared.After.TheVariants.{At}
 use Rattle.bags.proofs.ReadLaws.{same_end, first, many_more}
 use Rattle.bags.proofs.ValueLaws.{String, Number, Flag, Strings, string_at_lem, Ended, string, number, flag, list, value_at_lem}
 use Rattle.lookups.specs.Values.{nought, unit, absent, value_number, value_at, ShownAt}
@@ -23,29 +22,29 @@ use Rattle.lookups.specs.declared.values.Value.{Value}
 -- the first of n strings, and those after it
 pub record StringFirst (s : List ℕ) (n at e : ℕ) : Type 0 where
   pub fits : at + 1 + byte s at ≤ length s
-  pub later : many (n - 1) (string_end s) (at + 1 + byte s at) ≡ At e
+  pub later : many (n - 1) (string_end s) (at + 1 + byte s at) ≡ Some e
 
-pub string_first : (s : List ℕ) (n at e : ℕ) → 0 < n → many n (string_end s) at ≡ At e → StringFirst s n at e
+pub string_first : (s : List ℕ) (n at e : ℕ) → 0 < n → many n (string_end s) at ≡ Some e → StringFirst s n at e
 string_first s n at e h p =
     let f = first (string_end s) n at e h p in
     let w = string_at_lem s at f.stop f.ends in
     record { fits = w.fits; later = rw w.stop at f.later }
 
 -- a string that is whole lies in the bytes, and ends after its length byte and as many bytes
-pub string_fits : (s : List ℕ) (at e : ℕ) → string_end s at ≡ At e → at + 1 + byte s at ≤ length s
+pub string_fits : (s : List ℕ) (at e : ℕ) → string_end s at ≡ Some e → at + 1 + byte s at ≤ length s
 string_fits s at e p = (string_at_lem s at e p).fits
 
-pub string_stop : (s : List ℕ) (at e : ℕ) → string_end s at ≡ At e → string_end s at ≡ At (at + 1 + byte s at)
+pub string_stop : (s : List ℕ) (at e : ℕ) → string_end s at ≡ Some e → string_end s at ≡ Some (at + 1 + byte s at)
 string_stop s at e p = rw (string_at_lem s at e p).stop at p
 
 -- two of n, one after the other, and those after them
-pub two_more : (next : ℕ → After) (n at x y : ℕ) → 1 < n → next at ≡ At x → next x ≡ At y → many (n - 2) next y ≡ many n next at
+pub two_more : (next : ℕ → Option ℕ) (n at x y : ℕ) → 1 < n → next at ≡ Some x → next x ≡ Some y → many (n - 2) next y ≡ many n next at
 two_more next n at x y h p q =
     let e : n - 2 ≡ n - 1 - 1 = omega arith in ap (λ (m : ℕ). many m next y) e ∙ sym (many_more next n at x (omega arith) p ∙ many_more next (n - 1) x y (omega arith) q)
 
 -- ---- values
 
-module _ (kind : ℕ) (s : List ℕ) (at e : ℕ) (h : value_end kind s at ≡ At e) where
+module _ (kind : ℕ) (s : List ℕ) (at e : ℕ) (h : value_end kind s at ≡ Some e) where
   pub some_kind : 0 < kind
   some_kind = go (value_at_lem kind s at e h)
     where
@@ -91,16 +90,16 @@ module _ (kind : ℕ) (s : List ℕ) (at e : ℕ) (h : value_end kind s at ≡ A
       go (flag j w) = absurd (n3 j)
       go (list _ w) = w
 
-  pub string_next : kind ≡ 1 → value_end kind s at ≡ At (at + 1 + byte s at)
+  pub string_next : kind ≡ 1 → value_end kind s at ≡ Some (at + 1 + byte s at)
   string_next k = rw (as_string k).stop at h
 
-  pub number_next : kind ≡ 2 → value_end kind s at ≡ At (at + 8)
+  pub number_next : kind ≡ 2 → value_end kind s at ≡ Some (at + 8)
   number_next k = rw (as_number k).stop at h
 
-  pub flag_next : kind ≡ 3 → value_end kind s at ≡ At (at + 1)
+  pub flag_next : kind ≡ 3 → value_end kind s at ≡ Some (at + 1)
   flag_next k = rw (as_flag k).stop at h
 
-  pub list_next : (kind ≡ 1 → ⊥) → (kind ≡ 2 → ⊥) → (kind ≡ 3 → ⊥) → (x : ℕ) → many (byte s at) (string_end s) (at + 1) ≡ At x → value_end kind s at ≡ At x
+  pub list_next : (kind ≡ 1 → ⊥) → (kind ≡ 2 → ⊥) → (kind ≡ 3 → ⊥) → (x : ℕ) → many (byte s at) (string_end s) (at + 1) ≡ Some x → value_end kind s at ≡ Some x
   list_next n1 n2 n3 x q = rw (same_end (as_list n1 n2 n3).are q) at h
 
 -- ---- numbers

@@ -1,11 +1,10 @@
 -- Read values: a kind, a number and a place. Definitions only.
-use Rattle.std.specs.Prelude.{ℕ, ◌+◌, ◌<◌, List, ◌&&◌, cond, ◌≡◌, eqb, Float, length}
+use Rattle.std.specs.Prelude.{ℕ, ◌+◌, ◌<◌, List, ◌&&◌, cond, ◌≡◌, eqb, Float, length, Some}
 use Rattle.std.specs.Float.{binary64}
 use Rattle.std.specs.Float.Ieee.{of_bits}
 use Rattle.numbers.specs.Bits.{number_at}
 use Rattle.bags.specs.Reading.{byte}
 use Rattle.bags.specs.Values.{value_end}
-use Rattle.bags.specs.declared.After.TheVariants.{At}
 use Rattle.lookups.specs.declared.values.Value.{Value}
 
 -- the numbers 0 and 1
@@ -30,11 +29,11 @@ value_at s k = cond (eqb (byte s k) 0) absent (record { kind = byte s k; number 
 -- a kind byte stands at k, and after it, unless it is 0, a value that is whole
 pub record Valued (s : List ℕ) (k : ℕ) : Type 0 where
   pub inside : k < length s
-  pub whole : (byte s k ≡ 0 → ⊥) → (e : ℕ) × (value_end (byte s k) s (k + 1) ≡ At e)
+  pub whole : (byte s k ≡ 0 → ⊥) → (e : ℕ) × (value_end (byte s k) s (k + 1) ≡ Some e)
 
 -- a value that is not absent lies in the bytes as a whole
 abbrev pub ValueWhole : List ℕ → Value → Type 0
-ValueWhole s v = (v.kind ≡ 0 → ⊥) → (e : ℕ) × (value_end v.kind s v.place ≡ At e)
+ValueWhole s v = (v.kind ≡ 0 → ⊥) → (e : ℕ) × (value_end v.kind s v.place ≡ Some e)
 
 -- a place shows a value: its kind byte stands there, and after it, unless it is 0, a value that is whole; past the end of the bytes nothing stands, and it
 -- shows that the attribute is absent

@@ -27,12 +27,10 @@ pub fn same_bytes(a: &[u8], b: &[u8]) -> bool
     if !same_four(a, b, last) {
         return false;
     }
-    let mut i = 0;
-    while i < last {
+    for i in (0..last).step_by(4) {
         if !same_four(a, b, i) {
             return false;
         }
-        i += 4;
     }
     true
 }

@@ -1,5 +1,5 @@
 // The entry with a path, among those of a section.
-ghost use Rattle.std.specs.Prelude.{◌≡◌, true, ℕ, ◌+◌, ◌<◌, ◌≤◌, length};
+ghost use Rattle.std.specs.Prelude.{◌≡◌, true, ℕ, ◌+◌, ◌<◌, ◌≤◌, length, Some};
 ghost use Rattle.slices.specs.Same.{same};
 ghost use Rattle.tokens.specs.Runs.{is_of};
 ghost use Rattle.tokens.specs.declared.classes.Sort.TheVariants.{Blanks};
@@ -7,7 +7,6 @@ ghost use Rattle.slices.specs.Parts.{part};
 ghost use Rattle.bags.specs.Reading.{byte, many, each};
 ghost use Rattle.bags.specs.Paths.{is_path};
 ghost use Rattle.bags.specs.Sections.{entry_end, section_end, Sectioned};
-ghost use Rattle.bags.specs.declared.After.TheVariants.{At};
 ghost use Rattle.tokens.specs.Blanks.{unblanked};
 ghost use Rattle.lookups.specs.Values.{absent, ShownAt};
 ghost use Rattle.lookups.specs.Lookups.{look_in, bag_entry_at, section_at, base_of};
@@ -20,6 +19,7 @@ use bags::sections::Sections;
 fn is_blank(c: u8) -> bool
     ensures { result ≡ is_of Blanks c }
 {
+    // `|` takes no branch.
     (c == b' ') | (c == b'\t') | (c == b'\n') | (c == b'\r')
 }
 
@@ -28,38 +28,28 @@ pub fn same_path(s: &[u8], at: usize, n: usize, path: &[u8]) -> bool
     requires { at + n ≤ length s.now }
     ensures { result ≡ same (part s.now at n) (unblanked path.now) }
 {
-    let mut x = at;
-    let mut left = n;
-    let mut y = 0;
-    while y < path.len() {
-        let c = path[y];
-        y += 1;
-        if is_blank(c) {
+    let end = at + n;
+    let mut rest = &s[at..end];
+    for c in path {
+        if is_blank(*c) {
             continue;
         }
-        if left == 0 {
-            return false;
+        match rest.split_first() {
+            Some((first, tail)) if first == c => rest = tail,
+            _ => return false,
         }
-        if s[x] != c {
-            return false;
-        }
-        x += 1;
-        left -= 1;
     }
-    left == 0
+    rest.is_empty()
 }
 
 // The first byte of a path but its blanks; 0 where it has none.
 fn lead_of(path: &[u8]) -> u8
     ensures { result ≡ byte (unblanked path.now) 0 }
 {
-    let mut i = 0;
-    while i < path.len() {
-        let c = path[i];
-        if !is_blank(c) {
-            return c;
+    for c in path {
+        if !is_blank(*c) {
+            return *c;
         }
-        i += 1;
     }
     0
 }
@@ -76,21 +66,21 @@ fn is_named(s: &[u8], at: usize, n: usize, lead: u8, path: &[u8]) -> bool
     }
     if n == path.len() {
         let end = at + n;
-        return same_bytes(&s[at..end], path);
+        same_bytes(&s[at..end], path)
+    } else {
+        same_path(s, at, n, path)
     }
-    same_path(s, at, n, path)
 }
 
 // Among the `n` entries from `at`, the place of the kind byte of the one with this path; the end of the bytes, where nothing stands, for none.
 fn find_in(n: usize, path: &[u8], s: &[u8], at: usize) -> usize
-    requires { (e : ℕ) × (many n (entry_end s.now) at ≡ At e) }
+    requires { (e : ℕ) × (many n (entry_end s.now) at ≡ Some e) }
     ensures { ShownAt s.now result
         (look_in absent (each n (entry_end s.now) (bag_entry_at s.now) at) (unblanked path.now)) }
 {
     let lead = lead_of(path);
-    let mut left = n;
     let mut next = at;
-    while 0 < left {
+    for _ in 0..n {
         let size = s[next] as usize;
         let start = next + 1;
         let kind_at = start + size;
@@ -98,14 +88,13 @@ fn find_in(n: usize, path: &[u8], s: &[u8], at: usize) -> usize
             return kind_at;
         }
         next = value_next(s[kind_at], s, kind_at + 1);
-        left -= 1;
     }
     s.len()
 }
 
 // The place of the attribute in the section whose count byte stands at `b`.
 fn section_place(s: &[u8], b: usize, path: &[u8]) -> usize
-    requires { (e : ℕ) × (section_end s.now b ≡ At e) }
+    requires { (e : ℕ) × (section_end s.now b ≡ Some e) }
     ensures { ShownAt s.now result (look_in absent (section_at s.now b) (unblanked path.now)) }
 {
     find_in(s[b] as usize, path, s, b + 1)
@@ -116,16 +105,12 @@ pub fn base_place(s: &[u8], p: Sections, root: u8, path: &[u8]) -> usize
     requires { Sectioned s.now p }
     ensures { ShownAt s.now result (look_in absent (base_of s.now p root) (unblanked path.now)) }
 {
-    if root == 1 {
-        return section_place(s, 0, path);
+    match root {
+        1 => section_place(s, 0, path),
+        2 => section_place(s, p.resource, path),
+        3 => section_place(s, p.env, path),
+        _ => s.len(),
     }
-    if root == 2 {
-        return section_place(s, p.resource, path);
-    }
-    if root == 3 {
-        return section_place(s, p.env, path);
-    }
-    s.len()
 }
 
 // The attribute in the section of a root byte.

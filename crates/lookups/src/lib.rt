@@ -8,35 +8,28 @@ ghost use Rattle.lookups.specs.Lookups.{lookup_of, start_of, length_of, stretch_
 use crate::finding::base_value;
 use crate::values::{Value, absent_value};
 use bags::paths::is_path;
-use bags::sections::{Divided, bag_sections};
-use tokens::classes::class_table;
+use bags::sections::bag_sections;
+use bags::values::STRING;
 
 pub mod bytes;
 pub mod finding;
 pub mod steps;
 pub mod values;
 
-#[derive(Clone, Copy)]
-pub enum Answer {
-    // 24: not a bag.
-    Refused(u8),
-    Found(Value),
-}
+// The number of the refusal: not a bag.
+const NO_BAG: u8 = 24;
 
-// The kind, the number and the place of an attribute.
-pub fn lookup(bag: &[u8], root: u8, path: &[u8]) -> Answer
+// The kind, the number and the place of an attribute, or the number of the refusal.
+pub fn lookup(bag: &[u8], root: u8, path: &[u8]) -> Result<Value, u8>
     ensures { result ≡ lookup_of bag.now root path.now }
 {
-    let classes = class_table();
-    match bag_sections(&classes, bag) {
-        Divided::Broken => Answer::Refused(24),
-        Divided::In(p) => {
-            if is_path(&classes, path) {
-                Answer::Found(base_value(bag, p, root, path))
-            } else {
-                Answer::Found(absent_value())
-            }
-        }
+    let Some(p) = bag_sections(bag) else {
+        return Err(NO_BAG);
+    };
+    if is_path(path) {
+        Ok(base_value(bag, p, root, path))
+    } else {
+        Ok(absent_value())
     }
 }
 
@@ -53,27 +46,14 @@ pub fn string_place(bag: &[u8], root: u8, path: &[u8]) -> Stretch
     ensures inside { result.start + result.length ≤ length bag.now }
 {
     match lookup(bag, root, path) {
-        Answer::Refused(_) => Stretch {
+        Ok(v) if v.kind == STRING => Stretch {
+            start: v.place + 1,
+            length: bag[v.place] as usize,
+        },
+        _ => Stretch {
             start: 0,
             length: 0,
         },
-        Answer::Found(v) => {
-            let kind = v.kind;
-            if kind == 1 {
-                let place = v.place;
-                let n = bag[place] as usize;
-                let start = place + 1;
-                Stretch {
-                    start: start,
-                    length: n,
-                }
-            } else {
-                Stretch {
-                    start: 0,
-                    length: 0,
-                }
-            }
-        }
     }
 }
 
@@ -82,8 +62,7 @@ pub fn string_part<'a>(bag: &'a [u8], root: u8, path: &[u8]) -> &'a [u8]
     ensures { IsPart bag.entry result (start_of (lookup_of bag.now root path.now))
         (length_of bag.now (lookup_of bag.now root path.now)) }
 {
-    let p = string_place(bag, root, path);
-    let start = p.start;
-    let end = start + p.length;
+    let Stretch { start, length } = string_place(bag, root, path);
+    let end = start + length;
     &bag[start..end]
 }

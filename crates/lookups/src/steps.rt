@@ -1,49 +1,50 @@
 // Steps over what is known to be whole: nothing is checked a second time.
-ghost use Rattle.std.specs.Prelude.{◌≡◌, ℕ};
+ghost use Rattle.std.specs.Prelude.{◌≡◌, ℕ, Some};
 ghost use Rattle.bags.specs.Reading.{many};
-ghost use Rattle.bags.specs.Values.{string_end, value_end};
-ghost use Rattle.bags.specs.declared.After.TheVariants.{At};
+ghost use Rattle.bags.specs.Values.{value_end};
 
-// Where a string ends.
-fn string_next(s: &[u8], at: usize) -> usize
-    requires { (e : ℕ) × (string_end s.now at ≡ At e) }
-    ensures { string_end s.now at ≡ At result }
-{
-    at + 1 + s[at] as usize
+use bags::reading::Thing;
+use bags::values::{FLAG, NUMBER, STRING, Text};
+
+// A thing whose end is found by a step where it is known to be whole.
+pub trait Stepped: Thing {
+    fn next(s: &[u8], at: usize) -> usize
+        requires { (e : ℕ) × (Self.ending s.now at ≡ Some e) }
+        ensures { Self.ending s.now at ≡ Some result };
 }
 
-// Where `n` strings end: they are passed two at a time, which takes fewer instructions.
-fn strings_next(s: &[u8], n: usize, at: usize) -> usize
-    requires { (e : ℕ) × (many n (string_end s.now) at ≡ At e) }
-    ensures { many n (string_end s.now) at ≡ At result }
-{
-    let mut left = n;
-    let mut next = at;
-    while 1 < left {
-        let second = string_next(s, next);
-        next = string_next(s, second);
-        left -= 2;
+impl Stepped for Text {
+    #[inline(always)]
+    fn next(s: &[u8], at: usize) -> usize {
+        at + 1 + s[at] as usize
     }
-    if left == 1 {
-        return string_next(s, next);
+}
+
+// Where `n` things end: they are passed two at a time, which takes fewer instructions.
+pub fn many_next<T: Stepped>(n: usize, s: &[u8], at: usize) -> usize
+    requires { (e : ℕ) × (many n (T.ending s.now) at ≡ Some e) }
+    ensures { many n (T.ending s.now) at ≡ Some result }
+{
+    let mut next = at;
+    for _ in 0..n / 2 {
+        let second = T::next(s, next);
+        next = T::next(s, second);
+    }
+    if n % 2 == 1 {
+        return T::next(s, next);
     }
     next
 }
 
 // Where a value ends.
 pub fn value_next(kind: u8, s: &[u8], at: usize) -> usize
-    requires { (e : ℕ) × (value_end kind s.now at ≡ At e) }
-    ensures { value_end kind s.now at ≡ At result }
+    requires { (e : ℕ) × (value_end kind s.now at ≡ Some e) }
+    ensures { value_end kind s.now at ≡ Some result }
 {
-    if kind <= 1 {
-        return at + 1 + s[at] as usize;
+    match kind {
+        STRING => Text::next(s, at),
+        NUMBER => at + 8,
+        FLAG => at + 1,
+        _ => many_next::<Text>(s[at] as usize, s, at + 1),
     }
-    if kind <= 2 {
-        return at + 8;
-    }
-    if kind <= 3 {
-        return at + 1;
-    }
-    let n = s[at] as usize;
-    strings_next(s, n, at + 1)
 }

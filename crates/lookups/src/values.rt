@@ -1,8 +1,10 @@
 // Read values.
-ghost use Rattle.std.specs.Prelude.{◌≡◌, ℕ, ◌<◌, length};
+ghost use Rattle.std.specs.Prelude.{◌≡◌, ℕ, ◌<◌, length, Some};
 ghost use Rattle.bags.specs.Values.{value_end};
-ghost use Rattle.bags.specs.declared.After.TheVariants.{At};
 ghost use Rattle.lookups.specs.Values.{absent, value_number, value_at, Valued};
+
+use bags::values::{ABSENT, FLAG, NUMBER};
+use numbers::bits::number_at;
 
 // A value's kind, its number, and the place of the byte after its kind byte. Kind 0 is absent.
 #[derive(Clone, Copy)]
@@ -16,7 +18,7 @@ pub fn absent_value() -> Value
     ensures { result ≡ absent }
 {
     Value {
-        kind: 0,
+        kind: ABSENT,
         number: 0.0,
         place: 0,
     }
@@ -24,18 +26,14 @@ pub fn absent_value() -> Value
 
 // The number of a value that is whole.
 fn number_of(kind: u8, s: &[u8], at: usize) -> f64
-    requires { (e : ℕ) × (value_end kind s.now at ≡ At e) }
+    requires { (e : ℕ) × (value_end kind s.now at ≡ Some e) }
     ensures { result ≡ value_number kind s.now at }
 {
-    if kind == 2 {
-        return numbers::bits::number_at(s, at);
+    match kind {
+        NUMBER => number_at(s, at),
+        FLAG if s[at] == 1 => 1.0,
+        _ => 0.0,
     }
-    if kind == 3 {
-        if s[at] == 1 {
-            return 1.0;
-        }
-    }
-    0.0
 }
 
 // The value whose kind byte stands at `k`.
@@ -44,14 +42,15 @@ pub fn value_from(s: &[u8], k: usize) -> Value
     ensures { result ≡ value_at s.now k }
 {
     let kind = s[k];
-    if kind == 0 {
+    if kind == ABSENT {
         return absent_value();
     }
     let place = k + 1;
+    let number = number_of(kind, s, place);
     Value {
-        kind: kind,
-        number: number_of(kind, s, place),
-        place: place,
+        kind,
+        number,
+        place,
     }
 }
 
@@ -61,7 +60,8 @@ pub fn value_at(s: &[u8], k: usize) -> Value
     ensures { result ≡ value_at s.now k }
 {
     if k < s.len() {
-        return value_from(s, k);
+        value_from(s, k)
+    } else {
+        absent_value()
     }
-    absent_value()
 }

@@ -16,19 +16,12 @@ pub fn by_numbers(forbid: usize, permit: usize) -> Decision
     ensures { result ≡ by_numbers forbid permit }
 {
     if 0 < forbid {
-        return Decision::Forbidden(forbid);
+        Decision::Forbidden(forbid)
+    } else if 0 < permit {
+        Decision::Allowed(permit)
+    } else {
+        Decision::Nothing
     }
-    if 0 < permit {
-        return Decision::Allowed(permit);
-    }
-    Decision::Nothing
-}
-
-// A bit: set where the policy is satisfied.
-fn bit_of(hit: bool) -> u64
-    ensures { result ≡ cond hit 1 0 }
-{
-    if hit { 1 } else { 0 }
 }
 
 // The mark with one policy more, which stands before those that are met: their bits are shifted by one, and its own is the lowest.
@@ -36,8 +29,7 @@ pub fn mark_with(hit: bool, mark: u64) -> u64
     requires { cond hit 1 0 + 2 * mark < 2 ^ most_policies }
     ensures { result ≡ cond hit 1 0 + 2 * mark }
 {
-    let bit = bit_of(hit);
-    (mark << 1) | bit
+    (mark << 1) | u64::from(hit)
 }
 
 // The number of a mark's lowest bit that is set, from 1 on; 0 where none is.
@@ -45,9 +37,10 @@ pub fn lowest(mark: u64) -> usize
     ensures { result ≡ lowest_of mark }
 {
     if mark == 0 {
-        return 0;
+        0
+    } else {
+        mark.trailing_zeros() as usize + 1
     }
-    u64::trailing_zeros(mark) as usize + 1
 }
 
 // The decision by the marks of the satisfied policies and of the permits: the lowest-numbered satisfied forbid decides, else the lowest-numbered satisfied

@@ -1,11 +1,13 @@
 -- Which bits are a finite number's: those whose exponent's field is not all ones. Assumes nothing.
-use mathlib.Core.Path.{◌≡◌, refl}
+use mathlib.Core.Path.{◌≡◌, refl, sym}
 use mathlib.Core.Bool.{Bool, true, false, not, cond}
 use Prim.Native.Nat.{ℕ, zero, suc, ◌+◌, ◌/◌, ◌%◌, ◌^◌}
+use lib.Bits.{bit_and}
 use lib.Dec.{T, leb, eqb}
 use lib.Ieee.{Float, nan, inf, fin, binary64, is_nan, nan_bits, odd, of_bits, of_fields}
 use lib.Ieee.Bits.{nan_bits_is}
 use lib.Ieee.Scale.{finite}
+use Rattle.std.proofs.lemmas.Nat.{and_mask, field_of}
 
 odd_finite : (d : ℕ) (s : Bool) (q k l : ℕ) → finite (odd d s q k l) ≡ true
 unfolding odd
@@ -29,6 +31,10 @@ finite_bits b = not (eqb (b % 2 ^ 63 / 2 ^ 52) 2047)
 pub finite_by_bits : (b : ℕ) → finite (of_bits binary64 b) ≡ finite_bits b
 unfolding of_bits
 finite_by_bits b = fields_finite (leb (2 ^ 63) b) (b % 2 ^ 63 / 2 ^ 52) (b % 2 ^ 52)
+
+-- the field, cut out by a shift and a mask
+pub by_field : (b : ℕ) → not (eqb (bit_and (b / 2 ^ 52) 2047) 2047) ≡ finite (of_bits binary64 b)
+by_field b = rw (and_mask (b / 2 ^ 52) 11, ← field_of b 11 52) (sym (finite_by_bits b))
 
 -- a finite number is no NaN
 pub not_nan : (x : Float) → T (finite x) → T (not (is_nan x))

@@ -11,10 +11,7 @@ fn magnitude(text: &[u8]) -> f64
     let mut digits: u64 = 0;
     let mut power: u64 = 1;
     let mut scale: u64 = 1;
-    let mut i = 0;
-    while i < text.len() {
-        let b = text[i];
-        i += 1;
+    for &b in text {
         if b == b'.' {
             scale = 10;
         } else if b >= b'0' {
@@ -32,8 +29,5 @@ pub fn number(text: &[u8]) -> f64
     ensures finite { T (finite result) }
 {
     let size = magnitude(text);
-    if text[0] == b'-' {
-        return -size;
-    }
-    size
+    if text[0] == b'-' { -size } else { size }
 }

@@ -1,3 +1,4 @@
 pub mod ValueLaws
 pub mod OperandLaws
 pub mod ListLaws
+pub mod Standing

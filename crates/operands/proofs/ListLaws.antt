@@ -1,4 +1,5 @@
 -- Lists of literals in a table, and lists of strings in a bag or question: one step of each. Assumes nothing.
+use Rattle.std.specs.Prelude.{Some}
 use Prim.Native.Nat.{ℕ, zero, suc, ◌+◌, ◌-◌, ◌≤◌, ◌<◌}
 use mathlib.Core.List.{List}
 use mathlib.Core.Bool.{Bool, true, false, not, ◌||◌, cond}
@@ -10,7 +11,6 @@ use lib.ListN.{take, drop}
 use Rattle.slices.specs.Same.{same}
 use Rattle.bags.specs.Reading.{byte, many, each}
 use Rattle.bags.specs.Values.{string_end, list_end}
-use Rattle.bags.specs.declared.After.TheVariants.{At}
 use Rattle.bags.proofs.ReadLaws.{first, each_done, each_more}
 use Rattle.bags.proofs.ValueLaws.{value_list, string_at_lem, Strings}
 use Rattle.lookups.proofs.StepLaws.{as_list}
@@ -148,24 +148,24 @@ module _ (s x : List ℕ) where
   unfolding some
   none_listed n at h = rw (each_done (string_end s) (λ at e. string_at s at) n at h)
 
-  step : (n at e : ℕ) → 0 < n → many n (string_end s) at ≡ At e → among x s n at ≡ (same x (string_at s at) || among x s (n - 1) (at + 1 + byte s at))
+  step : (n at e : ℕ) → 0 < n → many n (string_end s) at ≡ Some e → among x s n at ≡ (same x (string_at s at) || among x s (n - 1) (at + 1 + byte s at))
   unfolding some
   step n at e h p =
       let f = first (string_end s) n at e h p in
       let w = string_at_lem s at f.stop f.ends in
       rw (each_more (string_end s) (λ at e. string_at s at) n at f.stop h f.ends, w.stop)
 
-  pub here_listed : (n at e : ℕ) → 0 < n → many n (string_end s) at ≡ At e → same x (string_at s at) ≡ true → true ≡ among x s n at
+  pub here_listed : (n at e : ℕ) → 0 < n → many n (string_end s) at ≡ Some e → same x (string_at s at) ≡ true → true ≡ among x s n at
   here_listed n at e h p b = sym (step n at e h p ∙ rw b)
 
-  pub later_listed : (n at e : ℕ) → 0 < n → many n (string_end s) at ≡ At e → same x (string_at s at) ≡ false → among x s n at ≡ among x s (n - 1) (at + 1 + byte s at)
+  pub later_listed : (n at e : ℕ) → 0 < n → many n (string_end s) at ≡ Some e → same x (string_at s at) ≡ false → among x s n at ≡ among x s (n - 1) (at + 1 + byte s at)
   later_listed n at e h p b = step n at e h p ∙ rw b
 
 -- the bytes of a string as code lends them
 pub cut_same : (s x : List ℕ) (at : ℕ) (r b : Bool) → r ≡ same x (take (at + 1 + byte s at - (at + 1)) (drop (at + 1) s)) → r ≡ b → same x (string_at s at) ≡ b
 cut_same s x at r b h q = ap (same x) (sym (string_cut s at)) ∙ sym h ∙ q
 
-pub list_counted : (s : List ℕ) (at e : ℕ) → list_end s at ≡ At e → Strings s at e
+pub list_counted : (s : List ℕ) (at e : ℕ) → list_end s at ≡ Some e → Strings s at e
 list_counted s at e h = as_list 4 s at e (sym (value_list 4 s at refl) ∙ h) (λ k. omega arith) (λ k. omega arith) (λ k. omega arith)
 
 pub listed_at : (s x : List ℕ) (at : ℕ) (r : Bool) → r ≡ among x s (byte s at) (at + 1) → r ≡ among_strings (list_at s at) x

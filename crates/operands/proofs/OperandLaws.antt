@@ -1,4 +1,5 @@
 -- What is read for an operand stands for what the operand is; and its string lies where it is taken from. Assumes nothing.
+use Rattle.std.specs.Prelude.{Some}
 use Prim.Native.Nat.{ℕ, ◌+◌, ◌-◌, ◌≤◌, ◌<◌}
 use mathlib.Core.List.{List}
 use mathlib.Core.Bool.{Bool, true, false, ◌&&◌, cond, and-eq-true_iff}
@@ -13,7 +14,6 @@ use Rattle.slices.proofs.Equal.{same_itself}
 use Rattle.numbers.specs.Literals.{number_in}
 use Rattle.bags.specs.Reading.{byte}
 use Rattle.bags.specs.Values.{list_end}
-use Rattle.bags.specs.declared.After.TheVariants.{At}
 use Rattle.bags.proofs.ReadLaws.{part_to}
 use Rattle.bags.proofs.ValueLaws.{value_list}
 use Rattle.lookups.specs.Values.{nought, unit, ValueWhole}
@@ -251,10 +251,10 @@ module _ (t s : List ℕ) (places values : List ℕ) (stands : RowAt s places va
           rw (e ∙ sym (read_action t s places values o b)) (action_is (of_bag o.kind) b ∙ seen_action t s places values action o b placed)
 
   -- a list that is read lies in the bytes
-  pub attribute_list : (o : Entry) (v : Value) → v ≡ attribute_read t s places values o → v.kind ≡ 4 → (e : ℕ) × (list_end s v.place ≡ At e)
+  pub attribute_list : (o : Entry) (v : Value) → v ≡ attribute_read t s places values o → v.kind ≡ 4 → (e : ℕ) × (list_end s v.place ≡ Some e)
   attribute_list o v e k = go (of_bag o.kind) refl
     where
-      go : (b : Bool) → of_bag o.kind ≡ b → (e : ℕ) × (list_end s v.place ≡ At e)
+      go : (b : Bool) → of_bag o.kind ≡ b → (e : ℕ) × (list_end s v.place ≡ Some e)
       go true b =
           let r = row_reads s _ _ _ values stands.stands o.kind (unblanked_at t (span_of_entry o)) in
           let whole = subst (ValueWhole s) (read_bag t s places values o b ∙ sym e) r.whole in

@@ -1,11 +1,12 @@
 -- What a read value stands for, by its kind, and comparators on two of them. Assumes nothing.
 use Prim.Native.Nat.{ℕ}
-use mathlib.Core.List.{List}
-use mathlib.Core.Bool.{Bool, true, false, ◌&&◌, cond}
+use mathlib.Core.List.{List, [], ◌∷◌}
+use mathlib.Core.Bool.{Bool, true, false, ◌&&◌, cond, beq}
 use mathlib.Core.Path.{◌≡◌, refl, sym, ◌∙◌, ap}
 use borrow.Author.Tests.{ne_eqb, eqb-true, eqb-false, lt-leb, leb-true}
 use native.Mathlib.Omega.{arith}
 use lib.Dec.{eqb, leb}
+use lib.Pointwise.{pointwise}
 use lib.Ieee.{Float, eq}
 use Rattle.slices.specs.Same.{same}
 use Rattle.lookups.specs.Values.{unit}
@@ -192,3 +193,21 @@ module _ (c : Comparator) (v : Value) (x : List ℕ) (l : List (List ℕ)) (w : 
       go (k3 k) = absurd (n3 k)
       go (k4 k) = rw (datum_texts v x l k)
       go (k0 a b d e) = rw (datum_absent v x l a b d e)
+
+-- ---- the library's equality
+
+pointwise_same : (xs ys : List ℕ) → pointwise eqb xs ys ≡ same xs ys
+unfolding same
+pointwise_same [] [] = refl
+pointwise_same [] (y ∷ ys) = refl
+pointwise_same (x ∷ xs) [] = refl
+pointwise_same (x ∷ xs) (y ∷ ys) = ap (λ (b : Bool). eqb x y && b) (pointwise_same xs ys)
+
+pub same_is : (r : Bool) (xs ys : List ℕ) → r ≡ pointwise eqb xs ys → r ≡ same xs ys
+same_is r xs ys h = h ∙ pointwise_same xs ys
+
+pub flags_same : (a b : Bool) → beq a b ≡ same_flag a b
+flags_same true true = refl
+flags_same true false = refl
+flags_same false true = refl
+flags_same false false = refl

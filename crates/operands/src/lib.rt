@@ -16,132 +16,119 @@ use slots::KEPT;
 use table::{Entry, entries};
 use views::attribute;
 
-// A slice comes by reference where it is handed on, and as it is where places in it are reckoned: of a slice that is an argument it is known that its length
-// is a number of the machine.
-
 pub mod lists;
 pub mod values;
 
-// An attribute's value. The action has no attribute but its name.
-pub fn attribute_value(
-    text: &&[u8],
-    s: &&[u8],
-    places: &[u16; KEPT],
-    values: &[usize; MOST_COLUMNS],
-    o: Entry,
-) -> Value
-    requires lies { Lies text.now.now (span_of_entry o) }
-    requires row_at { RowAt s.now.now places.now values.now }
-    ensures { result ≡ attribute_read text.now.now s.now.now places.now values.now o }
-{
-    let root = o.kind;
-    if (entries::PRINCIPAL <= root) & (root <= entries::ENV) {
-        let start = o.first;
-        let end = o.second;
-        let whole = *text;
-        let k = attribute(*s, places, values, root, &whole[start..end]);
-        return value_at(*s, k);
-    }
-    Value {
-        kind: bags::values::STRING,
-        number: 0.0,
-        place: 0,
-    }
+// What policies are met over: a rule text and its table; the bytes of a bag or question with the places that are found in them, what is chosen for its columns; and the action.
+#[derive(Clone, Copy)]
+pub struct Row<'a> {
+    pub text: &'a [u8],
+    pub table: &'a [u8],
+    pub s: &'a [u8],
+    pub places: &'a [u16; KEPT],
+    pub values: &'a [usize; MOST_COLUMNS],
+    pub action: &'a [u8],
+    pub ghost stands: { ∥ RowAt s.now places.now values.now ∥₁ },
 }
 
-// A literal's value.
-pub fn literal_value(text: &&[u8], o: Entry) -> Value
-    requires { LiteralPlaced text.now.now (literal_of_entry o) }
-    ensures { result ≡ literal_read text.now.now o }
+// A string that does not lie in the bag or question.
+const A_STRING: Value = Value {
+    kind: bags::values::STRING,
+    number: 0.0,
+    place: 0,
+};
+
+// Whether a root is one of the bag's: principal, resource or env.
+fn of_bag(root: u8) -> bool
+    ensures { result ≡ of_bag root }
 {
-    let kind = o.kind;
-    if kind == entries::STRING {
-        return Value {
-            kind: bags::values::STRING,
-            number: 0.0,
-            place: 0,
-        };
-    }
-    if kind == entries::NUMBER {
-        let start = o.first;
-        let end = o.second;
-        let whole = *text;
-        let x = number(&whole[start..end]);
-        return Value {
-            kind: bags::values::NUMBER,
-            number: x,
-            place: 0,
-        };
-    }
-    if kind == entries::TRUE {
-        return Value {
-            kind: bags::values::FLAG,
-            number: 1.0,
-            place: 0,
-        };
-    }
-    Value {
-        kind: bags::values::FLAG,
-        number: 0.0,
-        place: 0,
-    }
+    entries::PRINCIPAL <= root && root <= entries::ENV
 }
 
-// An operand's value.
-pub fn operand_value(
-    text: &&[u8],
-    s: &&[u8],
-    places: &[u16; KEPT],
-    values: &[usize; MOST_COLUMNS],
-    o: Entry,
-) -> Value
-    requires operand_placed { OperandPlaced text.now.now (operand_of_entry o) }
-    requires row_at { RowAt s.now.now places.now values.now }
-    ensures { result ≡ operand_read text.now.now s.now.now places.now values.now o }
-{
-    let kind = o.kind;
-    if kind <= entries::ACTION {
-        return attribute_value(text, s, places, values, o);
+impl<'a> Row<'a> {
+    // An attribute's value. The action has no attribute but its name.
+    pub fn attribute_value(&self, o: Entry) -> Value
+        requires { Lies self.now.text.now (span_of_entry o) }
+        ensures { result ≡ attribute_read self.now.text.now self.now.s.now self.now.places.now self.now.values.now o }
+    {
+        if !of_bag(o.kind) {
+            return A_STRING;
+        }
+        let text = self.text;
+        let path = &text[o.first..o.second];
+        let k = attribute(self.s, self.places, self.values, o.kind, path);
+        value_at(self.s, k)
     }
-    literal_value(text, o)
+
+    // A literal's value.
+    pub fn literal_value(&self, o: Entry) -> Value
+        requires { LiteralPlaced self.now.text.now (literal_of_entry o) }
+        ensures { result ≡ literal_read self.now.text.now o }
+    {
+        let text = self.text;
+        match o.kind {
+            entries::STRING => A_STRING,
+            entries::NUMBER => Value {
+                kind: bags::values::NUMBER,
+                number: number(&text[o.first..o.second]),
+                place: 0,
+            },
+            entries::TRUE => Value {
+                kind: bags::values::FLAG,
+                number: 1.0,
+                place: 0,
+            },
+            _ => Value {
+                kind: bags::values::FLAG,
+                number: 0.0,
+                place: 0,
+            },
+        }
+    }
+
+    // An operand's value.
+    pub fn operand_value(&self, o: Entry) -> Value
+        requires { OperandPlaced self.now.text.now (operand_of_entry o) }
+        ensures { result ≡ operand_read self.now.text.now self.now.s.now self.now.places.now self.now.values.now o }
+    {
+        if o.kind <= entries::ACTION {
+            self.attribute_value(o)
+        } else {
+            self.literal_value(o)
+        }
+    }
 }
 
 // The bytes of a literal's string, between its quotes.
-pub fn quoted<'a>(text: &&'a [u8], o: Entry) -> &'a [u8]
-    requires { StringPlaced text.now.now (span_of_entry o) }
-    ensures { result.now ≡ quoted_at text.now.now (span_of_entry o) }
+pub fn quoted<'a>(text: &'a [u8], o: Entry) -> &'a [u8]
+    requires { StringPlaced text.now (span_of_entry o) }
+    ensures { result.now ≡ quoted_at text.now (span_of_entry o) }
 {
-    let start = o.first + 1;
-    let end = o.second - 1;
-    let whole = *text;
-    &whole[start..end]
+    &text[o.first + 1..o.second - 1]
 }
 
 // The bytes of an operand's string, where they lie.
 pub fn operand_string<'a>(
-    text: &&'a [u8],
+    text: &'a [u8],
     s: &'a [u8],
-    action: &&'a [u8],
+    action: &'a [u8],
     o: Entry,
     v: Value,
 ) -> &'a [u8]
-    requires operand_placed { OperandPlaced text.now.now (operand_of_entry o) }
+    requires operand_placed { OperandPlaced text.now (operand_of_entry o) }
     requires value_whole { of_bag o.kind ≡ true → ValueWhole s.now v }
-    ensures { result.now ≡ string_of text.now.now s.now action.now.now o v }
+    ensures { result.now ≡ string_of text.now s.now action.now o v }
 {
-    let kind = v.kind;
-    let root = o.kind;
-    if kind != bags::values::STRING {
-        return *action;
+    if v.kind != bags::values::STRING {
+        return action;
     }
-    if (entries::PRINCIPAL <= root) & (root <= entries::ENV) {
-        let place = v.place;
-        let start = place + 1;
-        let end = start + s[place] as usize;
+    if of_bag(o.kind) {
+        let start = v.place + 1;
+        let end = start + s[v.place] as usize;
         return &s[start..end];
     }
-    if root == entries::STRING {
+    if o.kind == entries::STRING {
         return quoted(text, o);
     }
-    *action
+    action
 }

@@ -1,4 +1,5 @@
 -- A question's counts, its rows and what a combination shows, by what its bytes say. Assumes nothing.
+use Rattle.std.specs.Prelude.{Option, Some}
 use mathlib.Core.Path.{◌≡◌, sym, ◌∙◌, ap, fun_ext}
 use mathlib.Core.Bool.{true}
 use mathlib.Core.List.{List}
@@ -9,10 +10,7 @@ use lib.ListN.{length}
 use Rattle.bags.specs.Reading.{byte}
 use Rattle.bags.specs.Forms.{InTurn, none, more, Contents}
 use Rattle.bags.specs.Sections.{sections_of}
-use Rattle.bags.specs.declared.After.TheVariants.{At}
 use Rattle.bags.specs.declared.sections.Sections.{Sections}
-use Rattle.bags.specs.declared.sections.Divided.{Divided}
-use Rattle.bags.specs.declared.sections.Divided.TheVariants.{In}
 use Rattle.bags.proofs.Told.{map_each, each_agree}
 use Rattle.questions.specs.Columns.{candidate_end, count_at, column_end}
 use Rattle.questions.specs.Questions.{count_of, is_question, product, Question}
@@ -52,7 +50,7 @@ rows_few w = rows_of_parts w.all
 -- ---- counts and attributes
 
 module _ (s : List ℕ) where
-  count_here : (c e : ℕ) → column_end s c ≡ At e → length (column_here s c).choices ≡ count_of s c
+  count_here : (c e : ℕ) → column_end s c ≡ Some e → length (column_here s c).choices ≡ count_of s c
   unfolding choices_here
   count_here c e h = each_length (candidate_end s) (choice_here s) (count_of s c) (count_at s c + 1) e (column_at s c e h).candidates
 
@@ -62,7 +60,7 @@ module _ (s : List ℕ) where
       map_each (λ (c : Column). length c.choices) n (column_end s) (λ at e. column_here s at) at
       ∙ each_agree n (column_end s) (λ at e. length (column_here s at).choices) (λ c e. count_of s c) (count_here) at
 
-module _ {s : List ℕ} {base : Contents} {cs : List Column} (p : Sections) (divided : sections_of s ≡ In p) (w : QuestionBytes s base cs) where
+module _ {s : List ℕ} {base : Contents} {cs : List Column} (p : Sections) (divided : sections_of s ≡ Some p) (w : QuestionBytes s base cs) where
   question_is : Question s p
   question_is = let i : is_question s ≡ true = (question_exactly s).1 (base, (cs, w)) in question_is_lem s p (rw i divided)
 
@@ -75,7 +73,7 @@ module _ {s : List ℕ} {base : Contents} {cs : List Column} (p : Sections) (div
       let c : cs ≡ columns_at s p.end = rw q at d.columns_are in
       sym (ap counts c ∙ counts_here s (byte s p.end) (p.end + 1))
     where
-      same_places : {x : Divided} {a c : Sections} → x ≡ In a → x ≡ In c → a ≡ c
+      same_places : {x : Option Sections} {a c : Sections} → x ≡ Some a → x ≡ Some c → a ≡ c
       same_places h k = cc
 
   -- what a combination shows is the base with each column's attribute set to its choice, or removed

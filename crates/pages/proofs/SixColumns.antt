@@ -1,4 +1,5 @@
 -- The six columns that code holds have the question's columns in front, and columns of one choice behind them. Assumes nothing.
+use Rattle.std.specs.Prelude.{Option, Some}
 use mathlib.Core.Path.{◌≡◌, refl, sym, ap, ◌∙◌}
 use mathlib.Core.Bool.{Bool, true, false}
 use mathlib.Core.List.{List, [], ◌∷◌, ◌++◌}
@@ -11,8 +12,6 @@ use lib.Dec.{ltb}
 use lib.ListN.{length, get_or, replicate, length-replicate, get_or-replicate, length-append, get_or-append}
 use lib.Seq.{get_or-append-add, ext_get_or}
 use Rattle.bags.specs.Reading.{end_place, many, each}
-use Rattle.bags.specs.declared.After.{After}
-use Rattle.bags.specs.declared.After.TheVariants.{At}
 use Rattle.bags.proofs.ReadLaws.{first, many_done, many_more, each_done, each_more}
 use Rattle.questions.specs.Columns.{column_end}
 use Rattle.questions.specs.Questions.{head_of, count_of, product, rows_of}
@@ -43,15 +42,15 @@ choices_padded (n ∷ ns) k row h =
 
 -- ---- the counts of a question's columns
 
-pub each_length : {A : Type 0} (next : ℕ → After) (what : ℕ → ℕ → A) (n at e : ℕ) → many n next at ≡ At e → length (each n next what at) ≡ n
+pub each_length : {A : Type 0} (next : ℕ → Option ℕ) (what : ℕ → ℕ → A) (n at e : ℕ) → many n next at ≡ Some e → length (each n next what at) ≡ n
 each_length next what zero at e h = rw (each_done next what 0 at (omega arith))
 each_length next what (suc n) at e h =
     let f = first next (suc n) at e (omega arith) h in
     let m : suc n - 1 ≡ n = omega arith in
     rw (each_more next what (suc n) at f.stop (omega arith) f.ends, m) (ap suc (each_length next what n f.stop e (rw m at f.later)))
 
-module _ {A : Type 0} (next : ℕ → After) (what : ℕ → A) where
-  each_at : (n i at e : ℕ) (z : A) → i < n → many n next at ≡ At e → get_or (each n next (λ c e. what c) at) i z ≡ what (end_place (many i next at))
+module _ {A : Type 0} (next : ℕ → Option ℕ) (what : ℕ → A) where
+  each_at : (n i at e : ℕ) (z : A) → i < n → many n next at ≡ Some e → get_or (each n next (λ c e. what c) at) i z ≡ what (end_place (many i next at))
   each_at zero i at e z l h = absurd (not-suc-le-zero l)
   each_at (suc n) zero at e z l h =
       let f = first next (suc n) at e (omega arith) h in
@@ -63,7 +62,7 @@ module _ {A : Type 0} (next : ℕ → After) (what : ℕ → A) where
       rw (each_more next (λ c e. what c) (suc n) at f.stop (omega arith) f.ends, m, many_more next (suc i) at f.stop (omega arith) f.ends, k)
       (each_at n i f.stop e z (omega arith) (rw m at f.later))
 
-module _ (s : List ℕ) (n at last : ℕ) (most : n ≤ 6) (columns : many n (column_end s) at ≡ At last) where
+module _ (s : List ℕ) (n at last : ℕ) (most : n ≤ 6) (columns : many n (column_end s) at ≡ Some last) where
   column : (i : ℕ) → i < n → (e : ℕ) × Columned s (head_of s at i) e
   column = column_of s n at last columns
 

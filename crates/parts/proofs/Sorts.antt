@@ -5,6 +5,7 @@ use mathlib.Core.List.{List, []}
 use Prim.Native.Nat.{ℕ}
 use native.Mathlib.Omega.{arith}
 use lib.Dec.{eqb}
+use Rattle.std.specs.Prelude.{Option, Some, None}
 use Rattle.tokens.specs.Kinds as kinds
 use Rattle.tokens.specs.declared.reader.Token.{Token}
 use Rattle.tokens.proofs.TokenLaws.{never}
@@ -49,36 +50,36 @@ literal_of_lem text t = refl
 -- ---- calls
 
 -- the kind of a call's entry, by whether the word is containsAll and whether it is containsAny
-abbrev kind_by : Bool → Bool → ℕ
-kind_by all any = cond all (which_kind Which.All) (cond any (which_kind Which.Any) 0)
+abbrev kind_by : Bool → Bool → Option ℕ
+kind_by all any = cond all (Some (which_kind Which.All)) (cond any (Some (which_kind Which.Any)) None)
 
 -- a word begins a call exactly where it ends a path
-pub no_call : (left : Bool) (x : Lexeme) → call_of left x.kind ≡ 0 → exit_of left x ≡ false
+pub no_call : (left : Bool) (x : Lexeme) → call_of left x.kind ≡ None → exit_of left x ≡ false
 unfolding call_of exit_of
 no_call false x e = refl
 no_call true x e = go (eqb x.kind kinds.contains_all_word) (eqb x.kind kinds.contains_any_word) e
   where
-    go : (a b : Bool) → kind_by a b ≡ 0 → (a || b) ≡ false
-    go true b e = absurd (omega arith)
-    go false true e = absurd (omega arith)
+    go : (a b : Bool) → kind_by a b ≡ None → (a || b) ≡ false
+    go true b e = cc
+    go false true e = cc
     go false false e = refl
 
-pub calls : (left : Bool) (x : Lexeme) → (call_of left x.kind ≡ 0 → ⊥) → exit_of left x ≡ true
+pub calls : (left : Bool) (x : Lexeme) {k : ℕ} → call_of left x.kind ≡ Some k → exit_of left x ≡ true
 unfolding call_of exit_of
-calls false x n = absurd (n refl)
-calls true x n = go (eqb x.kind kinds.contains_all_word) (eqb x.kind kinds.contains_any_word) n
+calls false x e = cc
+calls true x {k} e = go (eqb x.kind kinds.contains_all_word) (eqb x.kind kinds.contains_any_word) e
   where
-    go : (a b : Bool) → (kind_by a b ≡ 0 → ⊥) → (a || b) ≡ true
-    go true b n = refl
-    go false true n = refl
-    go false false n = absurd (n refl)
+    go : (a b : Bool) → kind_by a b ≡ Some k → (a || b) ≡ true
+    go true b e = refl
+    go false true e = refl
+    go false false e = cc
 
-pub call_is : (left : Bool) (x : Lexeme) → (call_of left x.kind ≡ 0 → ⊥) → which_kind (which_of x) ≡ call_of left x.kind
+pub call_is : (left : Bool) (x : Lexeme) {k : ℕ} → call_of left x.kind ≡ Some k → Some (which_kind (which_of x)) ≡ call_of left x.kind
 unfolding call_of which_of
-call_is false x n = absurd (n refl)
-call_is true x n = go (eqb x.kind kinds.contains_all_word) (eqb x.kind kinds.contains_any_word) n
+call_is false x e = cc
+call_is true x {k} e = go (eqb x.kind kinds.contains_all_word) (eqb x.kind kinds.contains_any_word) e
   where
-    go : (a b : Bool) → (kind_by a b ≡ 0 → ⊥) → which_kind (cond a Which.All Which.Any) ≡ kind_by a b
-    go true b n = refl
-    go false true n = refl
-    go false false n = absurd (n refl)
+    go : (a b : Bool) → kind_by a b ≡ Some k → Some (which_kind (cond a Which.All Which.Any)) ≡ kind_by a b
+    go true b e = refl
+    go false true e = refl
+    go false false e = cc

@@ -9,6 +9,7 @@ use lib.ListN.{length}
 use borrow.Author.Tests.{eq-eqb, ne_eqb, eqb-true, eqb-false}
 use Rattle.tokens.specs.declared.reader.Token.{Token}
 use Rattle.tokens.specs.Tokens.{token_at, Reads}
+use Rattle.tokens.proofs.ReadLaws.{reads}
 use Rattle.reading.specs.Lexemes.{Lexeme, lexeme, is, stream, tokens_from}
 use Rattle.reading.specs.Reader as reader
 use Rattle.reading.specs.Reader.{Reader, refuse_by, numbered, bind, on, need, ten}
@@ -29,12 +30,16 @@ lowered l r = record { low = let x = r.low in omega arith; order = r.order; high
 pub past : {text : List ℕ} {from : ℕ} (t : Token) {n : Token} → Reads text from t → (t.kind ≡ 0 → ⊥) → Reads text t.end n → Reads text (t.start + 1) n
 past t r e s = let x = r.some e in lowered (omega arith) s
 
-pub ready_past : {classes text : List ℕ} {from low : ℕ} (t : Token) {n : Token} → ReadyToRead classes text from t → (t.kind ≡ 0 → ⊥) → Reads text t.end n → low ≤ t.start + 1
-    → ReadyToRead classes text low n
-ready_past t r e s l = record { table = r.table; lies = lowered l (past t r.lies e s); small = r.small }
+-- and there is less of the text after it
+pub ahead : {text : List ℕ} {low : ℕ} (t : Token) {n : Token} → Reads text low t → (t.kind ≡ 0 → ⊥) → n ≡ token_at text t.end → (t.start < n.start) × (n.start ≤ length text)
+ahead {text} t r e q = rw q (let s = reads text t.end r.high in let x = r.some e in let y = s.low in let z = s.order in let w = s.high in (omega arith, omega arith))
+
+pub ready_past : {text : List ℕ} {from low : ℕ} (t : Token) {n : Token} → ReadyToRead text from t → (t.kind ≡ 0 → ⊥) → Reads text t.end n → low ≤ t.start + 1
+    → ReadyToRead text low n
+ready_past t r e s l = record { lies = lowered l (past t r.lies e s); small = r.small }
 
 -- no entry's number is larger than the place of the token that stands next
-pub number_small : {classes text : List ℕ} {from : ℕ} {t : Token} → ReadyToRead classes text from t → from < 2 ^ 60
+pub number_small : {text : List ℕ} {from : ℕ} {t : Token} → ReadyToRead text from t → from < 2 ^ 60
 number_small r = omega (arith, r.lies.low, r.lies.order, r.lies.high, r.small)
 
 -- ---- refusals

@@ -11,6 +11,7 @@ use borrow.Author.Tests.{eq-eqb, ne_eqb}
 use Rattle.tokens.specs.Kinds as kinds
 use Rattle.tokens.specs.declared.reader.Token.{Token}
 use Rattle.tokens.specs.Tokens.{token_at, Reads}
+use Rattle.tokens.proofs.ReadLaws.{reads}
 use Rattle.tokens.proofs.TokenLaws.{never}
 use Rattle.reading.specs.Lexemes.{Lexeme, lexeme, is, choose, stream}
 use Rattle.reading.specs.Reader as reader
@@ -22,19 +23,20 @@ use Rattle.grammar.specs.Grammar.{Path, first_path, longer_path}
 use Rattle.grammar.specs.Parser.{Way, uncalled, calling, no_name, name_fits, goes_on, read_first_name, read_next_name, read_way, spanned_by, read_path, read_attribute}
 use Rattle.grammar.proofs.Steps.{way_step}
 use Rattle.parts.specs.Names.{exit_of, call_of}
-use Rattle.parts.specs.Answers.{turned_away, TurnedAway, call_after, PathWalked, PathWalks, found, lost}
-use Rattle.parts.specs.declared.answers.Refusal.{Refusal}
+use Rattle.parts.specs.Answers.{turned_away, TurnedAway, call_after, PathWalked, PathIs, PathWalks, found, lost, Keeps, DoneFrom, at_token, passed}
 use Rattle.parts.specs.declared.paths.Path.{Path as Found-path}
-use Rattle.parts.specs.declared.paths.Way.{Way as Found-way}
-use Rattle.parts.specs.declared.paths.Way.TheVariants.{Found, Lost}
+use Rattle.parts.specs.declared.answers.Reader.{Reader as Text-reader}
+use Rattle.std.specs.Prelude.{Option, Some, None, Result, Ok, Err}
 use Rattle.parts.proofs.Standing.{standing, lowered, past, turned_as, turned_bind, turned_for}
+use Rattle.parts.proofs.SoFar.{SoFar, lent, keeps_on, done_turned}
+use Rattle.table.specs.declared.Entry.{Entry}
 use Rattle.parts.proofs.Sorts.{exit_some, no_call, calls, call_is}
 
 abbrev pub path : ℕ → ℕ → ℕ → Path
 path start end used = record { start = start; end = end; used = used }
 
-abbrev pub found_path : ℕ → ℕ → ℕ → Token → Found-path
-found_path start end call next = record { start = start; end = end; call = call; next = next }
+abbrev pub found_path : ℕ → ℕ → Option ℕ → Found-path
+found_path start end call = record { start = start; end = end; call = call }
 
 module _ (left : Bool) (root : Root) where
   abbrev pub next_name : Way → Lexeme → Reader Way
@@ -63,9 +65,9 @@ module _ (left : Bool) (root : Root) where
   }
 
   module _ {text : List ℕ} {total : reader.Answer Way} {from start used : ℕ} {name : Token} (w : Walking text total from start used name) where
-    pub walking_lost : name_fits root used (lexeme text name) ≡ false → {n : ℕ} → n ≡ no_name root (lexeme text name) → {f : Refusal} → f ≡ turned_away (length text) n name → TurnedAway text total f
-    walking_lost e q p = turned_as w.rest (turned_bind (onwards goes_on next_name)
-        (turned_as (next_off text name (name_fits root used) (λ x. took (uncalled (w.make x))) (refuse_by (no_name root)) e) (turned_for text name (no_name root) q p)))
+    pub walking_lost : name_fits root used (lexeme text name) ≡ false → {n : ℕ} → n ≡ no_name root (lexeme text name) → TurnedAway text total (turned_away (length text) n name)
+    walking_lost e q = turned_as w.rest (turned_bind (onwards goes_on next_name)
+        (turned_as (next_off text name (name_fits root used) (λ x. took (uncalled (w.make x))) (refuse_by (no_name root)) e) (turned_for text name (no_name root) q refl)))
 
     module _ (e : name_fits root used (lexeme text name) ≡ true) (dot : Token) (q : dot ≡ token_at text name.end) (s : Reads text name.end dot) where
       pub name_some : name.kind ≡ 0 → ⊥
@@ -83,7 +85,7 @@ module _ (left : Bool) (root : Root) where
       dot_lies : Reads text (from + 1) dot
       dot_lies = let l = w.lies.low in lowered (omega arith) (past name w.lies name_some s)
 
-      pub walking_ends : (dot.kind ≡ kinds.dot → ⊥) → PathWalked text from total (found_path start name.end 0 dot)
+      pub walking_ends : (dot.kind ≡ kinds.dot → ⊥) → PathWalked text from total dot (found_path start name.end None)
       unfolding goes_on spanned_by call_after
       walking_ends n = record {
         way = uncalled here;
@@ -102,8 +104,8 @@ module _ (left : Bool) (root : Root) where
         word_lies : Reads text (from + 1) word
         word_lies = let l = dot_lies.low in lowered (omega arith) (past dot dot_lies (λ (z : dot.kind ≡ 0). omega arith) s')
 
-        pub walking_calls : (call_of left word.kind ≡ 0 → ⊥) → (next : Token) → next ≡ token_at text word.end → Reads text word.end next
-            → PathWalked text from total (found_path start name.end (call_of left word.kind) next)
+        pub walking_calls : {call : ℕ} → call_of left word.kind ≡ Some call → (next : Token) → next ≡ token_at text word.end → Reads text word.end next
+            → PathWalked text from total next (found_path start name.end (call_of left word.kind))
         unfolding read_next_name bind goes_on spanned_by call_after
         walking_calls n next q'' s'' =
             let x = lexeme text word in
@@ -117,42 +119,96 @@ module _ (left : Bool) (root : Root) where
                   (way_step (exit_of left) root (calling here (which_of x)) (stream text next) ∙ next_off text next (goes_on (calling here (which_of x))) _ _ refl);
             }
 
-        pub walking_on : call_of left word.kind ≡ 0 → Walking text total from start (used + (name.end - name.start) + 1) word
+        pub walking_on : call_of left word.kind ≡ None → Walking text total from start (used + (name.end - name.start + 1)) word
         unfolding read_next_name
-        walking_on n = record {
-          make = longer_path here;
-          rest = after_dot ∙ rw (next_off text word (exit_of left) (λ x. took (calling here (which_of x))) (name_of (here.used + 1) (longer_path here)) (no_call left (lexeme text word) n));
-          made = refl;
-          lies = lowered (omega arith) word_lies;
-          few = let a = w.few in let b = w.lies.order in let c = s.low in let o = s'.low in let y = s.some (λ (z : dot.kind ≡ 0). omega arith) in omega arith;
-        }
+        walking_on n =
+            let e : used + (name.end - name.start + 1) ≡ used + (name.end - name.start) + 1 = omega arith in
+            rw e (record {
+              make = longer_path here;
+              rest = after_dot ∙ rw (next_off text word (exit_of left) (λ x. took (calling here (which_of x))) (name_of (here.used + 1) (longer_path here)) (no_call left (lexeme text word) n));
+              made = refl;
+              lies = lowered (omega arith) word_lies;
+              few = let a = w.few in let b = w.lies.order in let c = s.low in let o = s'.low in let y = s.some (λ (z : dot.kind ≡ 0). omega arith) in omega arith;
+            })
+
+-- ---- a reader that only goes on
+
+-- to the token after the one that stands next
+pub record Moved (old now new : Text-reader) : Type 0 where
+  pub next : new.next ≡ token_at old.text.now now.next.end
+  pub stays : new ≡ at_token old new.next
+  pub lies : Reads old.text.now now.next.end new.next
+
+pub moved : {new : Text-reader} (old now : Text-reader) → now ≡ at_token old now.next → now.next.end ≤ length old.text.now → new ≡ passed now → Moved old now new
+moved {new} old now s h e =
+    let there : new ≡ at_token old (token_at old.text.now now.next.end) = e ∙ ap passed s in
+    let next : new.next ≡ token_at old.text.now now.next.end = ap (λ (r : Text-reader). r.next) there in
+    record { next = next; stays = there ∙ ap (at_token old) (sym next); lies = rw next (reads old.text.now now.next.end h) }
+
+pub same_text : {now : Text-reader} {t : Token} (old : Text-reader) → now ≡ at_token old t → now.text ≡ old.text
+same_text old s = ap (λ (r : Text-reader). r.text) s
 
 -- ---- what a path's answer tells
 
-pub as_found : {text : List ℕ} {from : ℕ} {p : reader.Answer Way} {w : Found-way} {x : Found-path} → w ≡ Found x → PathWalks text from p w → PathWalked text from p x
-as_found {text} {from} {p} e n = go (subst (PathWalks text from p) e n)
+pub as_found : {text : List ℕ} {from : ℕ} {p : reader.Answer Way} {next : Token} {r : Result Found-path ℕ} {x : Found-path} → r ≡ Ok x → PathIs text from p next r → PathWalked text from p next x
+as_found {text} {from} {p} {next} e n = go (subst (PathIs text from p next) e n)
   where
-    go : {x : Found-path} → PathWalks text from p (Found x) → PathWalked text from p x
+    go : {x : Found-path} → PathIs text from p next (Ok x) → PathWalked text from p next x
     go (found k) = k
 
-pub as_lost : {text : List ℕ} {from : ℕ} {p : reader.Answer Way} {w : Found-way} {f : Refusal} → w ≡ Lost f → PathWalks text from p w → TurnedAway text p f
-as_lost {text} {from} {p} e n = go (subst (PathWalks text from p) e n)
+pub as_lost : {text : List ℕ} {from : ℕ} {p : reader.Answer Way} {next : Token} {r : Result Found-path ℕ} {n : ℕ} → r ≡ Err n → PathIs text from p next r → TurnedAway text p (turned_away (length text) n next)
+as_lost {text} {from} {p} {next} e n = go (subst (PathIs text from p next) e n)
   where
-    go : {f : Refusal} → PathWalks text from p (Lost f) → TurnedAway text p f
+    go : {n : ℕ} → PathIs text from p next (Err n) → TurnedAway text p (turned_away (length text) n next)
     go (lost k) = k
 
-pub fits_is : (root : Root) (used : ℕ) (text : List ℕ) (name : Token) {yes : Bool} → yes ≡ admitted root used (lexeme text name) → name_fits root used (lexeme text name) ≡ eqb name.kind kinds.name && yes
-unfolding name_fits
-fits_is root used text name e = rw e
+-- what is done once a path is read
+pub record AfterWay {B : Type 0} (old new : Text-reader) (base : ℕ) (total : reader.Answer B) (g : Way → Reader B) (a : List Entry) (w : Found-path) : Type 0 where
+  pub way : Way
+  pub span_is : spanned_by way ≡ span w.start w.end
+  pub call_is : call_after way ≡ w.call
+  pub so : SoFar old new base total (g way) a
 
--- the place of a path that was found
-pub path_is : {text : List ℕ} {from : ℕ} {p : reader.Answer Way} {w : Found-path} → PathWalked text from p w → bind p (λ way. took (spanned_by way)) ≡ took (span w.start w.end) (stream text w.next)
-unfolding bind
-path_is k = rw (k.is, k.span_is)
+module _ {B : Type 0} {old now : Text-reader} {base : ℕ} {total : reader.Answer B} {a : List Entry} {new : Text-reader} {r : Result Found-path ℕ} (p : Reader Way) (g : Way → Reader B)
+    (so : SoFar old now base total (λ i. bind (p i) g) a) (d : PathWalks p now new r) where
+  pub so_way : {w : Found-path} → r ≡ Ok w → AfterWay old new (base + 1) total g a w
+  unfolding bind
+  so_way e =
+      let k = as_found e d.says in
+      let said = lent (λ text seen. p (stream text now.next) ≡ took k.way (stream text new.next)) so.keeps k.is in
+      let stands = lent (λ text seen. Reads text (now.next.start + 1) new.next) so.keeps k.lies in
+      record {
+        way = k.way;
+        span_is = k.span_is;
+        call_is = k.call_is;
+        so = subst (λ (x : Text-reader). SoFar old x (base + 1) total (g k.way) a) (sym d.stays) (record {
+          keeps = record { text = so.keeps.text; seen = so.keeps.seen; table = so.keeps.table };
+          is = so.is ∙ rw said;
+          lies = lowered (omega arith) stands;
+          room = let x = so.room in let y = stands.low in omega arith;
+          kept = so.kept;
+        });
+      }
 
-pub found_bind : {B : Type 0} {text : List ℕ} {from : ℕ} {p : reader.Answer Way} {w : Found-path} (f : Way → Reader B) (k : PathWalked text from p w) → bind p f ≡ f k.way (stream text w.next)
-unfolding bind
-found_bind f k = rw k.is
+  pub so_way_lost : {es : ℕ → B → List Entry} {from n : ℕ} → r ≡ Err n → DoneFrom es from total old new (Err n)
+  so_way_lost {n = n} e =
+      let told = lent (λ text seen. TurnedAway text (p (stream text now.next)) (turned_away (length text) n new.next)) so.keeps (as_lost e d.says) in
+      let keeps : Keeps now new = rw d.stays (record { text = refl; seen = refl; table = refl }) in
+      done_turned (keeps_on so.keeps keeps) (turned_as so.is (turned_bind g told))
+
+-- whether a name fits there
+module _ (root : Root) (used : ℕ) (old now : Text-reader) (stays : now ≡ at_token old now.next) where
+  pub fits : now.next.kind ≡ kinds.name → admitted root used (lexeme now.text.now now.next) ≡ true → name_fits root used (lexeme old.text.now now.next) ≡ true
+  unfolding name_fits
+  fits k e = let there : admitted root used (lexeme old.text.now now.next) ≡ true = rw (same_text old stays) at e in rw (eq-eqb _ _ k) there
+
+  pub unfit_kind : (now.next.kind ≡ kinds.name → ⊥) → name_fits root used (lexeme old.text.now now.next) ≡ false
+  unfolding name_fits
+  unfit_kind n = rw (ne_eqb now.next.kind kinds.name n)
+
+  pub unfit : now.next.kind ≡ kinds.name → admitted root used (lexeme now.text.now now.next) ≡ false → name_fits root used (lexeme old.text.now now.next) ≡ false
+  unfolding name_fits
+  unfit k e = let there : admitted root used (lexeme old.text.now now.next) ≡ false = rw (same_text old stays) at e in rw (eq-eqb _ _ k) there
 
 -- ---- attributes
 

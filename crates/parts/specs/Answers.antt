@@ -1,8 +1,7 @@
 -- What the code answers of what the reader of tokens says. `es e a` are the entries of a value a of which the first is number e. Definitions only.
-use Rattle.std.specs.Prelude.{List, [], ◌∷◌, Bool, ◌&&◌, cond, ◌≡◌, ℕ, ◌+◌, ◌-◌, ◌^◌, ◌≤◌, ◌<◌, length, eqb, ltb}
+use Rattle.std.specs.Prelude.{List, [], ◌∷◌, Bool, ◌&&◌, cond, ◌≡◌, ℕ, ◌+◌, ◌-◌, ◌^◌, ◌≤◌, ◌<◌, length, eqb, ltb, Option, Some, None, Result, Ok, Err}
 use Rattle.tokens.specs.declared.reader.Token.{Token}
 use Rattle.tokens.specs.Kinds as kinds
-use Rattle.tokens.specs.Table.{class_table}
 use Rattle.tokens.specs.Tokens.{token_at, Reads}
 use Rattle.reading.specs.Lexemes.{Lexeme, size, stream}
 use Rattle.reading.specs.Reader as reader
@@ -14,20 +13,16 @@ use Rattle.table.specs.declared.Entry.{Entry}
 use Rattle.table.specs.Entries.{which_kind}
 use Rattle.table.specs.Layout.{put_at, puts, entry_is, held}
 use Rattle.parts.specs.declared.answers.Refusal.{Refusal}
-use Rattle.parts.specs.declared.answers.Answer.{Answer}
-use Rattle.parts.specs.declared.answers.Answer.TheVariants.{Read, Refused}
+use Rattle.parts.specs.declared.answers.Reader.{Reader}
 use Rattle.parts.specs.declared.paths.Path.{Path}
-use Rattle.parts.specs.declared.paths.Way.{Way}
-use Rattle.parts.specs.declared.paths.Way.TheVariants.{Found, Lost}
 
 -- a refusal by its number, and the start and the size of the refused token
 abbrev pub refusal : ℕ → ℕ → ℕ → Refusal
 refusal number start size = record { number = number; start = start; size = size }
 
--- what every reader may count on: the class table is lent, the token that stands next lies in the text at or after the place `from`, and the text is no
+-- what every reader may count on: the token that stands next lies in the text at or after the place `from`, and the text is no
 -- longer than any can be
-pub record ReadyToRead (classes text : List ℕ) (from : ℕ) (t : Token) : Type 0 where
-  pub table : classes ≡ class_table
+pub record ReadyToRead (text : List ℕ) (from : ℕ) (t : Token) : Type 0 where
   pub lies : Reads text from t
   pub small : length text < 2 ^ 60
 
@@ -63,76 +58,81 @@ pub record Taken {A : Type 0} (es : ℕ → A → List Entry) (text seen : List 
   pub room : free + from ≤ next.start + first
   pub counted : EntriesCounted seen (es first value) first same free ok
 
--- an answer: what was read, or what was refused
-pub data AnswerIs {A : Type 0} (es : ℕ → A → List Entry) (text seen : List ℕ) (from first : ℕ) (same : Bool) (p : reader.Answer A) : Answer → Type 0 where
-  read : {next : Token} {free : ℕ} {ok : Bool} → Taken es text seen from first same p next free ok → AnswerIs es text seen from first same p (Read next free ok)
-  refused : {f : Refusal} → TurnedAway text p f → AnswerIs es text seen from first same p (Refused f)
+-- an answer, by the token that stands next, the next free number and whether all is the same then: what was read; or what was refused, that token by its number
+pub data AnswerIs {A : Type 0} (es : ℕ → A → List Entry) (text seen : List ℕ) (from first : ℕ) (same : Bool) (p : reader.Answer A) (next : Token) (free : ℕ) (ok : Bool)
+    : Result (Unit {0}) ℕ → Type 0 where
+  read : {u : Unit {0}} → Taken es text seen from first same p next free ok → AnswerIs es text seen from first same p next free ok (Ok u)
+  refused : {number : ℕ} → TurnedAway text p (turned_away (length text) number next) → AnswerIs es text seen from first same p next free ok (Err number)
 
 -- what was read is in the table, as far as the table goes, and no other byte has changed; of a refusal nothing is said
 pub data Put {A : Type 0} (es : ℕ → A → List Entry) (first : ℕ) (old new : List ℕ) : reader.Answer A → Type 0 where
   put : {a : A} {r : List Lexeme} → new ≡ puts old first (es first a) → Put es first old new (took a r)
   no_put : {n : ℕ} {r : List Lexeme} → Put es first old new (refuse n r)
 
--- the readers' promise
-pub record Done {A : Type 0} (es : ℕ → A → List Entry) (text seen : List ℕ) (from first : ℕ) (same : Bool) (old new : List ℕ) (p : reader.Answer A) (r : Answer)
-    : Type 0 where
-  pub says : AnswerIs es text seen from first same p r
-  pub wrote : Put es first old new p
+-- a reader is lent what it was lent
+pub record Keeps (old new : Reader) : Type 0 where
+  pub text : new.text ≡ old.text
+  pub seen : new.seen ≡ old.seen
+  pub table : new.table.ghost_name ≡ old.table.ghost_name
 
--- the same of a reader that goes on at the token t, before which k tokens at least are read of what it reads
-abbrev pub DoneAt : {A : Type 0} → (ℕ → A → List Entry) → List ℕ → List ℕ → Token → ℕ → ℕ → Bool → List ℕ → List ℕ → (List Lexeme → reader.Answer A) → Answer
-    → Type 0
-DoneAt es text seen t k first same old new reads r = Done es text seen (t.start - k) first same old new (reads (stream text t)) r
+-- the promise of what reads on from the place `from`
+pub record DoneFrom {A : Type 0} (es : ℕ → A → List Entry) (from : ℕ) (p : reader.Answer A) (old new : Reader) (r : Result (Unit {0}) ℕ) : Type 0 where
+  pub keeps : Keeps old new
+  pub says : AnswerIs es old.text.now old.seen.now from old.free old.same p new.next new.free new.same r
+  pub wrote : Put es old.free old.table.now new.table.now p
+
+-- the same from the token that stands next
+abbrev pub Done : {A : Type 0} → (ℕ → A → List Entry) → (List Lexeme → reader.Answer A) → Reader → Reader → Result (Unit {0}) ℕ → Type 0
+Done es reads old new r = DoneFrom es old.next.start (reads (stream old.text.now old.next)) old new r
+
+-- and where k tokens at least are read before that one, of what it reads
+abbrev pub DoneAt : {A : Type 0} → (ℕ → A → List Entry) → ℕ → (List Lexeme → reader.Answer A) → Reader → Reader → Result (Unit {0}) ℕ → Type 0
+DoneAt es k reads old new r = DoneFrom es (old.next.start - k) (reads (stream old.text.now old.next)) old new r
+
+-- a reader at another token
+abbrev pub at_token : Reader → Token → Reader
+at_token r t = record { text = r.text; table = r.table; seen = r.seen; next = t; free = r.free; same = r.same }
 
 -- ---- paths
 
--- the kind of the entry of the call that begins after a path, and 0 where none does
-unfoldable pub call_after : parser.Way → ℕ
-call_after (uncalled p) = 0
-call_after (calling p w) = which_kind w
+-- the kind of the entry of the call that begins after a path, if one does
+unfoldable pub call_after : parser.Way → Option ℕ
+call_after (uncalled p) = None
+call_after (calling p w) = Some (which_kind w)
 
--- where a path was found, and what stands after it
-pub record PathWalked (text : List ℕ) (from : ℕ) (p : reader.Answer parser.Way) (w : Path) : Type 0 where
+-- where a path was found, and the token that stands after it
+pub record PathWalked (text : List ℕ) (from : ℕ) (p : reader.Answer parser.Way) (next : Token) (w : Path) : Type 0 where
   pub way : parser.Way
-  pub is : p ≡ took way (stream text w.next)
+  pub is : p ≡ took way (stream text next)
   pub span_is : spanned_by way ≡ span w.start w.end
   pub call_is : call_after way ≡ w.call
-  pub lies : Reads text (from + 1) w.next
+  pub lies : Reads text (from + 1) next
 
--- the same of a path
-pub data PathWalks (text : List ℕ) (from : ℕ) (p : reader.Answer parser.Way) : Way → Type 0 where
-  found : {w : Path} → PathWalked text from p w → PathWalks text from p (Found w)
-  lost : {f : Refusal} → TurnedAway text p f → PathWalks text from p (Lost f)
+-- an answer: a path, or what was refused
+pub data PathIs (text : List ℕ) (from : ℕ) (p : reader.Answer parser.Way) (next : Token) : Result Path ℕ → Type 0 where
+  found : {w : Path} → PathWalked text from p next w → PathIs text from p next (Ok w)
+  lost : {number : ℕ} → TurnedAway text p (turned_away (length text) number next) → PathIs text from p next (Err number)
+
+-- the promise of a path's reader: it goes on to the token that stands after the path, and nothing else changes
+pub record PathWalks (reads : List Lexeme → reader.Answer parser.Way) (old new : Reader) (r : Result Path ℕ) : Type 0 where
+  pub stays : new ≡ at_token old new.next
+  pub says : PathIs old.text.now old.next.start (reads (stream old.text.now old.next)) new.next r
 
 -- ---- parts of the code that read nothing of their own
 
--- the next free entry, and 0 after a refusal
-abbrev pub free_of : Answer → ℕ
-free_of (Read next free same) = free
-free_of (Refused f) = 0
+-- on to the token after the one that stands next
+abbrev pub passed : Reader → Reader
+passed r = at_token r (token_at r.text.now r.next.end)
 
--- there are entries from number `from` on, none or more
-abbrev pub Counts : ℕ → Answer → Type 0
-Counts from (Read next free same) = from ≤ free
-Counts from (Refused f) = Unit {0}
+-- one entry more is put and compared
+pub record PutBy (x : Entry) (old new : Reader) : Type 0 where
+  pub keeps : Keeps old new
+  pub next : new.next ≡ old.next
+  pub free : new.free ≡ old.free + 1
+  pub same : new.same ≡ (old.same && entry_is old.seen.now old.free x)
+  pub put : new.table.now ≡ put_at old.table.now old.free x
 
--- the token that stands next lies in the text
-abbrev pub Next : List ℕ → Answer → Type 0
-Next text (Read next free same) = Reads text 0 next
-Next text (Refused f) = Unit {0}
-
--- an answer and one entry more, which may go by its number
-unfoldable pub closed_of : List ℕ → (ℕ → Entry) → Answer → Answer
-closed_of seen x (Read next free same) = Read next (free + 1) (same && entry_is seen free (x free))
-closed_of seen x (Refused f) = Refused f
-
--- after an answer an entry is put at the next free place; after a refusal nothing is
-abbrev pub EntryPut : List ℕ → (ℕ → Entry) → Answer → List ℕ → Type 0
-EntryPut old x (Read next free same) new = new ≡ put_at old free (x free)
-EntryPut old x (Refused f) new = new ≡ old
-
--- an answer after which a token of a kind must stand
-unfoldable pub expected_of : List ℕ → ℕ → Answer → Answer
-expected_of text kind (Read t free same) =
-    cond (eqb t.kind kind) (Read (token_at text t.end) free same) (Refused (turned_away (length text) 10 t))
-expected_of text kind (Refused f) = Refused f
+-- a token of a kind must stand next, and is passed; any other is refused, and all stays
+pub data Expected (kind : ℕ) (old : Reader) : Reader → Result (Unit {0}) ℕ → Type 0 where
+  stood : {u : Unit {0}} → old.next.kind ≡ kind → Expected kind old (passed old) (Ok u)
+  other : (old.next.kind ≡ kind → ⊥) → Expected kind old old (Err 10)

@@ -1,5 +1,5 @@
 -- What the code tells by a token's kind alone, or by a flag. Definitions only.
-use Rattle.std.specs.Prelude.{Bool, true, false, cond, ◌&&◌, List, [], ℕ, eqb}
+use Rattle.std.specs.Prelude.{Bool, true, false, cond, ◌&&◌, List, [], ℕ, eqb, Option, Some, None}
 use Rattle.tokens.specs.Kinds as kinds
 use Rattle.reading.specs.Lexemes.{Lexeme, is}
 use Rattle.grammar.specs.Policies.{Root, Comparator, Which.All, Which.Any}
@@ -24,13 +24,14 @@ unfoldable pub exit_of : Bool → Lexeme → Bool
 exit_of true = is_contains
 exit_of false = no_exit
 
--- the kind of the entry of the call that a word begins, and 0 where it begins none
-unfoldable pub call_of : Bool → ℕ → ℕ
-call_of left word = cond (left && eqb word kinds.contains_all_word) (which_kind All) (cond (left && eqb word kinds.contains_any_word) (which_kind Any) 0)
+-- the kind of the entry of the call that a word begins, if it begins one
+unfoldable pub call_of : Bool → ℕ → Option ℕ
+call_of left word =
+    cond (left && eqb word kinds.contains_all_word) (Some (which_kind All)) (cond (left && eqb word kinds.contains_any_word) (Some (which_kind Any)) None)
 
--- the kind of a comparator's entry, and 0 for a token that is none
-unfoldable pub comparing : ℕ → ℕ
-comparing kind = cond (is_comparator (of_kind kind)) (comparator_kind (comparator_from kind)) 0
+-- the kind of a comparator's entry, if a token is one
+unfoldable pub comparing : ℕ → Option ℕ
+comparing kind = cond (is_comparator (of_kind kind)) (Some (comparator_kind (comparator_from kind))) None
 
 -- which literals a list may have: strings only, or any
 unfoldable pub sort_of : Bool → Lexeme → Bool

@@ -1,8 +1,8 @@
-// What a reader answers, how a token is refused, and what closes a thing that was read.
-ghost use Rattle.std.specs.Prelude.{◌≡◌, ◌-◌, ◌<◌, ◌≤◌, ◌^◌, length};
-ghost use Rattle.tokens.specs.Table.{class_table};
+// The reader of a text: how far it has read, how a token is refused, and what must stand after a thing that was read.
+ghost use Rattle.std.specs.Prelude.{◌≡◌, ◌<◌, ◌≤◌, ◌^◌, length};
+ghost use Rattle.tokens.specs.Tokens.{Reads};
 ghost use Rattle.table.specs.Entries.{entry};
-ghost use Rattle.parts.specs.Answers.{turned_away, Next, free_of, Counts, closed_of, EntryPut, expected_of};
+ghost use Rattle.parts.specs.Answers.{turned_away, passed, PutBy, Expected};
 
 use crate::refusals;
 use table::{Entry, append};
@@ -18,16 +18,64 @@ pub struct Refusal {
     pub size: usize,
 }
 
-// What a reader answers: the token after what it read, the next free entry and whether the table that is seen has the entries so far; or a refusal.
-#[derive(Clone, Copy)]
-pub enum Answer {
-    Read(Token, usize, bool),
-    Refused(Refusal),
+// A text while it is read: the token that stands next; the table that is written, and the number of its next entry; and the table that is seen, with which the entries are compared, and whether it
+// has all entries before that one.
+#[derive(Drop)]
+pub struct Reader<'a> {
+    pub text: &'a [u8],
+    pub table: &'a mut [u8],
+    pub seen: &'a [u8],
+    pub next: Token,
+    pub free: usize,
+    pub same: bool,
+}
+
+impl<'a> Reader<'a> {
+    // On to the token after the one that stands next.
+    pub fn pass(&mut self)
+        requires { self.old.next.end ≤ length self.old.text.now }
+        ensures { self.new ≡ passed self.old }
+    {
+        self.next = next_token(self.text, self.next.end);
+    }
+
+    // One entry more, of this kind and with these fields: it is put into the table, and compared with what is seen there.
+    pub fn put(&mut self, kind: u8, first: usize, second: usize)
+        requires { self.old.free < 2 ^ 60 }
+        ensures { PutBy (entry kind first second) self.old self.new }
+    {
+        let x = Entry {
+            kind,
+            first,
+            second,
+        };
+        self.same = append(self.table, self.seen, self.free, self.same, x);
+        self.free += 1;
+    }
+
+    // The same of an entry that was made.
+    pub fn put_entry(&mut self, x: Entry)
+        requires { self.old.free < 2 ^ 60 }
+        ensures { PutBy x self.old self.new }
+    {
+        self.put(x.kind, x.first, x.second);
+    }
+
+    // A token of a kind must stand next, and is passed; any other is refused.
+    pub fn expect(&mut self, kind: u8) -> Result<(), u8>
+        requires { Reads self.old.text.now 0 self.old.next }
+        ensures { Expected kind self.old self.new result }
+    {
+        if self.next.kind != kind {
+            return Err(refusals::NOT_ADMITTED);
+        }
+        self.pass();
+        Ok(())
+    }
 }
 
 // The refusal of a token: by its own number where it is no token; the end of the text is not admitted.
 pub fn turned_away(text: &[u8], t: Token, number: u8) -> Refusal
-    requires { t.start ≤ t.end }
     ensures { result ≡ turned_away (length text.now) number t }
 {
     if t.kind == kinds::END_OF_TEXT {
@@ -37,67 +85,13 @@ pub fn turned_away(text: &[u8], t: Token, number: u8) -> Refusal
             size: 0,
         };
     }
-    if t.kind <= kinds::TOO_LONG {
-        return Refusal {
-            number: t.kind,
-            start: t.start,
-            size: t.end - t.start,
-        };
-    }
     Refusal {
-        number,
-        start: t.start,
-        size: t.end - t.start,
-    }
-}
-
-// One entry more after what was read: it is put into the table, and compared with what is seen there.
-pub fn closed(table: &mut [u8], seen: &[u8], last: Answer, x: Entry) -> Answer
-    requires { free_of last < 2 ^ 60 }
-    ensures { (result ≡ closed_of seen.now (λ free. x) last)
-        × EntryPut table.old (λ free. x) last table.new }
-{
-    let Answer::Read(next, free, same) = last else {
-        return last;
-    };
-    let ok = append(table, seen, free, same, x);
-    Answer::Read(next, free + 1, ok)
-}
-
-// The same, where the entry says how many entries there are from number `from` on.
-pub fn counted(table: &mut [u8], seen: &[u8], last: Answer, kind: u8, from: usize) -> Answer
-    requires { (free_of last < 2 ^ 60) × Counts from last }
-    ensures { (result ≡ closed_of seen.now (λ free. entry kind (free - from) 0) last)
-        × EntryPut table.old (λ free. entry kind (free - from) 0) last table.new }
-{
-    let Answer::Read(next, free, same) = last else {
-        return last;
-    };
-    let ok = append(
-        table,
-        seen,
-        free,
-        same,
-        Entry {
-            kind,
-            first: free - from,
-            second: 0,
+        number: if t.kind <= kinds::TOO_LONG {
+            t.kind
+        } else {
+            number
         },
-    );
-    Answer::Read(next, free + 1, ok)
-}
-
-// A token of a kind must stand after what was read.
-pub fn expected(classes: &[u8; 256], text: &[u8], last: Answer, kind: u8) -> Answer
-    requires { (classes.now ≡ class_table) × Next text.now last }
-    ensures { result ≡ expected_of text.now kind last }
-{
-    let Answer::Read(t, free, same) = last else {
-        return last;
-    };
-    if t.kind == kind {
-        let next = next_token(classes, text, t.end);
-        return Answer::Read(next, free, same);
+        start: t.start,
+        size: t.end.saturating_sub(t.start),
     }
-    Answer::Refused(turned_away(text, t, refusals::NOT_ADMITTED))
 }

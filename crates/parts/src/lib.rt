@@ -1,6 +1,5 @@
-// What every reader of a text answers, and the readers of paths, operands and lists.
-// Each gets the token that stands next, puts the entries of what it reads into one table and compares them with another, which is `seen`:
-// `number` is that of the next entry, and `same` says whether all entries before it are the same.
+// What every reader of a text is given and answers, and the readers of paths, operands and lists.
+// Each goes on from what is reached, puts the entries of what it reads into one table, compares them with another, and answers what is reached then, or a refusal.
 #![tactic(auto)]
 
 pub mod answers;
@@ -8,4 +7,3 @@ pub mod attributes;
 pub mod lists;
 pub mod paths;
 pub mod refusals;
-pub mod short;

@@ -1,17 +1,16 @@
 // Literals, and lists of them.
 ghost use Rattle.std.specs.Prelude.{◌≡◌, []};
 ghost use Rattle.tokens.specs.Tokens.{Reads};
-ghost use Rattle.reading.specs.Lexemes.{lexeme, stream};
+ghost use Rattle.reading.specs.Lexemes.{lexeme};
 ghost use Rattle.grammar.specs.Rules.{is_literal, is_text, literal_of};
 ghost use Rattle.grammar.specs.Parser.{is_text_of, no_text, read_list};
 ghost use Rattle.table.specs.Entries.{literal_entry, literal_entries};
 ghost use Rattle.parts.specs.Answers.{ReadyToRead, Done};
 ghost use Rattle.parts.specs.Names.{sort_of};
 
-use crate::answers::{Answer, expected, turned_away};
+use crate::answers::Reader;
 use crate::refusals;
-use table::{Entry, append, entries};
-use token_reader::next_token;
+use table::{Entry, entries};
 use tokens::kinds;
 use tokens::reader::Token;
 use tokens::sizes::MOST_LITERALS;
@@ -21,8 +20,10 @@ use utf8::{is_ascii, is_utf8};
 pub fn is_literal(t: Token) -> bool
     ensures { result ≡ is_literal (lexeme [] t) }
 {
-    let k = t.kind;
-    (k == kinds::STRING) | (k == kinds::NUMBER) | ((k == kinds::TRUE) | (k == kinds::FALSE))
+    matches!(
+        t.kind,
+        kinds::STRING | kinds::NUMBER | kinds::TRUE | kinds::FALSE
+    )
 }
 
 // Whether what a string has between its quotes is UTF-8; any other token passes. Most strings are ASCII, which is asked with fewer instructions.
@@ -49,11 +50,7 @@ pub fn is_text_literal(text: &[u8], t: Token) -> bool
     requires { Reads text.now 0 t }
     ensures { result ≡ is_text_of is_literal (lexeme text.now t) }
 {
-    if is_literal(t) {
-        is_text(text, t)
-    } else {
-        false
-    }
+    is_literal(t) && is_text(text, t)
 }
 
 // The number by which a token is refused where a string may stand.
@@ -71,32 +68,27 @@ pub fn no_text(t: Token) -> u8
 pub fn literal_entry(t: Token) -> Entry
     ensures { result ≡ literal_entry (literal_of (lexeme [] t)) }
 {
-    if t.kind == kinds::STRING {
-        return Entry {
+    match t.kind {
+        kinds::STRING => Entry {
             kind: entries::STRING,
             first: t.start,
             second: t.end,
-        };
-    }
-    if t.kind == kinds::NUMBER {
-        return Entry {
+        },
+        kinds::NUMBER => Entry {
             kind: entries::NUMBER,
             first: t.start,
             second: t.end,
-        };
-    }
-    if t.kind == kinds::TRUE {
-        Entry {
+        },
+        kinds::TRUE => Entry {
             kind: entries::TRUE,
             first: 0,
             second: 0,
-        }
-    } else {
-        Entry {
+        },
+        _ => Entry {
             kind: entries::FALSE,
             first: 0,
             second: 0,
-        }
+        },
     }
 }
 
@@ -112,39 +104,27 @@ fn is_sort(strings: bool, t: Token) -> bool
 }
 
 // A list after its `[`: 1 to 16 literals with commas between them, and `]`.
-pub fn read_list(
-    classes: &[u8; 256],
-    text: &[u8],
-    table: &mut [u8],
-    seen: &[u8],
-    strings: bool,
-    t: Token,
-    number: usize,
-    same: bool,
-) -> Answer
-    requires { ReadyToRead classes.now text.now number t }
-    ensures { Done (λ e. literal_entries) text.now seen.now t.start number same table.old table.new
-        (read_list (sort_of strings) (stream text.now t)) result }
+pub fn read_list(reader: &mut Reader, strings: bool) -> Result<(), u8>
+    requires { ReadyToRead reader.old.text.now reader.old.free reader.old.next }
+    ensures { Done (λ e. literal_entries) (read_list (sort_of strings)) reader.old reader.new result }
 {
-    let mut at = t;
-    let mut free = number;
-    let mut ok = same;
+    let first = reader.free;
     loop {
-        if !is_sort(strings, at) {
-            return Answer::Refused(turned_away(text, at, refusals::NOT_ADMITTED));
+        let t = reader.next;
+        if !is_sort(strings, t) {
+            return Err(refusals::NOT_ADMITTED);
         }
-        if MOST_LITERALS <= free - number {
-            return Answer::Refused(turned_away(text, at, refusals::TOO_MANY_LITERALS));
+        if MOST_LITERALS <= reader.free - first {
+            return Err(refusals::TOO_MANY_LITERALS);
         }
-        if !is_text(text, at) {
-            return Answer::Refused(turned_away(text, at, refusals::NOT_UTF8));
+        if !is_text(reader.text, t) {
+            return Err(refusals::NOT_UTF8);
         }
-        ok = append(table, seen, free, ok, literal_entry(at));
-        free += 1;
-        let comma = next_token(classes, text, at.end);
-        if comma.kind != b',' {
-            return expected(classes, text, Answer::Read(comma, free, ok), b']');
+        reader.pass();
+        reader.put_entry(literal_entry(t));
+        if reader.next.kind != b',' {
+            return reader.expect(b']');
         }
-        at = next_token(classes, text, comma.end);
+        reader.pass();
     }
 }

@@ -1,7 +1,7 @@
 // Paths: names joined by dots.
 ghost use Rattle.std.specs.Prelude.{◌≡◌, [], ◌∷◌, ◌≤◌, ◌^◌};
 ghost use Rattle.tokens.specs.Tokens.{Reads};
-ghost use Rattle.reading.specs.Lexemes.{lexeme, stream};
+ghost use Rattle.reading.specs.Lexemes.{lexeme};
 ghost use Rattle.grammar.specs.Rules.{is_root, admitted};
 ghost use Rattle.grammar.specs.Parser.{no_name, read_way, read_path};
 ghost use Rattle.grammar.specs.Policies.{root_byte};
@@ -9,29 +9,20 @@ ghost use Rattle.table.specs.Entries.{has_kind, placed};
 ghost use Rattle.parts.specs.Answers.{ReadyToRead, Done, PathWalks};
 ghost use Rattle.parts.specs.Names.{root_from, exit_of, call_of};
 
-use crate::answers::{Answer, Refusal, turned_away};
+use crate::answers::Reader;
 use crate::refusals;
 use slices::same;
-use table::{Entry, append, entries};
-use token_reader::next_token;
+use table::entries;
 use tokens::kinds;
 use tokens::reader::Token;
 use tokens::sizes::MOST_PATH_BYTES;
 
-// Where a path starts and ends, the kind of the call that begins after it or 0, and the token after all that.
+// Where a path starts and ends, and the kind of the entry of the call that begins after it, if one does.
 #[derive(Clone, Copy)]
 pub struct Path {
     pub start: usize,
     pub end: usize,
-    pub call: u8,
-    pub next: Token,
-}
-
-// What the reader of a path answers.
-#[derive(Clone, Copy)]
-pub enum Way {
-    Found(Path),
-    Lost(Refusal),
+    pub call: Option<u8>,
 }
 
 // Whether a token is a root.
@@ -45,16 +36,11 @@ pub fn is_root(t: Token) -> bool
 pub fn root_kind(root: u8) -> u8
     ensures { result ≡ root_byte (root_from root) }
 {
-    if root == kinds::PRINCIPAL {
-        return entries::PRINCIPAL;
-    }
-    if root == kinds::RESOURCE {
-        return entries::RESOURCE;
-    }
-    if root == kinds::ACTION {
-        entries::ACTION
-    } else {
-        entries::ENV
+    match root {
+        kinds::PRINCIPAL => entries::PRINCIPAL,
+        kinds::RESOURCE => entries::RESOURCE,
+        kinds::ACTION => entries::ACTION,
+        _ => entries::ENV,
     }
 }
 
@@ -65,17 +51,14 @@ pub fn has_kind(root: u8) -> u8
     root_kind(root) + entries::ROOTS
 }
 
-// The kind of the entry of a call by the word's kind, and 0 where the word is none of the two or none may stand there.
-fn call_kind(left: bool, word: u8) -> u8
+// The kind of the entry of the call that a word begins; None where the word is none of the two or none may stand there.
+fn call_kind(left: bool, word: u8) -> Option<u8>
     ensures { result ≡ call_of left word }
 {
-    if left & (word == kinds::CONTAINS_ALL) {
-        return entries::CONTAINS_ALL;
-    }
-    if left & (word == kinds::CONTAINS_ANY) {
-        entries::CONTAINS_ANY
-    } else {
-        0
+    match word {
+        kinds::CONTAINS_ALL if left => Some(entries::CONTAINS_ALL),
+        kinds::CONTAINS_ANY if left => Some(entries::CONTAINS_ANY),
+        _ => None,
     }
 }
 
@@ -111,77 +94,45 @@ fn is_admitted(text: &[u8], root: u8, used: usize, t: Token) -> bool
 }
 
 // A path. Where it is a left operand, containsAll or containsAny may end it after a dot.
-pub fn read_way(classes: &[u8; 256], text: &[u8], root: u8, left: bool, t: Token) -> Way
-    requires { ReadyToRead classes.now text.now 0 t }
-    ensures { PathWalks text.now t.start (read_way (exit_of left) (root_from root) (stream text.now t)) result }
+pub fn read_way(reader: &mut Reader, root: u8, left: bool) -> Result<Path, u8>
+    requires { ReadyToRead reader.old.text.now 0 reader.old.next }
+    ensures { PathWalks (read_way (exit_of left) (root_from root)) reader.old reader.new result }
 {
-    let start = t.start;
-    let mut name = t;
+    let start = reader.next.start;
     let mut used = 0;
     loop {
-        let fits = is_admitted(text, root, used, name);
-        if !((name.kind == kinds::NAME) & fits) {
-            return Way::Lost(turned_away(text, name, no_name(root, name)));
+        let name = reader.next;
+        if name.kind != kinds::NAME || !is_admitted(reader.text, root, used, name) {
+            return Err(no_name(root, name));
         }
         let end = name.end;
-        let dot = next_token(classes, text, end);
-        if dot.kind != b'.' {
-            return Way::Found(Path {
+        reader.pass();
+        if reader.next.kind != b'.' {
+            return Ok(Path {
                 start,
                 end,
-                call: 0,
-                next: dot,
+                call: None,
             });
         }
-        let word = next_token(classes, text, dot.end);
-        let call = call_kind(left, word.kind);
-        if call != 0 {
-            let next = next_token(classes, text, word.end);
-            return Way::Found(Path {
+        reader.pass();
+        if let Some(call) = call_kind(left, reader.next.kind) {
+            reader.pass();
+            return Ok(Path {
                 start,
                 end,
-                call,
-                next,
+                call: Some(call),
             });
         }
-        used = used + (end - name.start) + 1;
-        name = word;
+        used += end - name.start + 1;
     }
 }
 
 // A path, with its entry of a kind.
-pub fn read_placed(
-    classes: &[u8; 256],
-    text: &[u8],
-    table: &mut [u8],
-    seen: &[u8],
-    root: u8,
-    kind: u8,
-    t: Token,
-    number: usize,
-    same: bool,
-) -> Answer
-    requires { ReadyToRead classes.now text.now number t }
-    ensures { Done (λ e s. placed kind s ∷ []) text.now seen.now t.start number same table.old table.new
-        (read_path (root_from root) (stream text.now t)) result }
+pub fn read_placed(reader: &mut Reader, root: u8, kind: u8) -> Result<(), u8>
+    requires { ReadyToRead reader.old.text.now reader.old.free reader.old.next }
+    ensures { Done (λ e s. placed kind s ∷ []) (read_path (root_from root)) reader.old reader.new result }
 {
-    let way = read_way(classes, text, root, false, t);
-    match way {
-        Way::Lost(f) => Answer::Refused(f),
-        Way::Found(p) => {
-            let next = p.next;
-            let ok = append(
-                table,
-                seen,
-                number,
-                same,
-                Entry {
-                    kind,
-                    first: p.start,
-                    second: p.end,
-                },
-            );
-            Answer::Read(next, number + 1, ok)
-        }
-    }
+    let path = read_way(reader, root, false)?;
+    reader.put(kind, path.start, path.end);
+    Ok(())
 }

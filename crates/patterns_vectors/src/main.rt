@@ -3,26 +3,25 @@
 #![tactic(auto)]
 
 use std::io::Read;
+use vectors::{read_part, vector_count};
 
 // One vector: both parts have at most 256 bytes.
 fn vector<P: Print, R: Read>(rt: &P, input: &mut R) {
     let mut pattern = [0u8; 256];
     let mut string = [0u8; 256];
-    let p = vectors::read_part(input, &mut pattern);
-    let s = vectors::read_part(input, &mut string);
-    if !utf8::is_utf8(&pattern[..p]) {
-        vectors::print_number(rt, 2, b'\n');
-        return;
-    }
-    let yes = patterns::like(&pattern[..p], &string[..s]);
-    vectors::print_number(rt, yes as u64, b'\n');
+    let p = read_part(input, &mut pattern);
+    let s = read_part(input, &mut string);
+    let told = if utf8::is_utf8(&pattern[..p]) {
+        u8::from(patterns::like(&pattern[..p], &string[..s]))
+    } else {
+        2
+    };
+    let _ = println!(rt; "{told}");
 }
 
 fn main(rt: HostRuntime) {
     let mut input = rt.reader();
-    let mut left = vectors::vector_count(&mut input);
-    while left > 0 {
+    for _ in 0..vector_count(&mut input) {
         vector(&rt, &mut input);
-        left -= 1;
     }
 }

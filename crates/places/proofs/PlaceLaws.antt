@@ -1,15 +1,19 @@
 -- The place one byte further, the end of a string, and that a character takes one column. Assumes nothing.
 use mathlib.Core.Path.{◌≡◌, refl, sym, ◌∙◌, ap}
-use mathlib.Core.Bool.{true, false}
-use mathlib.Core.List.{List, [], ◌∷◌, ◌++◌, append-nil, append_assoc}
+use mathlib.Core.Bool.{Bool, true, false, cond, not}
+use mathlib.Core.List.{List, [], ◌∷◌}
 use Prim.Native.Nat.{ℕ, suc, ◌+◌, ◌-◌, ◌≤◌, ◌<◌}
 use Prim.Native.Char.{code}
 use native.Mathlib.Numerals.{add-one}
 use native.Mathlib.Omega.{arith}
-use borrow.Author.Tests.{eq-eqb, ne_eqb, le-leb, lt-leb}
-use lib.Dec.{eqb}
-use lib.ListN.{length, take, drop, get_or, drop_of_length-le}
-use lib.Seq.{take-suc, drop-cons}
+use borrow.Author.Tests.{ne_eqb, le-leb, lt-leb, ltb-false}
+use lib.Dec.{eqb, ltb}
+use lib.ListN.{length, take, drop, get_or}
+use lib.Seq.{drop-cons}
+use Rattle.std.proofs.Common.{Option, Some, None}
+use Rattle.std.specs.List.{position_or_len}
+use Rattle.std.specs.Option.{unwrap_or}
+use Rattle.std.proofs.lemmas.List.Sums.{prefix_len-le-length}
 use Rattle.utf8.specs.Characters.{Bits, one, two, three, four}
 use Rattle.utf8.specs.Reading.{goes_on_character}
 use Rattle.places.specs.Places.{place, up_to_quote, behind_byte, columns_taken, past, past_all, OneColumn}
@@ -48,20 +52,32 @@ no_further text at i k p h = rw (none_left at i h) refl
 
 -- ---- the end of a string
 
--- no quote stands at i: the string goes on behind it
-pub string_on : (text : List ℕ) (i : ℕ) → i < length text → (get_or text i 0 ≡ code "\"" → ⊥) → take i text ++ up_to_quote (drop i text) ≡ take (i + 1) text ++ up_to_quote (drop (i + 1) text)
-unfolding up_to_quote
-string_on text i h ne = rw (drop-cons text i 0 h, ne_eqb (get_or text i 0) (code "\"") ne, add-one, take-suc text i 0 h, append_assoc) refl
+unfoldable pub is_quote : ℕ → Bool
+is_quote b = eqb b (code "\"")
 
--- a quote stands there: the string ends
-pub string_ends : (text : List ℕ) (i : ℕ) → i < length text → get_or text i 0 ≡ code "\"" → take i text ++ up_to_quote (drop i text) ≡ take i text
-unfolding up_to_quote
-string_ends text i h e = rw (drop-cons text i 0 h, eq-eqb (get_or text i 0) (code "\"") e) (append-nil _)
+one_plus : {n : ℕ} → 1 + n ≡ suc n
+one_plus = omega arith
 
--- the text ends
-pub string_cut : (text : List ℕ) (i : ℕ) → length text ≤ i → take i text ++ up_to_quote (drop i text) ≡ take i text
-unfolding up_to_quote
-string_cut text i h = rw (drop_of_length-le text h) (append-nil _)
+-- it ends where the first quote stands, or with the text
+pub string_cut : (text : List ℕ) → take (position_or_len is_quote text) text ≡ up_to_quote text
+unfolding up_to_quote is_quote
+string_cut [] = refl
+string_cut (b ∷ rest) = go (string_cut rest) (eqb b (code "\"")) refl
+  where
+    go : take (position_or_len is_quote rest) rest ≡ up_to_quote rest → (q : Bool) → eqb b (code "\"") ≡ q
+        → take (position_or_len is_quote (b ∷ rest)) (b ∷ rest) ≡ cond q [] (b ∷ up_to_quote rest)
+    go ih true e = rw e refl
+    go ih false e = rw (e, one_plus) (ap (λ (r : List ℕ). b ∷ r) ih)
+
+-- the place of the first quote, or else the text's length
+pub first_or_length : (text : List ℕ) (r : Option ℕ) → r ≡ cond (ltb (position_or_len is_quote text) (length text)) (Some (position_or_len is_quote text)) None
+    → unwrap_or r (length text) ≡ position_or_len is_quote text
+first_or_length text r e = go (ltb (position_or_len is_quote text) (length text)) refl e
+  where
+    go : (b : Bool) → ltb (position_or_len is_quote text) (length text) ≡ b → r ≡ cond b (Some (position_or_len is_quote text)) None
+        → unwrap_or r (length text) ≡ position_or_len is_quote text
+    go true f e = rw e refl
+    go false f e = rw e (omega (arith, ltb-false (position_or_len is_quote text) (length text) f, prefix_len-le-length (λ (b : ℕ). not (is_quote b)) text))
 
 -- ---- characters
 

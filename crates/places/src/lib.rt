@@ -22,23 +22,19 @@ pub enum Counting {
 }
 
 // How many columns a byte takes: one, or none where it goes on a character that counts.
+#[tactic(auto, unfolding(crate::specs::Places::columns_taken))]
 fn columns_taken(k: Counting, b: u8) -> usize
     ensures is { result ≡ columns_taken k b }
     ensures few { result ≤ 1 }
 {
     match k {
-        Counting::Outside => 1,
-        Counting::Characters => {
-            if goes_on(b) {
-                return 0;
-            }
-            1
-        }
-        Counting::Bytes => 1,
+        Counting::Characters if goes_on(b) => 0,
+        _ => 1,
     }
 }
 
 // The place after a byte.
+#[tactic(auto, unfolding(crate::specs::Places::past))]
 fn past_byte(k: Counting, p: Place, b: u8) -> Place
     requires { (p.line + 1 < 2 ^ 64) × (p.column + 1 < 2 ^ 64) }
     ensures is { result ≡ past k b p }
@@ -62,28 +58,22 @@ fn quote_in(rest: &[u8]) -> usize
     ensures is { take result rest.now ≡ up_to_quote rest.now }
     ensures there { result ≤ length rest.now }
 {
-    let mut i = 0;
-    while i < rest.len() {
-        if rest[i] == b'"' {
-            return i;
-        }
-        i += 1;
-    }
-    i
+    rest.iter().position(|&b| b == b'"').unwrap_or(rest.len())
 }
 
 // How the bytes of a string count: it is judged whole, up to the next quote or the end of the text.
 fn judge(rest: &[u8]) -> Counting
     ensures { result ≡ judged rest.now }
 {
-    let end = quote_in(rest);
-    if is_utf8(&rest[..end]) {
-        return Counting::Characters;
+    if is_utf8(&rest[..quote_in(rest)]) {
+        Counting::Characters
+    } else {
+        Counting::Bytes
     }
-    Counting::Bytes
 }
 
 // How the bytes behind the byte b count.
+#[tactic(auto, unfolding(crate::specs::Places::behind_byte))]
 fn behind_byte(k: Counting, b: u8, rest: &[u8]) -> Counting
     ensures { result ≡ behind_byte b rest.now k }
 {
@@ -92,8 +82,7 @@ fn behind_byte(k: Counting, b: u8, rest: &[u8]) -> Counting
     }
     match k {
         Counting::Outside => judge(rest),
-        Counting::Characters => Counting::Outside,
-        Counting::Bytes => Counting::Outside,
+        Counting::Characters | Counting::Bytes => Counting::Outside,
     }
 }
 
@@ -104,12 +93,10 @@ pub fn place_of(text: &[u8], at: usize) -> Place
 {
     let mut p = Place { line: 1, column: 1 };
     let mut k = Counting::Outside;
-    let mut i = 0;
-    while i < at {
+    for i in 0..at {
         let b = text[i];
-        i += 1;
         p = past_byte(k, p, b);
-        k = behind_byte(k, b, &text[i..]);
+        k = behind_byte(k, b, &text[i + 1..]);
     }
     p
 }

@@ -6,6 +6,7 @@ use Prim.Native.Nat.{ℕ, zero, suc, ◌+◌, ◌-◌, ◌*◌, ◌≤◌, ◌<�
 use native.Mathlib.Omega.{arith}
 use borrow.Author.Tests.{le-leb}
 use lib.ListN.{length, take, drop, length-take, length-drop}
+use Rattle.std.specs.Prelude.{Result, Ok, Err}
 use Rattle.questions.specs.Questions.{is_question}
 use Rattle.meaning.specs.Targets.{Request}
 use Rattle.meaning.specs.declared.Decision.{Decision}
@@ -14,47 +15,47 @@ use Rattle.pages.specs.Listing.{yes_of, listed, page_rows, next_row, row_size}
 use Rattle.pages.specs.declared.Page.{Page}
 use Rattle.pages.proofs.Listed.{next_lists, next_within, next_past}
 use Rattle.sheets.specs.Sheets.{rows_asked, decisions, request_refusal, refusal_of, unless, sheet_answer, SheetListed}
-use Rattle.sheets.specs.declared.Answer.{Answer}
-use Rattle.sheets.specs.declared.Answer.TheVariants.{Listed, Refused}
 use Rattle.request_lines.specs.Lines.{request_in, EndsAt, GoesOnAt}
 use Rattle.request_lines.proofs.LineLaws.{lines_cut}
 use Rattle.printing.specs.declared.Printed.{Printed}
-use Rattle.printing.specs.declared.Printed.TheVariants.{Rows, Refusal}
 use Rattle.printing.specs.Printed.{sheet_refusal, Accepted, PagePrinted, page_room, ListedBefore, all_listed, printed_for}
 
 -- ---- refusals
 
 -- the refusal's number of an answer, and 0 where it has none
-abbrev pub refused_by : Answer → ℕ
-refused_by (Listed written next) = 0
-refused_by (Refused number) = number
+abbrev pub refused_by : Result Page ℕ → ℕ
+refused_by (Ok page) = 0
+refused_by (Err number) = number
 
-told_by : (n w o : ℕ) → refused_by (unless n (Listed w o) Refused) ≡ n
+told_by : (n : ℕ) (p : Page) → refused_by (unless n (Ok p) Err) ≡ n
 unfolding unless
-told_by zero w o = refl
-told_by (suc n) w o = refl
+told_by zero p = refl
+told_by (suc n) p = refl
 
-module _ {text table s : List ℕ} {q : Request} {start : ℕ} {page after : List ℕ} {answer : Answer} (l : SheetListed text table s q start page 0 answer after) where
+module _ {text table s : List ℕ} {q : Request} {start : ℕ} {page after : List ℕ} {answer : Result Page ℕ} (l : SheetListed text table s q start page 0 answer after) where
   refusal_is : row_size ≤ length page → start ≤ rows_asked s → refusal_of text table s q start page 0 ≡ sheet_refusal text table s q
   unfolding refusal_of sheet_refusal
   refusal_is long h = rw (le-leb row_size (length page) long, le-leb start (rows_asked s) h)
 
-  pub refusal_told : row_size ≤ length page → start ≤ rows_asked s → {a : Answer} → answer ≡ a → refused_by a ≡ sheet_refusal text table s q
+  pub refusal_told : row_size ≤ length page → start ≤ rows_asked s → {a : Result Page ℕ} → answer ≡ a → refused_by a ≡ sheet_refusal text table s q
   unfolding sheet_answer
-  refusal_told long h e = ap refused_by (sym e ∙ l.answered) ∙ told_by (refusal_of text table s q start page 0) _ _ ∙ refusal_is long h
+  refusal_told long h e = ap refused_by (sym e ∙ l.answered) ∙ told_by (refusal_of text table s q start page 0) _ ∙ refusal_is long h
 
   module _ {rows : ℕ} (a : Accepted text table s q rows) (h : start ≤ rows) (long : length page ≡ row_size * page_room) where
-    answer_is : answer ≡ Listed (length (page_rows (decisions text table s q) rows start page_room)) (next_row (decisions text table s q) rows start page_room)
+    answer_is : answer ≡ Ok (record { written = length (page_rows (decisions text table s q) rows start page_room); next = next_row (decisions text table s q) rows start page_room })
     unfolding sheet_answer unless
     answer_is = l.answered ∙ rw (refusal_is (omega arith) (rw (← a.counted) (omega arith)), a.no_refusal, a.counted, long) refl
 
-    pub page_printed : {written next : ℕ} → answer ≡ Listed written next → PagePrinted text table s q rows start (record { written = written; next = next })
-    page_printed e = let i = answer_is in record { written = cc; next = cc }
+    page_is : {p : Page} → answer ≡ Ok p → p ≡ record { written = length (page_rows (decisions text table s q) rows start page_room); next = next_row (decisions text table s q) rows start page_room }
+    page_is e = let i = answer_is in cc
 
-    pub never_refused : {number : ℕ} {A : Type 0} → answer ≡ Refused number → A
+    pub page_printed : {p : Page} → answer ≡ Ok p → PagePrinted text table s q rows start p
+    page_printed e = rw (page_is e) (record { written = refl; next = refl })
+
+    pub never_refused : {number : ℕ} {A : Type 0} → answer ≡ Err number → A
     never_refused e = absurd (let i = answer_is in let z : ◌≡◌ {A = ℕ} 0 1 = cc in omega arith)
 
-    pub rows_fit : {written next : ℕ} → answer ≡ Listed written next → row_size * written ≤ row_size * page_room
+    pub rows_fit : {p : Page} → answer ≡ Ok p → row_size * p.written ≤ row_size * page_room
     unfolding page_rows
     rows_fit e = omega (arith, (page_printed e).written, length-take page_room (listed (decisions text table s q) rows start))
 
@@ -72,19 +73,19 @@ accepted {text} {table} {s} {q} r h e few =
 
 -- ---- what is printed in all
 
-refused_as : (n : ℕ) {m number : ℕ} {answer : Answer} (a : Printed) (w o : ℕ) → answer ≡ unless m (Listed w o) Refused → m ≡ n → answer ≡ Refused number → Refusal number ≡ unless n a Refusal
+refused_as : (n : ℕ) {m number : ℕ} {answer : Result Page ℕ} (a : Result Printed ℕ) (p : Page) → answer ≡ unless m (Ok p) Err → m ≡ n → answer ≡ Err number → ◌≡◌ {A = Result Printed ℕ} (Err number) (unless n a Err)
 unfolding unless
-refused_as zero a w o told same e = absurd (let none : unless 0 (Listed w o) Refused ≡ Listed w o = refl in let z : ◌≡◌ {A = ℕ} 0 1 = cc in omega arith)
-refused_as (suc n) a w o told same e = cc
+refused_as zero a p told same e = absurd (let none : unless 0 (Ok p) Err ≡ Ok p = refl in let z : ◌≡◌ {A = ℕ} 0 1 = cc in omega arith)
+refused_as (suc n) a p told same e = cc
 
 -- what is refused on its first page
-pub refusal_printed : {text table s : List ℕ} {q : Request} {page after : List ℕ} {answer : Answer} {number : ℕ} → SheetListed text table s q 0 page 0 answer after
-    → row_size ≤ length page → answer ≡ Refused number → Refusal number ≡ printed_for text table s q
+pub refusal_printed : {text table s : List ℕ} {q : Request} {page after : List ℕ} {answer : Result Page ℕ} {number : ℕ} → SheetListed text table s q 0 page 0 answer after
+    → row_size ≤ length page → answer ≡ Err number → Err number ≡ printed_for text table s q
 unfolding printed_for sheet_answer
-refusal_printed l long e = refused_as _ _ _ _ l.answered (refusal_is l long (omega arith)) e
+refusal_printed l long e = refused_as _ _ _ l.answered (refusal_is l long (omega arith)) e
 
 -- what is accepted
-pub rows_printed : {text table s : List ℕ} {q : Request} {rows all : ℕ} → Accepted text table s q rows → all ≡ all_listed text table s q rows → Rows rows all ≡ printed_for text table s q
+pub rows_printed : {text table s : List ℕ} {q : Request} {rows all : ℕ} → Accepted text table s q rows → all ≡ all_listed text table s q rows → Ok (record { rows = rows; allowed = all }) ≡ printed_for text table s q
 unfolding printed_for unless
 rows_printed a e = rw (a.no_refusal, e, a.counted) refl
 
@@ -124,16 +125,16 @@ pub first_counted : {text table s : List ℕ} {q : Request} {rows : ℕ} {page :
 first_counted w = record { all = rows_joined w (omega arith); within = goes_within w (omega arith); few = omega (arith, few_written w (omega arith)) }
 
 -- what is listed on its first page is accepted, and that page is the sheet's
-module _ {text table s : List ℕ} {q : Request} {page after : List ℕ} {answer : Answer} {written next rows : ℕ} (l : SheetListed text table s q 0 page 0 answer after)
-    (long : length page ≡ row_size * page_room) (e : answer ≡ Listed written next) (counted : rows ≡ cond (is_question s) (rows_asked s) 0) (few : rows ≤ 262144) where
+module _ {text table s : List ℕ} {q : Request} {page after : List ℕ} {answer : Result Page ℕ} {p : Page} {rows : ℕ} (l : SheetListed text table s q 0 page 0 answer after)
+    (long : length page ≡ row_size * page_room) (e : answer ≡ Ok p) (counted : rows ≡ cond (is_question s) (rows_asked s) 0) (few : rows ≤ 262144) where
   pub first_accepted : Accepted text table s q rows
   first_accepted = accepted (refusal_told l (omega arith) (omega arith) e) (omega arith) counted few
 
-  pub first_printed : PagePrinted text table s q rows 0 (record { written = written; next = next })
+  pub first_printed : PagePrinted text table s q rows 0 p
   first_printed = page_printed l first_accepted (omega arith) long e
 
 -- for the three lines that are cut
-pub printed_for_lines : (text table question : List ℕ) {s : List ℕ} {a b c d e : ℕ} {r : Printed}
+pub printed_for_lines : (text table question : List ℕ) {s : List ℕ} {a b c d e : ℕ} {r : Result Printed ℕ}
     → r ≡ printed_for text table question (request (take a s) (take (c - b) (drop b s)) (take (e - d) (drop d s)))
     → EndsAt s 0 a → GoesOnAt s a b → EndsAt s b c → GoesOnAt s c d → EndsAt s d e → r ≡ printed_for text table question (request_in s)
 printed_for_lines text table question p first on second on_again third = p ∙ ap (printed_for text table question) (lines_cut first on second on_again third)

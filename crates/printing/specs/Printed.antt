@@ -1,5 +1,5 @@
 -- What is printed of a folder's sheet for a text that compiles: a refusal's number, or the number of rows and the listed rows, a page at a time. Definitions only.
-use Rattle.std.specs.Prelude.{◌≡◌, cond, List, ℕ, ◌+◌, ◌*◌, ◌≤◌, length}
+use Rattle.std.specs.Prelude.{◌≡◌, cond, List, ℕ, ◌+◌, ◌*◌, ◌≤◌, length, Result, Ok, Err}
 use Rattle.questions.specs.Sizes.{most_rows}
 use Rattle.questions.specs.Questions.{is_question}
 use Rattle.meaning.specs.Targets.{Request}
@@ -7,7 +7,6 @@ use Rattle.pages.specs.Listing.{listed, page_rows, next_row}
 use Rattle.pages.specs.declared.Page.{Page}
 use Rattle.sheets.specs.Sheets.{decisions, rows_asked, request_refusal, unless}
 use Rattle.printing.specs.declared.Printed.{Printed}
-use Rattle.printing.specs.declared.Printed.TheVariants.{Rows, Refusal}
 
 -- the sheet's refusal number, and 0 where it gets none: printing lends room for a row, and starts with row 0
 unfoldable pub sheet_refusal : List ℕ → List ℕ → List ℕ → Request → ℕ
@@ -39,5 +38,5 @@ pub record ListedBefore (text table s : List ℕ) (q : Request) (rows start befo
   pub few : before ≤ page_room * start + page_room
 
 -- what is printed of a sheet: its refusal's number, or how many rows there are and how many of them are listed
-unfoldable pub printed_for : List ℕ → List ℕ → List ℕ → Request → Printed
-printed_for text table s q = unless (sheet_refusal text table s q) (Rows (rows_asked s) (all_listed text table s q (rows_asked s))) Refusal
+unfoldable pub printed_for : List ℕ → List ℕ → List ℕ → Request → Result Printed ℕ
+printed_for text table s q = unless (sheet_refusal text table s q) (Ok (record { rows = rows_asked s; allowed = all_listed text table s q (rows_asked s) })) Err

@@ -7,27 +7,21 @@ ghost use Rattle.targets.specs.Matching.{request};
 ghost use Rattle.request_lines.specs.Lines.{request_in};
 ghost use Rattle.printing.specs.Printed.{Accepted, PagePrinted, ListedBefore, page_room, all_listed, printed_for};
 
-use compiling::{Compiled, compile};
-use folder::lines::{put_one, put_refusal};
-use folder::read_file;
+use compiling::compile;
+use folder::lines::put_numbers;
+use folder::{print_refusal, read_file};
 use pages::Page;
 use request_lines::{line_after, line_end};
 use row_lines::put_rows;
-use sheets::{Answer, row_count, sheet};
+use sheets::{row_count, sheet};
 use std::rt::Files;
 use streams::print_bytes;
 
-// What is printed of a sheet: how many rows there are and how many of them are allowed; or the refusal's number.
+// What is printed of a sheet that is not refused: how many rows there are, and how many of them are allowed.
 #[derive(Clone, Copy)]
-pub enum Printed {
-    Rows(usize, usize),
-    Refusal(u8),
-}
-
-fn print_refusal<P: Print>(rt: &P, number: u32, line: usize, column: usize, size: usize) {
-    let mut out = [0u8; 92];
-    let n = put_refusal(&mut out, 0, number, line, column, size);
-    print_bytes(rt, &out[..n]);
+pub struct Printed {
+    pub rows: usize,
+    pub allowed: usize,
 }
 
 // A line of a word and a number.
@@ -35,7 +29,7 @@ fn print_one<P: Print>(rt: &P, word: &[u8], n: usize)
     requires { length word.now ≤ 8 }
 {
     let mut out = [0u8; 29];
-    let end = put_one(&mut out, 0, word, n);
+    let end = put_numbers(&mut out, 0, word, &[n]);
     print_bytes(rt, &out[..end]);
 }
 
@@ -70,13 +64,13 @@ fn print_page<'a, P: Print>(
         text, table, question, subject, action, resource, start, &mut page, 0,
     ) {
         // never: a sheet that is accepted is refused on no page
-        Answer::Refused(_) => Page {
+        Err(_) => Page {
             written: 0,
             next: rows,
         },
-        Answer::Listed(written, next) => {
-            print_rows(rt, &page, written);
-            Page { written, next }
+        Ok(listed) => {
+            print_rows(rt, &page, listed.written);
+            listed
         }
     }
 }
@@ -101,6 +95,7 @@ fn print_pages<'a, P: Print>(
 {
     let mut listed = before;
     let mut start = first;
+    // a `for` would be no plainer: each page says where the next starts
     while start < rows {
         let page = print_page(
             rt, text, table, question, subject, action, resource, rows, start,
@@ -120,7 +115,7 @@ fn print_sheet<'a, P: Print>(
     subject: &[u8],
     action: &'a [u8],
     resource: &[u8],
-) -> Printed
+) -> Result<Printed, u8>
     ensures { result ≡ printed_for text.now table.now question.now
         (request subject.now action.now resource.now) }
 {
@@ -128,19 +123,19 @@ fn print_sheet<'a, P: Print>(
     match sheet(
         text, table, question, subject, action, resource, 0, &mut page, 0,
     ) {
-        Answer::Refused(number) => {
-            print_refusal(rt, number as u32, 0, 0, 0);
-            Printed::Refusal(number)
+        Err(number) => {
+            print_refusal(rt, u32::from(number), 0, 0, 0);
+            Err(number)
         }
-        Answer::Listed(written, next) => {
+        Ok(Page { written, next }) => {
             let rows = row_count(question);
             print_one(rt, b"rows ", rows);
             print_rows(rt, &page, written);
-            let listed = print_pages(
+            let allowed = print_pages(
                 rt, text, table, question, subject, action, resource, rows, next, written,
             );
-            print_one(rt, b"allowed ", listed);
-            Printed::Rows(rows, listed)
+            print_one(rt, b"allowed ", allowed);
+            Ok(Printed { rows, allowed })
         }
     }
 }
@@ -152,7 +147,7 @@ fn print_request<'a, P: Print>(
     table: &[u8],
     question: &'a [u8],
     lines: &'a [u8],
-) -> Printed
+) -> Result<Printed, u8>
     ensures { result ≡ printed_for text.now table.now question.now (request_in lines.now) }
 {
     let subject = line_end(lines, 0);
@@ -182,11 +177,15 @@ pub fn print_folder<R: Files + Print>(rt: &R, version: u64) {
     let q = read_file(rt, b"question.bin", &mut question);
     let r = read_file(rt, b"request.txt", &mut request);
     match compile(version, &text[..n], &mut table) {
-        Compiled::Refused(number, spot) => {
-            print_refusal(rt, number as u32, spot.line, spot.column, spot.length)
-        }
-        Compiled::Policies(_, _) => {
-            print_request(rt, &text[..n], &table, &question[..q], &request[..r]);
+        Err(r) => print_refusal(
+            rt,
+            u32::from(r.number),
+            r.spot.line,
+            r.spot.column,
+            r.spot.length,
+        ),
+        Ok(_) => {
+            let _ = print_request(rt, &text[..n], &table, &question[..q], &request[..r]);
         }
     }
 }

@@ -1,4 +1,5 @@
 -- The reader `is_question` takes exactly the bytes of questions, and bytes are those of one question only. Assumes nothing.
+use Rattle.std.specs.Prelude.{None, Option, Some}
 use Prim.Native.Nat.{ℕ, ◌+◌, ◌-◌, ◌<◌, ◌≤◌}
 use mathlib.Core.List.{List, [], ◌∷◌, ◌++◌, map}
 use mathlib.Core.Bool.{Bool, true, false, ◌&&◌, and-eq-true_iff, false≢true}
@@ -13,11 +14,7 @@ use Rattle.bags.specs.Reading.{byte, ends_at, many, each}
 use Rattle.bags.specs.Sections.{sections_of}
 use Rattle.bags.specs.Data.{Datum, absent, datum_at}
 use Rattle.bags.specs.Forms.{Contents}
-use Rattle.bags.specs.declared.After.{After}
-use Rattle.bags.specs.declared.After.TheVariants.{At, Bad}
 use Rattle.bags.specs.declared.sections.Sections.{Sections}
-use Rattle.bags.specs.declared.sections.Divided.{Divided}
-use Rattle.bags.specs.declared.sections.Divided.TheVariants.{In, Broken}
 use Rattle.bags.proofs.ReadLaws.{only_at, same_end}
 use Rattle.bags.proofs.ValueLaws as values
 use Rattle.bags.proofs.ValueLaws.{Ended, value_at_lem, value_inside}
@@ -27,11 +24,10 @@ use Rattle.bags.proofs.Told.{Told, Reads, many_sound, many_complete, map_each, e
 use Rattle.bags.proofs.ValueForms.{value_reads}
 use Rattle.bags.proofs.Exactly.{contents_at, sections_sound, sections_complete}
 use Rattle.questions.specs.Distinct.{distinct}
-use Rattle.questions.specs.Columns.{candidate_end, column_path, count_at, name_of, candidates_end, head_ok, column_end, columns_end}
+use Rattle.questions.specs.Columns.{candidate_end, column_path, count_at, candidate_bytes, column_bytes, candidates_end, head_ok, column_end, columns_end}
 use Rattle.questions.specs.Questions.{fourth_end, follows, is_question}
 use Rattle.questions.specs.Forms.{Distinct, Choice, ChoiceBytes, nothing, something, Named, Column, ColumnBytes, column}
 use Rattle.questions.specs.Forms.{ColumnsBytes, columns, Parts, parts, QuestionBytes, NoQuestion}
-use Rattle.questions.specs.declared.elements.Unrepeated.TheVariants as elements
 use Rattle.questions.proofs.ColumnLaws.{candidate_absent, candidate_value, candidate_starts, candidate_whole, column_whole, column_at, fourth_whole}
 use Rattle.questions.proofs.DistinctLaws.{distinct_decides, distinct_mapped, distinct_before}
 
@@ -52,7 +48,7 @@ module _ (s : List ℕ) where
   kind_some (values.flag j w) z = omega arith
   kind_some (values.list j w) z = omega arith
 
-  choice_sound : (at e : ℕ) → candidate_end s at ≡ At e → Told ChoiceBytes s at e (choice_here at e)
+  choice_sound : (at e : ℕ) → candidate_end s at ≡ Some e → Told ChoiceBytes s at e (choice_here at e)
   choice_sound at e h = go (eqb (byte s at) 0) refl
     where
       within : at < length s
@@ -71,13 +67,13 @@ module _ (s : List ℕ) where
           let y = laid_bytes t.laid in
           record { bytes = t.bytes; says = rw y (something t.says); laid = t.laid }
 
-  choice_complete : {at e : ℕ} {b : List ℕ} {c : Choice} → ChoiceBytes b c → Laid s at b e → (candidate_end s at ≡ At e) × (c ≡ choice_here at e)
+  choice_complete : {at e : ℕ} {b : List ℕ} {c : Choice} → ChoiceBytes b c → Laid s at b e → (candidate_end s at ≡ Some e) × (c ≡ choice_here at e)
   choice_complete {at} {e} nothing l =
       let h = laid_head l in
       let d = nothing_there at h.first in
       let y = laid_bytes l in
       let q : at + 1 ≡ e = omega (arith, h.others.stop) in
-      (sym (candidate_absent s at h.within h.first) ∙ ap At q, rw (d, y))
+      (sym (candidate_absent s at h.within h.first) ∙ ap Some q, rw (d, y))
   choice_complete {at} {e} (something {b} {v} f) l =
       let o = (value_reads s).complete f l in
       let i = value_inside (byte s at) s (at + 1) e o.0 in
@@ -100,20 +96,20 @@ module _ (s : List ℕ) where
   abbrev pub column_here : ℕ → Column
   column_here at = record { names = record { root = byte s at; path = column_path s at }; choices = choices_here (byte s (count_at s at)) (count_at s at + 1) }
 
-  choices_named : (n at : ℕ) → map (λ (c : Choice). c.bytes) (choices_here n at) ≡ each n (candidate_end s) (name_of elements.Candidate s) at
-  unfolding name_of choices_here
+  choices_named : (n at : ℕ) → map (λ (c : Choice). c.bytes) (choices_here n at) ≡ each n (candidate_end s) (candidate_bytes s) at
+  unfolding candidate_bytes choices_here
   choices_named n at = map_each (λ (c : Choice). c.bytes) n (candidate_end s) choice_here at
 
   head_ok_lem : (root count : ℕ) → 1 ≤ root → root ≤ 3 → 1 ≤ count → count ≤ 8 → head_ok root count ≡ true
   unfolding head_ok
   head_ok_lem root count a b c d = rw (le-leb 1 root a, le-leb root 3 b, le-leb 1 count c, le-leb count 8 d)
 
-  candidates_whole : (n at e : ℕ) → distinct (each n (candidate_end s) (name_of elements.Candidate s) at) ≡ true
-      → many n (candidate_end s) at ≡ At e → candidates_end n s at ≡ At e
+  candidates_whole : (n at e : ℕ) → distinct (each n (candidate_end s) (candidate_bytes s) at) ≡ true
+      → many n (candidate_end s) at ≡ Some e → candidates_end n s at ≡ Some e
   unfolding candidates_end
   candidates_whole n at e d h = rw d h
 
-  column_sound : (at e : ℕ) → column_end s at ≡ At e → Told ColumnBytes s at e (column_here at)
+  column_sound : (at e : ℕ) → column_end s at ≡ Some e → Told ColumnBytes s at e (column_here at)
   unfolding choices_here
   column_sound at e h =
       let w = column_at s at e h in
@@ -135,7 +131,7 @@ module _ (s : List ℕ) where
             (rw two (laid_join p.0 (laid_cons s (count_at s at) _ _ e w.counted (sym c) m.0.laid))));
       }
 
-  column_complete : {at e : ℕ} {b : List ℕ} {c : Column} → ColumnBytes b c → Laid s at b e → (column_end s at ≡ At e) × (c ≡ column_here at)
+  column_complete : {at e : ℕ} {b : List ℕ} {c : Column} → ColumnBytes b c → Laid s at b e → (column_end s at ≡ Some e) × (c ≡ column_here at)
   unfolding choices_here
   column_complete {at} {e} (column {root} {p} {b} {cs} low high ok some few f differ) l =
       let h = laid_head l in
@@ -150,9 +146,9 @@ module _ (s : List ℕ) where
       let q : column_path s at ≡ p = rw n (laid_is y.0) in
       let z : at + 2 + length p < length s = k.within in
       let named = ap (λ (l : List Choice). map (λ c. c.bytes) l) m.1 ∙ choices_named (length cs) (at + 2 + length p + 1) in
-      let d : distinct (each (length cs) (candidate_end s) (name_of elements.Candidate s) (at + 2 + length p + 1)) ≡ true =
+      let d : distinct (each (length cs) (candidate_end s) (candidate_bytes s) (at + 2 + length p + 1)) ≡ true =
       (distinct_decides _).complete (rw named at differ) in
-      let o : candidates_end (length cs) s (at + 2 + length p + 1) ≡ At e = candidates_whole (length cs) (at + 2 + length p + 1) e d m.0 in
+      let o : candidates_end (length cs) s (at + 2 + length p + 1) ≡ Some e = candidates_whole (length cs) (at + 2 + length p + 1) e d m.0 in
       let hd : head_ok (byte s at) (byte s (count_at s at)) ≡ true = rw (n, c, r) (head_ok_lem root (length cs) low high some few) in (
         sym (column_whole s at (rw n z) hd (rw q ok)) ∙ rw (n, c) o,
         rw (q, n, c, r) (ap (λ (l : List Choice). record { names = record { root = root; path = p }; choices = l }) m.1),
@@ -177,8 +173,8 @@ module _ (s : List ℕ) where
       same : {a b : ℕ} {p q : List ℕ} → a ≡ b → p ≡ q → ◌≡◌ {A = Named} (record { root = a; path = p }) (record { root = b; path = q })
       same h k = rw (h, k)
 
-  name_there : (at e : ℕ) → column_end s at ≡ At e → name_bytes (column_here at).names ≡ name_of elements.Column s at e
-  unfolding name_of
+  name_there : (at e : ℕ) → column_end s at ≡ Some e → name_bytes (column_here at).names ≡ column_bytes s at e
+  unfolding column_bytes
   name_there at e h =
       let w = column_at s at e h in
       let p = laid_part s (at + 2) (byte s (at + 1)) (omega (arith, w.counted)) in
@@ -190,29 +186,29 @@ module _ (s : List ℕ) where
       two : (at : ℕ) → at + 1 + 1 ≡ at + 2
       two at = omega arith
 
-  columns_named : (n at : ℕ) → map name_bytes (map (λ (c : Column). c.names) (columns_here n at)) ≡ each n (column_end s) (name_of elements.Column s) at
+  columns_named : (n at : ℕ) → map name_bytes (map (λ (c : Column). c.names) (columns_here n at)) ≡ each n (column_end s) (column_bytes s) at
   unfolding columns_here
   columns_named n at =
       ap (λ (l : List Named). map name_bytes l) (map_each (λ (c : Column). c.names) n (column_end s) (λ at e. column_here at) at)
       ∙ map_each name_bytes n (column_end s) (λ at e. (column_here at).names) at
-      ∙ each_agree n (column_end s) (λ at e. name_bytes (column_here at).names) (name_of elements.Column s) name_there at
+      ∙ each_agree n (column_end s) (λ at e. name_bytes (column_here at).names) (column_bytes s) name_there at
 
   record Fourth (at e : ℕ) : Type 0 where
     counted : at < length s
     few : byte s at ≤ 6
-    differ : distinct (each (byte s at) (column_end s) (name_of elements.Column s) (at + 1)) ≡ true
-    all : many (byte s at) (column_end s) (at + 1) ≡ At e
+    differ : distinct (each (byte s at) (column_end s) (column_bytes s) (at + 1)) ≡ true
+    all : many (byte s at) (column_end s) (at + 1) ≡ Some e
 
-  fourth_at : (at e : ℕ) → fourth_end s at ≡ At e → Fourth at e
+  fourth_at : (at e : ℕ) → fourth_end s at ≡ Some e → Fourth at e
   unfolding fourth_end columns_end
   fourth_at at e h =
       let o = only_at (ltb at (length s) && leb (byte s at) 6) (columns_end (byte s at) s (at + 1)) e h in
-      let m = only_at (distinct (each (byte s at) (column_end s) (name_of elements.Column s) (at + 1))) (many (byte s at) (column_end s) (at + 1)) e o.1 in
+      let m = only_at (distinct (each (byte s at) (column_end s) (column_bytes s) (at + 1))) (many (byte s at) (column_end s) (at + 1)) e o.1 in
       let c = (and-eq-true_iff (ltb at (length s)) _).0 o.0 in
       record { counted = ltb-true _ _ c.0; few = leb-true _ _ c.1; differ = m.0; all = m.1 }
 
-  columns_whole : (n at e : ℕ) → distinct (each n (column_end s) (name_of elements.Column s) at) ≡ true
-      → many n (column_end s) at ≡ At e → columns_end n s at ≡ At e
+  columns_whole : (n at e : ℕ) → distinct (each n (column_end s) (column_bytes s) at) ≡ true
+      → many n (column_end s) at ≡ Some e → columns_end n s at ≡ Some e
   unfolding columns_end
   columns_whole n at e d h = rw d h
 
@@ -220,7 +216,7 @@ module _ (s : List ℕ) where
   unfoldable pub columns_at : ℕ → List Column
   columns_at at = columns_here (byte s at) (at + 1)
 
-  fourth_sound : (at e : ℕ) → fourth_end s at ≡ At e → Told ColumnsBytes s at e (columns_at at)
+  fourth_sound : (at e : ℕ) → fourth_end s at ≡ Some e → Told ColumnsBytes s at e (columns_at at)
   unfolding columns_at columns_here
   fourth_sound at e h =
       let w = fourth_at at e h in
@@ -235,16 +231,16 @@ module _ (s : List ℕ) where
         laid = laid_cons s at _ _ e w.counted (sym n) m.0.laid;
       }
 
-  fourth_complete : {at e : ℕ} {b : List ℕ} {cs : List Column} → ColumnsBytes b cs → Laid s at b e → (fourth_end s at ≡ At e) × (cs ≡ columns_at at)
+  fourth_complete : {at e : ℕ} {b : List ℕ} {cs : List Column} → ColumnsBytes b cs → Laid s at b e → (fourth_end s at ≡ Some e) × (cs ≡ columns_at at)
   unfolding columns_at columns_here
   fourth_complete {at} {e} (columns {b} {cs} few f differ) l =
       let h = laid_head l in
       let n : byte s at ≡ length cs = h.first in
       let m = many_complete ColumnBytes s (column_end s) (λ at e. column_here at) column_reads f h.others in
       let named = ap (λ (l : List Column). map name_bytes (map (λ c. c.names) l)) m.1 ∙ columns_named (length cs) (at + 1) in
-      let d : distinct (each (length cs) (column_end s) (name_of elements.Column s) (at + 1)) ≡ true =
+      let d : distinct (each (length cs) (column_end s) (column_bytes s) (at + 1)) ≡ true =
       (distinct_decides _).complete (rw named at (distinct_mapped name_bytes names_apart differ)) in
-      let o : columns_end (length cs) s (at + 1) ≡ At e = columns_whole (length cs) (at + 1) e d m.0 in
+      let o : columns_end (length cs) s (at + 1) ≡ Some e = columns_whole (length cs) (at + 1) e d m.0 in
       (sym (fourth_whole s at h.within (rw n few)) ∙ rw n o, rw n m.1)
 
   pub fourth_reads : Reads ColumnsBytes s (fourth_end s) (λ at e. columns_at at)
@@ -252,22 +248,22 @@ module _ (s : List ℕ) where
 
 -- ---- a question
 
-followed : (s : List ℕ) (d : Divided) → follows s d ≡ true → (p : Sections) × ((d ≡ In p) × (fourth_end s p.end ≡ At (length s)))
-followed s (In p) h = (p, (refl, go (fourth_end s p.end) h))
+followed : (s : List ℕ) (d : Option Sections) → follows s d ≡ true → (p : Sections) × ((d ≡ Some p) × (fourth_end s p.end ≡ Some (length s)))
+followed s (Some p) h = (p, (refl, go (fourth_end s p.end) h))
   where
-    go : (a : After) → ends_at a (length s) ≡ true → a ≡ At (length s)
-    go (At e) t = ap At (eqb-true _ _ t)
-    go Bad t = absurd (let z : ◌≡◌ {A = ℕ} 0 1 = cc in omega arith)
-followed s Broken h = absurd (let z : ◌≡◌ {A = ℕ} 0 1 = cc in omega arith)
+    go : (a : Option ℕ) → ends_at a (length s) ≡ true → a ≡ Some (length s)
+    go (Some e) t = ap Some (eqb-true _ _ t)
+    go None t = absurd (let z : ◌≡◌ {A = ℕ} 0 1 = cc in omega arith)
+followed s None h = absurd (let z : ◌≡◌ {A = ℕ} 0 1 = cc in omega arith)
 
-follow : (s : List ℕ) (d : Divided) (p : Sections) → d ≡ In p → fourth_end s p.end ≡ At (length s) → follows s d ≡ true
+follow : (s : List ℕ) (d : Option Sections) (p : Sections) → d ≡ Some p → fourth_end s p.end ≡ Some (length s) → follows s d ≡ true
 follow s d p q f = rw (q, f) (eq-eqb (length s) (length s) refl)
 
 -- where the sections and the columns stand that the bytes say
 pub record Stands (s : List ℕ) (base : Contents) (cs : List Column) : Type 0 where
   pub places : Sections
-  pub read : sections_of s ≡ In places
-  pub ends : fourth_end s places.end ≡ At (length s)
+  pub read : sections_of s ≡ Some places
+  pub ends : fourth_end s places.end ≡ Some (length s)
   pub base_is : base ≡ contents_at s places
   pub columns_are : cs ≡ columns_at s places.end
 
@@ -311,7 +307,7 @@ module _ (s : List ℕ) where
       go true e n = let w = question_sound e in absurd (n w.0 w.1.0 w.1.1)
       go false e n = e
 
-same_places : {x : Divided} {a c : Sections} → x ≡ In a → x ≡ In c → a ≡ c
+same_places : {x : Option Sections} {a c : Sections} → x ≡ Some a → x ≡ Some c → a ≡ c
 same_places h k = cc
 
 -- bytes are those of one question

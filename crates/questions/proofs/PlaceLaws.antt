@@ -1,4 +1,5 @@
 -- Laws of the cells that hold places, and of the number of rows. Assumes nothing.
+use Rattle.std.specs.Prelude.{Option, Some}
 use Prim.Native.Nat.{ℕ, zero, suc, ◌+◌, ◌-◌, ◌*◌, ◌<◌, ◌≤◌}
 use mathlib.Core.List.{List, []}
 use mathlib.Core.Bool.{Bool, true, false, cond}
@@ -10,8 +11,6 @@ use lib.Dec.{eqb, ltb}
 use lib.ListN.{length, get_or, set}
 use lib.Seq.{get_or-set_same, get_or-set_other}
 use Rattle.bags.specs.Reading.{end_place, many}
-use Rattle.bags.specs.declared.After.{After}
-use Rattle.bags.specs.declared.After.TheVariants.{At}
 use Rattle.bags.proofs.ReadLaws.{same_end, nth, each_done, each_more}
 use Rattle.questions.specs.Columns.{candidate_end, count_at, column_end}
 use Rattle.questions.specs.Questions.{head_of, count_of, choice_at, cell, rows_of}
@@ -57,11 +56,11 @@ fill_more most f cells j v fits is cells_are k h =
     set_cases cells j v 0 fits (λ x. x ≡ first_of (j + 1) f k) k (λ e. is ∙ ap f (sym e) ∙ first_here f k j e) (λ d. cells_are k h ∙ first_before f k j d)
 
 -- number j of n that end, by where it starts
-pub at_number : (next : ℕ → After) (n j at x e : ℕ) → j < n → many n next at ≡ At e → many j next at ≡ At x → (stop : ℕ) × (next x ≡ At stop)
+pub at_number : (next : ℕ → Option ℕ) (n j at x e : ℕ) → j < n → many n next at ≡ Some e → many j next at ≡ Some x → (stop : ℕ) × (next x ≡ Some stop)
 at_number next n j at x e l h p = let r = nth next n j at e l h in (r.stop, rw (same_end r.starts p) at r.stops)
 
 -- the columns that end are columns
-pub column_of : (s : List ℕ) (n at last : ℕ) → many n (column_end s) at ≡ At last → (i : ℕ) → i < n → (e : ℕ) × Columned s (head_of s at i) e
+pub column_of : (s : List ℕ) (n at last : ℕ) → many n (column_end s) at ≡ Some last → (i : ℕ) → i < n → (e : ℕ) × Columned s (head_of s at i) e
 column_of s n at last columns i l = let r = nth (column_end s) n i at last l columns in (r.stop, rw r.starts (column_at s r.start r.stop r.stops))
 
 -- ---- the grid
@@ -71,14 +70,14 @@ module _ (s : List ℕ) (at : ℕ) where
   unfolding cell
   grid_none i j = first_none (λ i. choice_at s (head_of s at i) j) i
 
-  pub grid_more : (grid : List (List ℕ)) (n next : ℕ) (cells : List ℕ) → n < length grid → many n (column_end s) at ≡ At next
+  pub grid_more : (grid : List (List ℕ)) (n next : ℕ) (cells : List ℕ) → n < length grid → many n (column_end s) at ≡ Some next
       → ((j : ℕ) → j < 8 → get_or cells j 0 ≡ first_of (count_of s next) (λ j. end_place (many j (candidate_end s) (count_at s next + 1))) j)
       → ((i j : ℕ) → i < 6 → j < 8 → get_or (get_or grid i []) j 0 ≡ cell s at n i j)
       → (i j : ℕ) → i < 6 → j < 8 → get_or (get_or (set grid n cells) i []) j 0 ≡ cell s at (n + 1) i j
   unfolding cell choice_at
   grid_more grid n next cells fits is cells_are grid_is i j hi hj =
       set_cases grid n cells [] fits (λ x. get_or x j 0 ≡ cell s at (n + 1) i j) i
-      (λ e. cells_are j hj ∙ ap (λ (a : After). choice_at s (end_place a) j) (sym is) ∙ ap (λ (i : ℕ). choice_at s (head_of s at i) j) (sym e) ∙ first_here (λ i. choice_at s (head_of s at i) j) i n e)
+      (λ e. cells_are j hj ∙ ap (λ (a : Option ℕ). choice_at s (end_place a) j) (sym is) ∙ ap (λ (i : ℕ). choice_at s (head_of s at i) j) (sym e) ∙ first_here (λ i. choice_at s (head_of s at i) j) i n e)
       (λ d. grid_is i j hi hj ∙ first_before (λ i. choice_at s (head_of s at i) j) i n d)
 
 -- ---- rows
@@ -88,7 +87,7 @@ module _ (s : List ℕ) (n at : ℕ) where
   unfolding rows_of
   rows_done h = rw (each_done (column_end s) (λ c e. count_of s c) n at h)
 
-  pub rows_more : (e : ℕ) → 0 < n → column_end s at ≡ At e → rows_of n s at ≡ count_of s at * rows_of (n - 1) s e
+  pub rows_more : (e : ℕ) → 0 < n → column_end s at ≡ Some e → rows_of n s at ≡ count_of s at * rows_of (n - 1) s e
   unfolding rows_of
   rows_more e h q = rw (each_more (column_end s) (λ c e. count_of s c) n at e h q)
 
@@ -136,7 +135,7 @@ unfolding eights
 end_few total zero most h b = let m = mul-one total in omega arith
 end_few total (suc n) most h b = absurd (omega arith)
 
-pub rows_on : (s : List ℕ) (total left next e goal : ℕ) → 0 < left → column_end s next ≡ At e → total * rows_of left s next ≡ goal
+pub rows_on : (s : List ℕ) (total left next e goal : ℕ) → 0 < left → column_end s next ≡ Some e → total * rows_of left s next ≡ goal
     → total * count_of s next * rows_of (left - 1) s e ≡ goal
 rows_on s total left next e goal h q is = mul_assoc total (count_of s next) (rows_of (left - 1) s e) ∙ ap (λ (n : ℕ). total * n) (sym (rows_more s left next e h q)) ∙ is
 

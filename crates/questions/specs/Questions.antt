@@ -1,23 +1,19 @@
 -- Questions, the places of their columns and candidates, and the number of their rows. Definitions only.
-use Rattle.std.specs.Prelude.{ℕ, ◌+◌, ◌*◌, ◌<◌, ◌≤◌, ◌≡◌, List, [], ◌∷◌, Bool, false, ◌&&◌, cond, ltb, leb, length}
+use Rattle.std.specs.Prelude.{ℕ, ◌+◌, ◌*◌, ◌<◌, ◌≤◌, ◌≡◌, List, [], ◌∷◌, Bool, false, ◌&&◌, cond, ltb, leb, length, None, Option, Some}
 use Rattle.bags.specs.Reading.{byte, only, ends_at, end_place, many, each}
 use Rattle.bags.specs.Sections.{sections_of, Sectioned}
-use Rattle.bags.specs.declared.After.{After}
-use Rattle.bags.specs.declared.After.TheVariants.{At}
 use Rattle.bags.specs.declared.sections.Sections.{Sections}
-use Rattle.bags.specs.declared.sections.Divided.{Divided}
-use Rattle.bags.specs.declared.sections.Divided.TheVariants.{In, Broken}
 use Rattle.questions.specs.Columns.{candidate_end, count_at, column_end, columns_end}
 use Rattle.questions.specs.Sizes.{most_question_bytes, most_columns}
 
 -- the fourth section: a count byte of 0 to 6, and that many columns
-unfoldable pub fourth_end : List ℕ → ℕ → After
+unfoldable pub fourth_end : List ℕ → ℕ → Option ℕ
 fourth_end s at = only (ltb at (length s) && leb (byte s at) most_columns) (columns_end (byte s at) s (at + 1))
 
 -- whether the columns follow the three sections, with nothing after them
-abbrev pub follows : List ℕ → Divided → Bool
-follows s (In p) = ends_at (fourth_end s p.end) (length s)
-follows s Broken = false
+abbrev pub follows : List ℕ → Option Sections → Bool
+follows s (Some p) = ends_at (fourth_end s p.end) (length s)
+follows s None = false
 
 -- a question: the three sections of a bag and the columns, with nothing after them, 4,096 bytes at most
 unfoldable pub is_question : List ℕ → Bool
@@ -29,7 +25,7 @@ pub record Question (s : List ℕ) (p : Sections) : Type 0 where
   pub counted : p.end < length s
   pub few : byte s p.end ≤ most_columns
   pub last : ℕ
-  pub columns : many (byte s p.end) (column_end s) (p.end + 1) ≡ At last
+  pub columns : many (byte s p.end) (column_end s) (p.end + 1) ≡ Some last
 
 -- ---- places, by column and choice
 

@@ -1,60 +1,40 @@
 // Candidates and columns, read and checked.
 ghost use Rattle.std.specs.Prelude.{◌≡◌};
-ghost use Rattle.tokens.specs.Table.{class_table};
-ghost use Rattle.bags.specs.Reading.{many};
 ghost use Rattle.questions.specs.Columns.{candidate_end, candidates_end, head_ok, column_end, columns_end};
 ghost use Rattle.questions.specs.Questions.{fourth_end};
 
-use crate::elements::{Unrepeated, all_differ};
+use crate::elements::all_differ;
 use crate::sizes::{MOST_CANDIDATES, MOST_COLUMNS};
-use bags::After;
 use bags::paths::is_path;
+use bags::reading::{Thing, many_end};
 use bags::values::{ABSENT, value_end};
 
-fn candidate_end(s: &[u8], at: usize) -> After
-    ensures { result ≡ candidate_end s.now at }
-{
-    if s.len() <= at {
-        return After::Bad;
-    }
-    let kind = s[at];
-    if kind == ABSENT {
-        return After::At(at + 1);
-    }
-    value_end(kind, s, at + 1)
-}
+// A candidate: a kind byte and a value; an absent one has no value.
+pub struct Candidate;
 
-// `n` candidates, one after the other.
-fn many_candidates(n: usize, s: &[u8], at: usize) -> After
-    ensures { result ≡ many n (candidate_end s.now) at }
-{
-    let mut left = n;
-    let mut next = at;
-    while 0 < left {
-        match candidate_end(s, next) {
-            After::Bad => return After::Bad,
-            After::At(e) => {
-                next = e;
-            }
+// A column: a root byte, a path length, the path, a count byte, and that many candidates.
+pub struct Column;
+
+impl Thing for Candidate {
+    ghost ending = { candidate_end };
+
+    fn end(s: &[u8], at: usize) -> Option<usize> {
+        match *s.get(at)? {
+            ABSENT => Some(at + 1),
+            kind => value_end(kind, s, at + 1),
         }
-        left -= 1;
     }
-    After::At(next)
 }
 
 // `n` candidates with different bytes.
-fn candidates_end(n: usize, s: &[u8], at: usize) -> After
+fn candidates_end(n: usize, s: &[u8], at: usize) -> Option<usize>
     ensures { result ≡ candidates_end n s.now at }
 {
-    match many_candidates(n, s, at) {
-        After::Bad => After::Bad,
-        After::At(e) => {
-            if all_differ(Unrepeated::Candidate, n, s, at) {
-                After::At(e)
-            } else {
-                After::Bad
-            }
-        }
+    let e = many_end::<Candidate>(n, s, at)?;
+    if all_differ::<Candidate>(n, s, at) {
+        Some(e)
+    } else {
+        None
     }
 }
 
@@ -62,81 +42,54 @@ fn candidates_end(n: usize, s: &[u8], at: usize) -> After
 fn head_ok(root: u8, count: u8) -> bool
     ensures { result ≡ head_ok root count }
 {
+    // `&` takes no branch.
     (1 <= root) & (root <= 3) & (1 <= count) & (count as usize <= MOST_CANDIDATES)
 }
 
-fn column_end(classes: &[u8; 256], s: &[u8], at: usize) -> After
-    requires { classes.now ≡ class_table }
-    ensures { result ≡ column_end s.now at }
-{
-    if s.len() <= at {
-        return After::Bad;
-    }
-    if s.len() - at < 2 {
-        return After::Bad;
-    }
-    let n = s[at + 1] as usize;
-    if s.len() - at - 2 <= n {
-        return After::Bad;
-    }
-    let start = at + 2;
-    let count_at = start + n;
-    let count = s[count_at];
-    if head_ok(s[at], count) {
-        if is_path(classes, &s[start..count_at]) {
-            return candidates_end(count as usize, s, count_at + 1);
-        }
-    }
-    After::Bad
-}
+impl Thing for Column {
+    ghost ending = { column_end };
 
-// `n` columns, one after the other.
-fn many_columns(classes: &[u8; 256], n: usize, s: &[u8], at: usize) -> After
-    requires { classes.now ≡ class_table }
-    ensures { result ≡ many n (column_end s.now) at }
-{
-    let mut left = n;
-    let mut next = at;
-    while 0 < left {
-        match column_end(classes, s, next) {
-            After::Bad => return After::Bad,
-            After::At(e) => {
-                next = e;
-            }
+    fn end(s: &[u8], at: usize) -> Option<usize> {
+        if s.len() <= at {
+            return None;
         }
-        left -= 1;
+        if s.len() - at < 2 {
+            return None;
+        }
+        let n = s[at + 1] as usize;
+        if s.len() - at - 2 <= n {
+            return None;
+        }
+        let start = at + 2;
+        let count_at = start + n;
+        let count = s[count_at];
+        if head_ok(s[at], count) && is_path(&s[start..count_at]) {
+            candidates_end(count as usize, s, count_at + 1)
+        } else {
+            None
+        }
     }
-    After::At(next)
 }
 
 // `n` columns with different roots and paths.
-fn columns_end(classes: &[u8; 256], n: usize, s: &[u8], at: usize) -> After
-    requires { classes.now ≡ class_table }
+fn columns_end(n: usize, s: &[u8], at: usize) -> Option<usize>
     ensures { result ≡ columns_end n s.now at }
 {
-    match many_columns(classes, n, s, at) {
-        After::Bad => After::Bad,
-        After::At(e) => {
-            if all_differ(Unrepeated::Column, n, s, at) {
-                After::At(e)
-            } else {
-                After::Bad
-            }
-        }
+    let e = many_end::<Column>(n, s, at)?;
+    if all_differ::<Column>(n, s, at) {
+        Some(e)
+    } else {
+        None
     }
 }
 
 // The section of the columns.
-pub fn fourth_end(classes: &[u8; 256], s: &[u8], at: usize) -> After
-    requires { classes.now ≡ class_table }
+pub fn fourth_end(s: &[u8], at: usize) -> Option<usize>
     ensures { result ≡ fourth_end s.now at }
 {
-    if s.len() <= at {
-        return After::Bad;
-    }
-    let n = s[at] as usize;
+    let n = usize::from(*s.get(at)?);
     if MOST_COLUMNS < n {
-        return After::Bad;
+        return None;
     }
-    columns_end(classes, n, s, at + 1)
+    columns_end(n, s, at + 1)
 }

@@ -1,108 +1,86 @@
 // Candidates and columns that are known to be whole: the step over one, and whether all are different.
-ghost use Rattle.std.specs.Prelude.{◌≡◌, ℕ};
+ghost use Rattle.std.specs.Prelude.{◌≡◌, ℕ, List, Some};
 ghost use Rattle.bags.specs.Reading.{many, each};
-ghost use Rattle.bags.specs.declared.After.TheVariants.{At};
 ghost use Rattle.questions.specs.Distinct.{among, distinct};
-ghost use Rattle.questions.specs.Columns.{candidate_end, column_end, name_of, end_of, NameEnd};
+ghost use Rattle.questions.specs.Columns.{candidate_bytes, column_bytes, NameEnd};
 
+use crate::columns::{Candidate, Column};
 use bags::values::ABSENT;
-use lookups::steps::value_next;
+use lookups::steps::{Stepped, many_next, value_next};
 use slices::same;
 
 // What may not occur twice: a candidate in its column, a column in the question.
-#[derive(Clone, Copy)]
-pub enum Unrepeated {
-    Candidate,
-    Column,
+pub trait Unrepeated: Stepped {
+    // What tells it from the others, by where it starts and where it ends.
+    ghost name: { List ℕ → ℕ → ℕ → List ℕ };
+
+    // Where the bytes end that tell it from the others.
+    fn name_end(s: &[u8], at: usize, e: usize) -> usize
+        requires { Self.ending s.now at ≡ Some e }
+        ensures { NameEnd name s.now at e result };
 }
 
-// Where a candidate ends.
-pub fn candidate_next(s: &[u8], at: usize) -> usize
-    requires { (e : ℕ) × (candidate_end s.now at ≡ At e) }
-    ensures { candidate_end s.now at ≡ At result }
-{
-    let kind = s[at];
-    if kind == ABSENT {
-        return at + 1;
-    }
-    value_next(kind, s, at + 1)
-}
-
-// Where `n` candidates end.
-fn candidates_next(n: usize, s: &[u8], at: usize) -> usize
-    requires { (e : ℕ) × (many n (candidate_end s.now) at ≡ At e) }
-    ensures { many n (candidate_end s.now) at ≡ At result }
-{
-    let mut left = n;
-    let mut next = at;
-    while 0 < left {
-        next = candidate_next(s, next);
-        left -= 1;
-    }
-    next
-}
-
-// Where a column ends.
-pub fn column_next(s: &[u8], at: usize) -> usize
-    requires { (e : ℕ) × (column_end s.now at ≡ At e) }
-    ensures { column_end s.now at ≡ At result }
-{
-    let count_at = at + 2 + s[at + 1] as usize;
-    candidates_next(s[count_at] as usize, s, count_at + 1)
-}
-
-fn element_next(which: Unrepeated, s: &[u8], at: usize) -> usize
-    requires { (e : ℕ) × (end_of which s.now at ≡ At e) }
-    ensures { end_of which s.now at ≡ At result }
-{
-    match which {
-        Unrepeated::Candidate => candidate_next(s, at),
-        Unrepeated::Column => column_next(s, at),
+impl Stepped for Candidate {
+    fn next(s: &[u8], at: usize) -> usize {
+        match s[at] {
+            ABSENT => at + 1,
+            kind => value_next(kind, s, at + 1),
+        }
     }
 }
 
-// Where the bytes end that tell an element from the others.
-fn name_end(which: Unrepeated, s: &[u8], at: usize, e: usize) -> usize
-    requires { end_of which s.now at ≡ At e }
-    ensures { NameEnd which s.now at e result }
-{
-    match which {
-        Unrepeated::Candidate => e,
-        Unrepeated::Column => at + 2 + s[at + 1] as usize,
+impl Unrepeated for Candidate {
+    ghost name = { candidate_bytes };
+
+    #[inline(always)]
+    fn name_end(s: &[u8], at: usize, e: usize) -> usize {
+        e
     }
 }
 
-// Whether one of the `n` elements from `from` has the name `x`.
-fn occurs(which: Unrepeated, n: usize, s: &[u8], from: usize, x: &[u8]) -> bool
-    requires { (e : ℕ) × (many n (end_of which s.now) from ≡ At e) }
-    ensures { result ≡ among x.now (each n (end_of which s.now) (name_of which s.now) from) }
+impl Stepped for Column {
+    fn next(s: &[u8], at: usize) -> usize {
+        let count_at = at + 2 + s[at + 1] as usize;
+        many_next::<Candidate>(s[count_at] as usize, s, count_at + 1)
+    }
+}
+
+impl Unrepeated for Column {
+    ghost name = { column_bytes };
+
+    #[inline(always)]
+    fn name_end(s: &[u8], at: usize, e: usize) -> usize {
+        at + 2 + s[at + 1] as usize
+    }
+}
+
+// Whether one of the `n` things from `from` has the name `x`.
+fn occurs<T: Unrepeated>(n: usize, s: &[u8], from: usize, x: &[u8]) -> bool
+    requires { (e : ℕ) × (many n (T.ending s.now) from ≡ Some e) }
+    ensures { result ≡ among x.now (each n (T.ending s.now) (T.name s.now) from) }
 {
-    let mut left = n;
     let mut next = from;
-    while 0 < left {
-        let e = element_next(which, s, next);
-        let end = name_end(which, s, next, e);
+    for _ in 0..n {
+        let e = T::next(s, next);
+        let end = T::name_end(s, next, e);
         if same(x, &s[next..end]) {
             return true;
         }
         next = e;
-        left -= 1;
     }
     false
 }
 
-// Whether the `n` elements from `at` have different names.
-pub fn all_differ(which: Unrepeated, n: usize, s: &[u8], at: usize) -> bool
-    requires { (e : ℕ) × (many n (end_of which s.now) at ≡ At e) }
-    ensures { result ≡ distinct (each n (end_of which s.now) (name_of which s.now) at) }
+// Whether the `n` things from `at` have different names.
+pub fn all_differ<T: Unrepeated>(n: usize, s: &[u8], at: usize) -> bool
+    requires { (e : ℕ) × (many n (T.ending s.now) at ≡ Some e) }
+    ensures { result ≡ distinct (each n (T.ending s.now) (T.name s.now) at) }
 {
-    let mut left = n;
     let mut next = at;
-    while 0 < left {
-        left -= 1;
-        let e = element_next(which, s, next);
-        let end = name_end(which, s, next, e);
-        if occurs(which, left, s, e, &s[next..end]) {
+    for i in 0..n {
+        let e = T::next(s, next);
+        let end = T::name_end(s, next, e);
+        if occurs::<T>(n - i - 1, s, e, &s[next..end]) {
             return false;
         }
         next = e;

@@ -2,41 +2,20 @@
 // has and where their kind bytes stand.
 #![tactic(auto)]
 
-ghost use Rattle.std.specs.Prelude.{◌≡◌, ◌<◌, ◌≤◌};
-ghost use Rattle.tokens.specs.Table.{class_table};
 ghost use Rattle.questions.specs.Questions.{Question};
 
-use bags::sections::{Divided, Sections};
+use bags::sections::Sections;
 use questions::grid::places;
 use questions::question_sections;
 use std::io::Read;
-use tokens::classes::class_table;
-use vectors::place_at;
+use vectors::{read_part, vector_count};
 
-// How many candidates a column has: past the last of them the places are 0.
-fn count(grid: [[usize; 8]; 6], column: usize) -> usize
-    requires { column < 6 }
-    ensures { result ≤ 8 }
-{
-    let mut n = 0;
-    while n < 8 {
-        if place_at(grid, column, n) == 0 {
-            return n;
-        }
-        n += 1;
-    }
-    8
-}
-
-fn report_column<P: Print>(rt: &P, grid: [[usize; 8]; 6], column: usize)
-    requires { column < 6 }
-{
-    let n = count(grid, column);
-    vectors::print_more(rt, n as u64);
-    let mut choice = 0;
-    while choice < n {
-        vectors::print_more(rt, place_at(grid, column, choice) as u64);
-        choice += 1;
+// Writes how many candidates a column has, and where they stand: past the last of them the places are 0.
+fn report_column<P: Print>(rt: &P, column: &[usize; 8]) {
+    let n = column.iter().position(|place| *place == 0).unwrap_or(8);
+    let _ = print!(rt; " {n}");
+    for place in column.iter().take(n) {
+        let _ = print!(rt; " {place}");
     }
 }
 
@@ -44,41 +23,33 @@ fn report<P: Print>(rt: &P, s: &[u8], p: Sections)
     requires { Question s.now p }
 {
     let at = p.end;
-    let n = s[at] as usize;
-    let first = at + 1;
-    vectors::print_decimal(rt, desk::desk_rows(s) as u64);
-    let grid = places(s, first, n);
-    let mut column = 0;
-    while column < n {
-        report_column(rt, grid, column);
-        column += 1;
+    let n = usize::from(s[at]);
+    let _ = print!(rt; "{}", desk::desk_rows(s));
+    let grid = places(s, at + 1, n);
+    for column in grid.iter().take(n) {
+        report_column(rt, column);
     }
-    vectors::print_end(rt);
+    let _ = println!(rt);
 }
 
-fn answer<P: Print>(rt: &P, classes: &[u8; 256], s: &[u8])
-    requires { classes.now ≡ class_table }
-{
-    match question_sections(classes, s) {
-        Divided::Broken => vectors::print_number(rt, 24, b'\n'),
-        Divided::In(p) => report(rt, s, p),
+fn answer<P: Print>(rt: &P, s: &[u8]) {
+    match question_sections(s) {
+        Some(p) => report(rt, s, p),
+        None => {
+            let _ = println!(rt; "24");
+        }
     }
 }
 
-fn vector<P: Print, R: Read>(rt: &P, input: &mut R, classes: &[u8; 256])
-    requires { classes.now ≡ class_table }
-{
+fn vector<P: Print, R: Read>(rt: &P, input: &mut R) {
     let mut bytes = [0u8; 8192];
-    let n = vectors::read_part(input, &mut bytes);
-    answer(rt, classes, &bytes[..n]);
+    let n = read_part(input, &mut bytes);
+    answer(rt, &bytes[..n]);
 }
 
 fn main(rt: HostRuntime) {
     let mut input = rt.reader();
-    let classes = class_table();
-    let mut left = vectors::vector_count(&mut input);
-    while left > 0 {
-        vector(&rt, &mut input, &classes);
-        left -= 1;
+    for _ in 0..vector_count(&mut input) {
+        vector(&rt, &mut input);
     }
 }

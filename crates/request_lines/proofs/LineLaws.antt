@@ -2,13 +2,17 @@
 use mathlib.Core.Path.{◌≡◌, refl, sym, ap, ◌∙◌}
 use mathlib.Core.Bool.{Bool, true, false, cond}
 use mathlib.Core.List.{List, [], ◌∷◌}
-use Prim.Native.Nat.{ℕ, suc, ◌+◌, ◌-◌, ◌≤◌, ◌<◌}
+use Prim.Native.Nat.{ℕ, suc, ◌+◌, ◌-◌, ◌≤◌}
 use Prim.Native.Char.{code}
-use native.Mathlib.Numerals.{add-one}
 use native.Mathlib.Omega.{arith}
-use lib.Dec.{eqb}
-use lib.ListN.{length, get_or, take, drop, length-drop, drop_of_length-le}
-use lib.Seq.{drop-cons, drop-drop}
+use borrow.Author.Tests.{ltb-false}
+use lib.Dec.{eqb, ltb}
+use lib.ListN.{length, take, drop, length-take, length-drop, drop_of_length-le}
+use lib.Seq.{drop-drop, take_all}
+use Rattle.std.specs.Prelude.{Option, Some, None}
+use Rattle.std.specs.Option.{unwrap_or}
+use Rattle.std.specs.List.{position_or_len}
+use Rattle.std.proofs.lemmas.List.Recursion.{is_position_or_len}
 use Rattle.targets.specs.Matching.{request}
 use Rattle.request_lines.specs.Lines.{up_to_feed, past_feed, line_of, request_in, line_end, EndsAt, GoesOnAt}
 
@@ -34,21 +38,46 @@ behind (b ∷ rest) = go (eqb b (code "\n")) (behind rest)
     go true e = refl
     go false e = e
 
-module _ (s : List ℕ) (i : ℕ) where
-  -- a byte that is no line feed is passed
-  pub goes_on : i < length s → eqb (get_or s i 0) (code "\n") ≡ false → line_end s (i + 1) ≡ line_end s i
-  unfolding up_to_feed
-  goes_on h e = simp (drop-cons s i 0 h, e, add-one) (omega arith)
+-- and no more bytes than that has
+few_before : (s : List ℕ) (n : ℕ) → length s ≡ n → length (up_to_feed s) ≤ n
+few_before s n e = omega (arith, ap length (first_bytes s), length-take (length (up_to_feed s)) s)
 
-  -- a line feed ends the line
-  pub stops : i < length s → eqb (get_or s i 0) (code "\n") ≡ true → line_end s i ≡ i
-  unfolding up_to_feed
-  stops h e = simp (drop-cons s i 0 h, e) (omega arith)
+-- a line has the bytes before its line feed
+feed_at : (s : List ℕ) → length (up_to_feed s) ≡ position_or_len (λ b. eqb b (code "\n")) s
+unfolding up_to_feed
+feed_at = is_position_or_len (λ s. length (up_to_feed s)) (λ b. eqb b (code "\n")) refl (λ b rest. go b rest (eqb b (code "\n")))
+  where
+    go : (b : ℕ) (rest : List ℕ) (t : Bool) → length (cond t [] (b ∷ up_to_feed rest)) ≡ cond t 0 (1 + length (up_to_feed rest))
+    go b rest true = refl
+    go b rest false = omega arith
 
-  -- so does the end of the bytes
-  pub ends : length s ≤ i → line_end s i ≡ i
-  unfolding up_to_feed
-  ends h = simp (drop_of_length-le s h) (omega arith)
+-- the first line feed's place among the bytes, or their number
+abbrev pub feed_place : List ℕ → ℕ
+feed_place = position_or_len (λ b. eqb b (code "\n"))
+
+-- a line ends that many bytes from its start
+ends_at : (s : List ℕ) (at n : ℕ) → at ≤ length s → n ≡ feed_place (drop at s) → EndsAt s at (at + n)
+ends_at s at n h e =
+    let is : n ≡ length (up_to_feed (drop at s)) = e ∙ sym (feed_at (drop at s)) in
+    let few : length (up_to_feed (drop at s)) ≤ length s - at = few_before (drop at s) (length s - at) (length-drop at s) in
+    record { place = ap (λ (k : ℕ). at + k) is; low = omega arith; high = omega arith }
+
+-- as `position` tells it
+pub ends_from : (s : List ℕ) (at : ℕ) (o : Option ℕ) → at ≤ length s
+    → (let rest = take (length s - at) (drop at s) in o ≡ cond (ltb (feed_place rest) (length rest)) (Some (feed_place rest)) None)
+    → EndsAt s at (at + unwrap_or o (length (take (length s - at) (drop at s))))
+ends_from s at o h e =
+    let all : take (length s - at) (drop at s) ≡ drop at s = take_all (length s - at) (drop at s) (omega (arith, length-drop at s)) in
+    ends_at s at (unwrap_or o (length (take (length s - at) (drop at s)))) h
+    (ap (λ (l : List ℕ). unwrap_or o (length l)) all ∙ go (drop at s) (ltb (feed_place (drop at s)) (length (drop at s))) refl (rw all at e))
+  where
+    go : (rest : List ℕ) (t : Bool) → ltb (feed_place rest) (length rest) ≡ t → o ≡ cond (ltb (feed_place rest) (length rest)) (Some (feed_place rest)) None
+        → unwrap_or o (length rest) ≡ feed_place rest
+    go rest true f g = rw (g, f) refl
+    go rest false f g =
+        let long : length rest ≤ feed_place rest = ltb-false (feed_place rest) (length rest) f in
+        let few : feed_place rest ≤ length rest = rw (← feed_at rest) (few_before rest (length rest) refl) in
+        rw (g, f) (omega arith)
 
 -- where the bytes end, none are left
 pub none_left : {s : List ℕ} {end : ℕ} → end ≤ length s → length s ≤ end → GoesOnAt s end end

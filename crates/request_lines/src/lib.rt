@@ -9,14 +9,8 @@ pub fn line_end(s: &[u8], at: usize) -> usize
     requires { at ≤ length s.now }
     ensures { EndsAt s.now at result }
 {
-    let mut i = at;
-    while i < s.len() {
-        if s[i] == b'\n' {
-            return i;
-        }
-        i += 1;
-    }
-    i
+    let rest = &s[at..];
+    at + rest.iter().position(|b| *b == b'\n').unwrap_or(rest.len())
 }
 
 // Where the next line starts: past the line feed, if there is one.

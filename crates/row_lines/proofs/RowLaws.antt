@@ -1,12 +1,14 @@
 -- Laws of the lines of listed rows. Assumes nothing.
 use mathlib.Core.Path.{◌≡◌, refl, sym, ap, ◌∙◌}
 use mathlib.Core.List.{List, [], ◌∷◌, ◌++◌, append_assoc, append-nil}
-use Prim.Native.Nat.{ℕ, suc, ◌+◌, ◌*◌, ◌≤◌, ◌<◌}
+use Prim.Native.Nat.{ℕ, zero, suc, ◌+◌, ◌*◌, ◌≤◌, ◌<◌}
+use native.Mathlib.Numerals.{add-one}
 use native.Mathlib.Omega.{arith}
 use lib.ListN.{length, get_or, take, drop}
 use lib.Seq.{get_or-drop, drop-drop}
 use Rattle.folder.specs.Added.{Added}
 use Rattle.folder.specs.Decimals.{numbers_line}
+use Rattle.folder.proofs.PutLaws.{none_added, both_added}
 use Rattle.folder.proofs.DecimalLaws.{four_long}
 use Rattle.pages.specs.Listing.{row_size}
 use Rattle.pages.specs.Lines.{little_endian}
@@ -53,18 +55,23 @@ module _ (page : List ℕ) (at : ℕ) {n m o w : ℕ} (row : n ≡ little_endian
   row_put p f g h k = (rw row_there at p, omega (arith, p.counted, four_long n m o w f (omega arith) (omega arith) k))
 
 -- one line more
-pub row_on : (page : List ℕ) (at rest : ℕ) {a b whole : List ℕ} {left filled next : ℕ} → whole ≡ take filled a ++ row_lines left (drop at page) → left ≡ suc rest
-    → Added a filled (row_at (drop at page)) b next → whole ≡ take next b ++ row_lines rest (drop (at + row_size) page)
+one_more : (n : ℕ) (s : List ℕ) → row_lines (suc n) s ≡ row_lines n s ++ row_at (drop (row_size * n) s)
 unfolding row_lines
-row_on page at rest {a} {b} {whole} {left} {filled} {next} e is p =
-    let on : drop row_size (drop at page) ≡ drop (at + row_size) page = drop-drop row_size at page in
-    e ∙ ap (λ (k : ℕ). take filled a ++ row_lines k (drop at page)) is ∙ sym (append_assoc (take filled a) (row_at (drop at page)) (row_lines rest (drop row_size (drop at page))))
-    ∙ ap (λ (l : List ℕ). l ++ row_lines rest (drop row_size (drop at page))) (sym p.filled) ∙ ap (λ (l : List ℕ). take next b ++ row_lines rest l) on
+one_more zero s = append-nil (row_at s)
+one_more (suc n) s =
+    let e : row_size + row_size * n ≡ row_size * suc n = omega arith in
+    ap (λ (l : List ℕ). row_at s ++ l)
+    (one_more n (drop row_size s) ∙ ap (λ (l : List ℕ). row_lines n (drop row_size s) ++ row_at l) (drop-drop (row_size * n) row_size s ∙ ap (λ (k : ℕ). drop k s) e))
+    ∙ sym (append_assoc (row_at s) (row_lines n (drop row_size s)) (row_at (drop (row_size * suc n) s)))
+
+pub row_on : (page : List ℕ) (n : ℕ) {a b c : List ℕ} {filled next : ℕ} → Added a 0 (row_lines n page) b filled
+    → Added b filled (row_at (drop (row_size * n) page)) c next → Added a 0 (row_lines (n + 1) page) c next
+row_on page n p q = rw (add-one n, one_more n page) (both_added p q)
+
+pub no_row : (page a : List ℕ) → Added a 0 (row_lines 0 page) a 0
+unfolding row_lines
+no_row page a = none_added a 0
 
 -- all lines
-pub rows_done : (page s : List ℕ) (written : ℕ) {a : List ℕ} {left filled : ℕ} → row_lines written page ≡ take filled a ++ row_lines left s → left ≤ 0 → filled ≤ length a
-    → RowsPut page written a filled
-unfolding row_lines
-rows_done page s written {a} {left} {filled} e h inside =
-    let none : left ≡ 0 = omega arith in
-    record { lines = sym (e ∙ ap (λ (k : ℕ). take filled a ++ row_lines k s) none ∙ append-nil (take filled a)); inside = inside }
+pub rows_done : (page : List ℕ) (written : ℕ) {a b : List ℕ} {filled : ℕ} → Added a 0 (row_lines written page) b filled → filled ≤ length b → RowsPut page written b filled
+rows_done page written p h = record { lines = p.filled; inside = h }

@@ -1,4 +1,5 @@
 -- What is promised of the sheet holds. Assumes nothing.
+use Rattle.std.specs.Prelude.{Some, Err, Ok}
 use mathlib.Core.Path.{◌≡◌, refl, sym, ap, ◌∙◌, subst}
 use mathlib.Core.Bool.{Bool, true, false, cond}
 use mathlib.Core.List.{List, ◌++◌}
@@ -13,7 +14,6 @@ use Rattle.grammar.specs.Policies.{PolicyOf}
 use Rattle.grammar.specs.declared.Version.{Version}
 use Rattle.bags.specs.Forms.{Contents}
 use Rattle.bags.specs.Sections.{sections_of}
-use Rattle.bags.specs.declared.sections.Divided.TheVariants.{In}
 use Rattle.questions.specs.Questions.{is_question, product, rows_of}
 use Rattle.questions.specs.Forms.{Column, QuestionBytes}
 use Rattle.questions.proofs.Exactly.{question_stands, question_exactly, not_a_question}
@@ -31,9 +31,8 @@ use Rattle.pages.specs.Listing.{listed, page_rows, next_row, row_size, rows_byte
 use Rattle.pages.proofs.Progress.{bytes_length}
 use Rattle.pages.proofs.Listed.{next_within, next_past}
 use Rattle.pages.proofs.AskedForms.{counts_are, combination_shows}
-use Rattle.sheets.specs.Sheets.{counts_in, sections_in, divided_as, decision_by, mark_there, decisions, row_marks, rows_asked, request_refusal, refusal_of, unless, written_over, sheet_answer, sheet_after, SheetSaid, sheet_said, said_to}
+use Rattle.sheets.specs.Sheets.{page_of, counts_in, sections_in, divided_as, decision_by, mark_there, decisions, row_marks, rows_asked, request_refusal, refusal_of, unless, written_over, sheet_answer, sheet_after, SheetSaid, sheet_said, said_to}
 use Rattle.sheets.specs.Promise.{SheetCall, Wellasked, SheetRefused, no_room, no_question, above, never_the_system, bad_request, not_compiled, none_wrong, SheetRefusedExactly, ListedAlike}
-use Rattle.sheets.specs.declared.Answer.TheVariants.{Listed, Refused}
 
 -- ---- the question's counts, rows and attributes, by what its bytes say
 
@@ -42,7 +41,7 @@ abbrev pub counts_asked : List ℕ → List ℕ
 counts_asked s = counts_in s (sections_in s)
 
 module _ {s : List ℕ} {base : Contents} {cs : List Column} (w : QuestionBytes s base cs) where
-  divided : sections_of s ≡ In (question_stands w).places
+  divided : sections_of s ≡ Some (question_stands w).places
   divided = (question_stands w).read
 
   sections_are : sections_in s ≡ (question_stands w).places
@@ -71,7 +70,7 @@ module _ {s : List ℕ} {base : Contents} {cs : List Column} (w : QuestionBytes 
 
 -- ---- a call that lists
 
-none_refused : (n w o : ℕ) → (sheet_said (unless n (Listed w o) Refused)).refusal ≡ 0 → n ≡ 0
+none_refused : (n w o : ℕ) → (sheet_said (unless n (page_of w o) Err)).refusal ≡ 0 → n ≡ 0
 unfolding unless sheet_said
 none_refused zero w o e = refl
 none_refused (suc n) w o e = e
@@ -152,8 +151,8 @@ module _ (text table s : List ℕ) (q : Request) (start : ℕ) (sheet : List ℕ
 -- ---- the refusals
 
 -- with a refusal
-refused_as_told : {A : Type 0} (n w o : ℕ) (a b : A) → ((sheet_said (unless n (Listed w o) Refused)).refusal ≡ 0 → ⊥)
-    → (unless n a (λ _. b) ≡ b) × ((sheet_said (unless n (Listed w o) Refused)).written ≡ 0) × ((sheet_said (unless n (Listed w o) Refused)).next ≡ 0)
+refused_as_told : {A : Type 0} (n w o : ℕ) (a b : A) → ((sheet_said (unless n (page_of w o) Err)).refusal ≡ 0 → ⊥)
+    → (unless n a (λ _. b) ≡ b) × ((sheet_said (unless n (page_of w o) Err)).written ≡ 0) × ((sheet_said (unless n (page_of w o) Err)).next ≡ 0)
 unfolding unless sheet_said
 refused_as_told zero w o a b h = absurd (h refl)
 refused_as_told (suc n) w o a b h = (refl, refl, refl)
@@ -164,7 +163,7 @@ pub nothing_changed : (text table s : List ℕ) (q : Request) (start : ℕ) (she
 unfolding sheet_answer sheet_after
 nothing_changed text table s q start sheet at h = refused_as_told (refusal_of text table s q start sheet at) _ _ _ sheet h
 
-number_is : (n w o : ℕ) → (sheet_said (unless n (Listed w o) Refused)).refusal ≡ n
+number_is : (n w o : ℕ) → (sheet_said (unless n (page_of w o) Err)).refusal ≡ n
 unfolding sheet_said unless
 number_is zero w o = refl
 number_is (suc n) w o = refl

@@ -1,12 +1,11 @@
 -- What the sheet's call answers and leaves in the sheet, as functions of all that it is given (document 01, 'The sheet', 'Refusal numbers').
 -- The version is the one that the table records (document 02, request 7). Definitions only.
-use Rattle.std.specs.Prelude.{◌≡◌, cond, List, ◌++◌, ℕ, zero, suc, ◌+◌, leb, length, take, drop}
+use Rattle.pages.specs.declared.Page.{Page}
+use Rattle.std.specs.Prelude.{◌≡◌, cond, List, ◌++◌, ℕ, zero, suc, ◌+◌, leb, length, take, drop, None, Option, Some, Err, Ok, Result}
 use Rattle.table.specs.Recorded.{recorded}
 use Rattle.compiling.specs.Outcome.{begins_of}
 use Rattle.bags.specs.Sections.{sections_of}
 use Rattle.bags.specs.declared.sections.Sections.{Sections}
-use Rattle.bags.specs.declared.sections.Divided.{Divided}
-use Rattle.bags.specs.declared.sections.Divided.TheVariants.{In, Broken}
 use Rattle.questions.specs.Questions.{is_question}
 use Rattle.meaning.specs.Targets.{Request, is_system, is_subject, is_action, is_resource}
 use Rattle.meaning.specs.declared.Decision.{Decision}
@@ -14,15 +13,13 @@ use Rattle.deciding.specs.Answers.{words_in}
 pub use Rattle.turns.specs.Rows.{columns_in, first_in, counts_in, rows_in, view_by, decision_at, row_mark}
 unfoldable pub use Rattle.turns.specs.Rows.{decision_by, mark_there}
 use Rattle.pages.specs.Listing.{page_rows, next_row, row_size, rows_bytes, over, room_in}
-use Rattle.sheets.specs.declared.Answer.{Answer}
-use Rattle.sheets.specs.declared.Answer.TheVariants.{Listed, Refused}
 
 -- ---- the sections of a question
 
 -- sections as they are divided, and none where they are broken
-unfoldable pub divided_as : Divided → Sections
-divided_as (In p) = p
-divided_as Broken = record { resource = 0; env = 0; end = 0 }
+unfoldable pub divided_as : Option Sections → Sections
+divided_as (Some p) = p
+divided_as None = record { resource = 0; env = 0; end = 0 }
 
 -- the sections of a question
 abbrev pub sections_in : List ℕ → Sections
@@ -48,17 +45,21 @@ unless (suc n) a refused = refused (suc n)
 
 -- ---- a page
 
+-- so many rows are written, and this is the row to go on with
+abbrev pub page_of : ℕ → ℕ → Result Page ℕ
+page_of written next = Ok (record { written = written; next = next })
+
 -- the answer for a part of the sheet: the rows written, and the first listed row at or after the start that was not written, else the number of rows
-abbrev pub listed_on : (ℕ → Decision) → ℕ → ℕ → List ℕ → Answer
-listed_on d rows start part = Listed (length (page_rows d rows start (room_in part))) (next_row d rows start (room_in part))
+abbrev pub listed_on : (ℕ → Decision) → ℕ → ℕ → List ℕ → Result Page ℕ
+listed_on d rows start part = page_of (length (page_rows d rows start (room_in part))) (next_row d rows start (room_in part))
 
 -- the part afterwards
 abbrev pub written_over : (ℕ → Decision) → (ℕ → ℕ) → ℕ → ℕ → List ℕ → List ℕ
 written_over d m rows start part = over (rows_bytes d m (page_rows d rows start (room_in part))) part
 
 -- a page for a question whose sections are p
-pub record PartListed (text table s : List ℕ) (p : Sections) (q : Request) (start : ℕ) (before : List ℕ) (answer : Answer) (after : List ℕ) : Type 0 where
-  pub answered : answer ≡ unless (request_refusal text table q) (listed_on (decision_at (recorded table) s p q (words_in text)) (rows_in s p) start before) Refused
+pub record PartListed (text table s : List ℕ) (p : Sections) (q : Request) (start : ℕ) (before : List ℕ) (answer : Result Page ℕ) (after : List ℕ) : Type 0 where
+  pub answered : answer ≡ unless (request_refusal text table q) (listed_on (decision_at (recorded table) s p q (words_in text)) (rows_in s p) start before) Err
   pub bytes : after ≡ unless (request_refusal text table q)
       (written_over (decision_at (recorded table) s p q (words_in text)) (row_mark (recorded table) s p q (words_in text)) (rows_in s p) start before) (λ _. before)
 
@@ -77,9 +78,9 @@ abbrev pub rows_asked : List ℕ → ℕ
 rows_asked s = rows_in s (sections_in s)
 
 -- what the call answers
-unfoldable pub sheet_answer : List ℕ → List ℕ → List ℕ → Request → ℕ → List ℕ → ℕ → Answer
+unfoldable pub sheet_answer : List ℕ → List ℕ → List ℕ → Request → ℕ → List ℕ → ℕ → Result Page ℕ
 sheet_answer text table s q start sheet at =
-    unless (refusal_of text table s q start sheet at) (listed_on (decisions text table s q) (rows_asked s) start (drop at sheet)) Refused
+    unless (refusal_of text table s q start sheet at) (listed_on (decisions text table s q) (rows_asked s) start (drop at sheet)) Err
 
 -- the sheet afterwards: the page is written into the part from the named byte on; a refusal changes nothing
 unfoldable pub sheet_after : List ℕ → List ℕ → List ℕ → Request → ℕ → List ℕ → ℕ → List ℕ
@@ -89,7 +90,7 @@ sheet_after text table s q start sheet at =
     (λ _. sheet)
 
 -- what the call promises
-pub record SheetListed (text table s : List ℕ) (q : Request) (start : ℕ) (before : List ℕ) (at : ℕ) (answer : Answer) (after : List ℕ) : Type 0 where
+pub record SheetListed (text table s : List ℕ) (q : Request) (start : ℕ) (before : List ℕ) (at : ℕ) (answer : Result Page ℕ) (after : List ℕ) : Type 0 where
   pub answered : answer ≡ sheet_answer text table s q start before at
   pub sheet : after ≡ sheet_after text table s q start before at
 
@@ -100,9 +101,9 @@ pub record SheetSaid : Type 0 where
   pub next : ℕ
 
 -- document 01's numbers for each answer
-unfoldable pub sheet_said : Answer → SheetSaid
-sheet_said (Listed written next) = record { refusal = 0; written = written; next = next }
-sheet_said (Refused number) = record { refusal = number; written = 0; next = 0 }
+unfoldable pub sheet_said : Result Page ℕ → SheetSaid
+sheet_said (Ok page) = record { refusal = 0; written = page.written; next = page.next }
+sheet_said (Err number) = record { refusal = number; written = 0; next = 0 }
 
 -- what the call says
 abbrev pub said_to : List ℕ → List ℕ → List ℕ → Request → ℕ → List ℕ → ℕ → SheetSaid

@@ -32,16 +32,16 @@ pub struct Rules {
 }
 
 // Writes the listed rows from a start row on over the start of the part, as many as fit; its other bytes stay.
-fn write_rows<'a>(
+fn write_rows(
     walk: Walk,
     looks: &[u8; LOOKS],
-    text: &'a [u8],
+    text: &[u8],
     table: &[u8],
-    s: &'a [u8],
+    s: &[u8],
     places: &[u16; KEPT],
     grid: [[usize; MOST_CANDIDATES]; MOST_COLUMNS],
     ends: &[u8; MOST_COLUMNS],
-    action: &'a [u8],
+    action: &[u8],
     all: usize,
     start: usize,
     part: &mut [u8],
@@ -57,7 +57,6 @@ fn write_rows<'a>(
         (words_of text.now (policies_at table.now walk.entries)))
         all start part.old result part.new }
 {
-    let p = walk.p;
     let mut choices = choices_of(ends, start);
     let mut values = chosen(grid, MOST_COLUMNS, &choices);
     let mut notes = [0u8; NOTES];
@@ -66,20 +65,16 @@ fn write_rows<'a>(
     let mut kept = 0;
     let mut written = 0;
     let mut at = 0;
+    // (A `for` joins the two ways of the `if` before its next turn, and the proof did not close over the join.)
     let mut row = start;
     while row < all {
         let here = row;
         let late = lates[from];
         let there = Walk {
-            system: walk.system,
-            policies: walk.policies,
-            entries: walk.entries,
-            p: p,
-            n: walk.n,
-            from: from,
-            late: late,
+            from,
+            late,
             mark: kept,
-            permits: walk.permits,
+            ..walk
         };
         let t = take_turn(
             there,
@@ -103,7 +98,7 @@ fn write_rows<'a>(
         if is_allowed(d) {
             if part.len() - at < ROW_SIZE {
                 return Page {
-                    written: written,
+                    written,
                     next: here,
                 };
             }
@@ -112,21 +107,18 @@ fn write_rows<'a>(
             written += 1;
         }
     }
-    Page {
-        written: written,
-        next: all,
-    }
+    Page { written, next: all }
 }
 
 // The same, from the question alone: the places of its columns and candidates, and what each policy looks at, are found once.
-pub fn write_page<'a>(
+pub fn write_page(
     rules: Rules,
-    text: &'a [u8],
+    text: &[u8],
     table: &[u8],
-    s: &'a [u8],
+    s: &[u8],
     p: Sections,
     subject: &[u8],
-    action: &'a [u8],
+    action: &[u8],
     resource: &[u8],
     types: Types,
     all: usize,
@@ -168,12 +160,12 @@ pub fn write_page<'a>(
         system: rules.system,
         policies: rules.policies,
         entries: rules.entries,
-        p: p,
-        n: n,
+        p,
+        n,
         from: 0,
         late: 0,
         mark: 0,
-        permits: permits,
+        permits,
     };
     write_rows(
         walk, &looks, text, table, s, &found, grid, &ends, action, all, start, part,

@@ -1,13 +1,16 @@
--- Bytes compared in pieces, each as one number; bytes that stand at a place, one part after the other. Assumes nothing.
-use Prim.Native.Nat.{ℕ, ◌+◌, ◌*◌, ◌<◌}
+-- Four bytes as one number; bytes that stand at a place, one part after the other. Assumes nothing.
+use Prim.Native.Nat.{ℕ, zero, suc, ◌+◌, ◌-◌, ◌*◌, ◌<◌, ◌≤◌}
 use mathlib.Core.Bool.{Bool, true, false, ◌&&◌}
 use mathlib.Core.List.{List, [], ◌∷◌, ◌++◌}
-use mathlib.Core.Path.{◌≡◌, refl, ap, ◌∙◌}
+use mathlib.Core.Path.{◌≡◌, refl, sym, ap, ◌∙◌}
 use native.Mathlib.Omega.{arith}
 use lib.Dec.{eqb}
-use lib.ListN.{length, get_or}
+use lib.ListN.{length, get_or, take, drop}
+use lib.Pointwise.{pointwise}
 use borrow.Author.Tests.{eqb-true, eqb-false, eq-eqb, ne_eqb}
+use Rattle.slices.specs.Same.{same}
 use Rattle.slices.specs.Standing.{stands_at, joined_of}
+use Rattle.slices.proofs.Rest.{rest_at}
 
 -- ---- four bytes as one number
 
@@ -24,33 +27,41 @@ module _ (p q r s a b c d : ℕ) (hp : p < 256) (hq : q < 256) (hr : r < 256) (h
       let h3 = low_byte r c s d hr hc h2.1 in
       (h1.0, h2.0, h3.0, h3.1)
 
-  -- two of them are equal where all bytes are
-  pub joined_same : eqb (joined_of p q r s) (joined_of a b c d) ≡ (eqb p a && (eqb q b && (eqb r c && (eqb s d && true))))
-  joined_same = go (eqb p a) (eqb q b) (eqb r c) (eqb s d) refl refl refl refl
-    where
-      go : (i j k l : Bool) → eqb p a ≡ i → eqb q b ≡ j → eqb r c ≡ k → eqb s d ≡ l → eqb (joined_of p q r s) (joined_of a b c d) ≡ (i && (j && (k && (l && true))))
-      go true true true true e f g h =
-          let e' = eqb-true p a e in let f' = eqb-true q b f in let g' = eqb-true r c g in let h' = eqb-true s d h in
-          eq-eqb (joined_of p q r s) (joined_of a b c d) (omega arith)
-      go true true true false e f g h = ne_eqb (joined_of p q r s) (joined_of a b c d) (λ n. eqb-false s d h (joined_bytes n).3)
-      go true true false l e f g h = ne_eqb (joined_of p q r s) (joined_of a b c d) (λ n. eqb-false r c g (joined_bytes n).2)
-      go true false k l e f g h = ne_eqb (joined_of p q r s) (joined_of a b c d) (λ n. eqb-false q b f (joined_bytes n).1)
-      go false j k l e f g h = ne_eqb (joined_of p q r s) (joined_of a b c d) (λ n. eqb-false p a e (joined_bytes n).0)
+-- ---- bytes at a place
 
-module _ (t : List ℕ) (at x y : ℕ) (u : (k : ℕ) → get_or t k 0 < 256) where
-  -- the number of four bytes tells whether others stand there
-  pub four_stand : (a b c d : ℕ) → a < 256 → b < 256 → c < 256 → d < 256
-      → x ≡ joined_of (get_or t at 0) (get_or t (at + 1) 0) (get_or t (at + 2) 0) (get_or t (at + 3) 0) → y ≡ joined_of a b c d → eqb x y ≡ stands_at (a ∷ b ∷ c ∷ d ∷ []) t at
-  unfolding stands_at
-  four_stand a b c d ha hb hc hd e f =
-      let two : at + 2 ≡ at + 1 + 1 = omega arith in
-      let three : at + 3 ≡ at + 1 + 1 + 1 = omega arith in
-      rw (rw (two, three) at e, f) (joined_same _ _ _ _ a b c d (u at) (u (at + 1)) (u (at + 1 + 1)) (u (at + 1 + 1 + 1)) ha hb hc hd)
+eqb_turned : (x y : ℕ) → eqb x y ≡ eqb y x
+eqb_turned x y = go (eqb y x) refl
+  where
+    go : (t : Bool) → eqb y x ≡ t → eqb x y ≡ t
+    go true e = eq-eqb x y (sym (eqb-true y x e))
+    go false e = ne_eqb x y (λ h. eqb-false y x e (sym h))
 
-  -- so does that of two
-  pub two_stand : (a b : ℕ) → a < 256 → b < 256 → x ≡ joined_of (get_or t at 0) (get_or t (at + 1) 0) 0 0 → y ≡ joined_of a b 0 0 → eqb x y ≡ stands_at (a ∷ b ∷ []) t at
-  unfolding stands_at
-  two_stand a b ha hb e f = rw (e, f) (joined_same _ _ 0 0 a b 0 0 (u at) (u (at + 1)) (omega arith) (omega arith) ha hb (omega arith) (omega arith))
+-- the bytes that begin what is left from a place on stand there
+pub begin_stand : (w t : List ℕ) (at : ℕ) → at + length w ≤ length t → pointwise eqb w (take (length w) (drop at t)) ≡ stands_at w t at
+unfolding stands_at
+begin_stand [] t at h = refl
+begin_stand (x ∷ w) t at h =
+    let here : at < length t = omega arith in
+    rw (rest_at t at here, eqb_turned x (get_or t at 0)) (ap (λ (b : Bool). eqb (get_or t at 0) x && b) (begin_stand w t (at + 1) (omega arith)))
+
+-- so do those that begin as many bytes as they have, cut out there
+pub starts_stand : (w t : List ℕ) (at n : ℕ) → length w ≡ n → at + n ≤ length t → pointwise eqb w (take (length w) (take (at + n - at) (drop at t))) ≡ stands_at w t at
+starts_stand w t at n e h =
+    let size : at + n - at ≡ length w = omega arith in
+    rw (size, take_take (length w) (drop at t)) (begin_stand w t at (omega arith))
+  where
+    take_take : (k : ℕ) (l : List ℕ) → take k (take k l) ≡ take k l
+    take_take zero l = refl
+    take_take (suc k) [] = refl
+    take_take (suc k) (x ∷ l) = ap (λ (r : List ℕ). x ∷ r) (take_take k l)
+
+-- bytes that begin others of the same length are these
+pub starts_same : (w s : List ℕ) → length s ≡ length w → pointwise eqb w (take (length w) s) ≡ same s w
+unfolding same
+starts_same [] [] h = refl
+starts_same [] (y ∷ s) h = absurd (omega arith)
+starts_same (x ∷ w) [] h = absurd (omega arith)
+starts_same (x ∷ w) (y ∷ s) h = rw (eqb_turned x y) (ap (λ (b : Bool). eqb y x && b) (starts_same w s (omega arith)))
 
 -- ---- one part after the other
 

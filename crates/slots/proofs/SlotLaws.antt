@@ -1,4 +1,5 @@
 -- Laws of kept places: what putting one more keeps, and what an empty slot and a slot with the path tell of a section. Assumes nothing.
+use Rattle.std.specs.Prelude.{None, Option, Some}
 use Prim.Native.Nat.{ℕ, zero, suc, ◌+◌, ◌-◌, ◌*◌, ◌%◌, ◌<◌, ◌≤◌}
 use mathlib.Core.List.{List, ◌∷◌}
 use mathlib.Core.Bool.{Bool, true, false, false≢true}
@@ -18,8 +19,6 @@ use Rattle.slices.proofs.Equal.{same_decides, other_length}
 use Rattle.slices.proofs.Order.{not_before_itself, before_trans}
 use Rattle.bags.specs.Reading.{byte, many, each, following}
 use Rattle.bags.specs.Sections.{path_at, kind_at, entry_end, paths_of, Ascending, none, one, more, section_end, Sectioned}
-use Rattle.bags.specs.declared.After.{After}
-use Rattle.bags.specs.declared.After.TheVariants.{At, Bad}
 use Rattle.bags.specs.declared.sections.Sections.{Sections}
 use Rattle.bags.proofs.Ascent.{ascending_decides}
 use Rattle.bags.proofs.ReadLaws.{many_more, many_inside, part_to}
@@ -53,9 +52,9 @@ other_slot base start i j h k n e = n (omega arith)
 
 module _ (places : List ℕ) (base start x : ℕ) (sized : length places ≡ 202) (fits : base + 64 ≤ 202) (low : 0 < x) where
   -- put into the first empty slot
-  pub put_there : (k : ℕ) → FirstFree places base start k → k < 202 → SlotPut places (set places k x) base start x
-  put_there k (index.none full) h = absurd (omega arith)
-  put_there k (some {d} few empty full) h = record {
+  there : (d : ℕ) → d < 64 → slot_at places base (start + d) ≡ 0 → ((j : ℕ) → j < d → slot_at places base (start + j) ≡ 0 → ⊥)
+      → SlotPut places (set places (base + (start + d) % 64) x) base start x
+  there d few empty full = record {
     sized = simp length-set sized;
     met = record { before = λ e f z. go e f z (ltb e d) (eqb e d) refl refl };
     full = λ i n. other i (λ q. n (ap (λ (m : ℕ). get_or places m 0) q ∙ empty));
@@ -78,10 +77,14 @@ module _ (places : List ℕ) (base start x : ℕ) (sized : length places ≡ 202
       go e f z false true p q = absurd (let w : e ≡ d = eqb-true e d q in let y = rw w at z in let v = sym here ∙ y in omega arith)
       go e f z false false p q = let l = ltb-false e d p in let n = eqb-false e d q in (d, ((omega arith), here))
 
+  pub put_there : {r : Option ℕ} → FirstFree places base start r → (k : ℕ) → r ≡ Some k → SlotPut places (set places k x) base start x
+  put_there (index.none full) k e = absurd (let z : ◌≡◌ {A = ℕ} 0 1 = cc in omega arith)
+  put_there (some {d} few empty full) k e = let q : base + (start + d) % 64 ≡ k = cc in rw (← q) (there d few empty full)
+
   -- there was none: whatever comes to an empty slot has come to it before
-  pub put_nowhere : (k : ℕ) → FirstFree places base start k → 202 ≤ k → SlotPut places places base start x
-  put_nowhere k (some {d} few empty full) h = absurd (omega arith)
-  put_nowhere k (index.none full) h = record {
+  pub put_nowhere : {r : Option ℕ} → FirstFree places base start r → r ≡ None → SlotPut places places base start x
+  put_nowhere (some {d} few empty full) e = absurd (let z : ◌≡◌ {A = ℕ} 0 1 = cc in omega arith)
+  put_nowhere (index.none full) e = record {
     sized = sized;
     met = record { before = λ e f z. absurd (full e f z) };
     full = λ i n. refl;
@@ -127,14 +130,14 @@ module _ (s path : List ℕ) (at : ℕ) where
 
 module _ (s : List ℕ) where
   -- an entry takes at least its length byte and its kind byte
-  entry_on : (at e : ℕ) → entry_end s at ≡ At e → at < e
+  entry_on : (at e : ℕ) → entry_end s at ≡ Some e → at < e
   entry_on at e q = let w = value_inside _ s _ e (entry_at s at e q).valued in omega arith
 
-  entry_inside : (at e : ℕ) → entry_end s at ≡ At e → (at ≤ e) × (e ≤ length s)
+  entry_inside : (at e : ℕ) → entry_end s at ≡ Some e → (at ≤ e) × (e ≤ length s)
   entry_inside at e q = let w = value_inside _ s _ e (entry_at s at e q).valued in (omega arith, w.1)
 
   -- a section starts and ends in the bytes
-  pub section_inside : (b e : ℕ) → section_end s b ≡ At e → (b < length s) × (e ≤ length s)
+  pub section_inside : (b e : ℕ) → section_end s b ≡ Some e → (b < length s) × (e ≤ length s)
   section_inside b e h =
       let w = section_at_lem s b e h in
       (w.counted, (many_inside (entry_end s) (length s) entry_inside (byte s b) (b + 1) e (omega arith) w.entries).1)
@@ -143,7 +146,7 @@ module _ (s : List ℕ) where
   entry_low (the_first q) l = l
   entry_low (a_later {at = at} {next = e} q m) l = let g = entry_on at e q in entry_low m (omega arith)
 
-  pub entry_ends : {n at x : ℕ} → EntryOf s n at x → (e : ℕ) × (entry_end s x ≡ At e)
+  pub entry_ends : {n at x : ℕ} → EntryOf s n at x → (e : ℕ) × (entry_end s x ≡ Some e)
   entry_ends (the_first {next = e} q) = (e, q)
   entry_ends (a_later q m) = entry_ends m
 
@@ -152,11 +155,11 @@ module _ (s : List ℕ) where
   entry_some (a_later q m) = omega arith
 
   -- it is the first, or one of those after it
-  entry_cases : {n at x e : ℕ} → entry_end s at ≡ At e → EntryOf s (suc n) at x → (x ≡ at) ⊎ EntryOf s n e x
+  entry_cases : {n at x e : ℕ} → entry_end s at ≡ Some e → EntryOf s (suc n) at x → (x ≡ at) ⊎ EntryOf s n e x
   entry_cases q (the_first r) = inl refl
   entry_cases {n} {at} {x} {e} q (a_later {next = f} r m) = inr (let w : f ≡ e = cc in subst (λ (y : ℕ). EntryOf s n y x) w m)
 
-module _ (s : List ℕ) (at e : ℕ) (q : entry_end s at ≡ At e) where
+module _ (s : List ℕ) (at e : ℕ) (q : entry_end s at ≡ Some e) where
   -- its path as code lends it, and how long that is
   pub lent_path : take (at + 1 + byte s at - (at + 1)) (drop (at + 1) s) ≡ path_at s at
   lent_path = part_to s (at + 1) (byte s at)
@@ -204,7 +207,7 @@ module _ (s before : List ℕ) (base b : ℕ) where
         go x (inl w) = w
         go x (inr m) = let l = entry_some s m in absurd (omega arith)
 
-    pub filling_on : (after' : List ℕ) (e : ℕ) → 0 < left → entry_end s next ≡ At e → SlotPut after after' base (start_slot (path_at s next)) next
+    pub filling_on : (after' : List ℕ) (e : ℕ) → 0 < left → entry_end s next ≡ Some e → SlotPut after after' base (start_slot (path_at s next)) next
         → Filling s before after' base b (left - 1) e
     filling_on after' e h q p = record {
       sized = p.sized;
@@ -272,15 +275,15 @@ module _ (s path : List ℕ) where
   nothing_among zero at empty = refl
   nothing_among (suc n) at empty = go (entry_end s at) refl (nothing_among n)
     where
-      go : (a : After) → entry_end s at ≡ a → ((e : ℕ) → ((x : ℕ) → EntryOf s n e x → path_at s x ≡ path → ⊥) → look_in absent (each n (entry_end s) (bag_entry_at s) e) path ≡ absent)
+      go : (a : Option ℕ) → entry_end s at ≡ a → ((e : ℕ) → ((x : ℕ) → EntryOf s n e x → path_at s x ≡ path → ⊥) → look_in absent (each n (entry_end s) (bag_entry_at s) e) path ≡ absent)
           → look_in absent (following a λ e. bag_entry_at s at e ∷ each n (entry_end s) (bag_entry_at s) e) path ≡ absent
-      go Bad q rest = refl
-      go (At e) q rest =
+      go None q rest = refl
+      go (Some e) q rest =
           let other = one_answer (same (path_at s at) path) false (same_decides (path_at s at) path) (no_to (empty at (the_first q))) in
           rw other (rest e (λ x m. empty x (a_later q m)))
 
   module _ (b : ℕ) where
-    pub found_section : (e : ℕ) {x : ℕ} → section_end s b ≡ At e → EntryIn s b x → path_at s x ≡ path → look_in absent (section_at s b) path ≡ value_at s (kind_at s x)
+    pub found_section : (e : ℕ) {x : ℕ} → section_end s b ≡ Some e → EntryIn s b x → path_at s x ≡ path → look_in absent (section_at s b) path ≡ value_at s (kind_at s x)
     unfolding section_at
     found_section e h m k = found_among m k ((ascending_decides (paths_of (byte s b) s (b + 1))).sound (section_at_lem s b e h).ascend)
 
@@ -301,7 +304,7 @@ module _ (s path : List ℕ) where
 pub record Rooted (s places : List ℕ) (root : ℕ) : Type 0 where
   pub count : ℕ
   pub stop : ℕ
-  pub section : section_end s count ≡ At stop
+  pub section : section_end s count ≡ Some stop
   pub kept : SlotsHold s places (64 * (root - 1)) count
   pub is : section_at s count ≡ base_of s (kept_sections places) root
 
@@ -336,7 +339,7 @@ module _ (s places : List ℕ) (root : ℕ) where
       slot_held = rw is (r.kept.held (k % 64) (omega arith) (λ z. n (is ∙ z)))
 
       -- a slot that is not empty has an entry
-      pub slot_ends : (e : ℕ) × (entry_end s x ≡ At e)
+      pub slot_ends : (e : ℕ) × (entry_end s x ≡ Some e)
       slot_ends = entry_ends s slot_held
 
       -- a slot with the path: the attribute is its entry's value

@@ -1,5 +1,5 @@
 -- The places of a bag's entries, kept in one list of numbers, so that an attribute is found by its path without going through its section. Definitions only.
-use Rattle.std.specs.Prelude.{ℕ, ◌+◌, ◌-◌, ◌*◌, ◌/◌, ◌%◌, ◌<◌, ◌≤◌, List, ◌≡◌, length, get_or}
+use Rattle.std.specs.Prelude.{ℕ, ◌+◌, ◌-◌, ◌*◌, ◌/◌, ◌%◌, ◌<◌, ◌≤◌, List, ◌≡◌, length, get_or, None, Option, Some}
 use Rattle.bags.specs.Reading.{byte}
 use Rattle.bags.specs.Sections.{path_at}
 use Rattle.bags.specs.declared.sections.Sections.{Sections}
@@ -46,11 +46,11 @@ pub record Indexed (s places : List ℕ) : Type 0 where
 
 -- ---- what the steps of keeping do
 
--- the number of the first empty slot from a start on; placesSize where none is empty
-pub data FirstFree (places : List ℕ) (base start : ℕ) : ℕ → Type 0 where
+-- the number of the first empty slot from a start on, or None where none is empty
+pub data FirstFree (places : List ℕ) (base start : ℕ) : Option ℕ → Type 0 where
   some : {d : ℕ} → d < slot_count → slot_at places base (start + d) ≡ 0 → ((j : ℕ) → j < d → slot_at places base (start + j) ≡ 0 → ⊥)
-      → FirstFree places base start (base + (start + d) % slot_count)
-  none : ((j : ℕ) → j < slot_count → slot_at places base (start + j) ≡ 0 → ⊥) → FirstFree places base start places_size
+      → FirstFree places base start (Some (base + (start + d) % slot_count))
+  none : ((j : ℕ) → j < slot_count → slot_at places base (start + j) ≡ 0 → ⊥) → FirstFree places base start None
 
 -- a number is put into the slots of a root: it is met, and only an empty slot has changed
 pub record SlotPut (before after : List ℕ) (base start x : ℕ) : Type 0 where

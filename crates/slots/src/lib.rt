@@ -1,11 +1,10 @@
 // The places of a bag's entries, found once and kept: an attribute is found by its path without going through its section.
 #![tactic(auto)]
 
-ghost use Rattle.std.specs.Prelude.{◌≡◌, true, ℕ, ◌+◌, ◌*◌, ◌%◌, ◌<◌, ◌≤◌, length, get_or};
+ghost use Rattle.std.specs.Prelude.{◌≡◌, true, ℕ, ◌+◌, ◌*◌, ◌%◌, ◌<◌, ◌≤◌, length, get_or, Some};
 ghost use Rattle.slices.specs.Same.{same};
 ghost use Rattle.bags.specs.Sections.{path_at, kind_at, entry_end, section_end, Sectioned};
 ghost use Rattle.bags.specs.Sizes.{most_bag_bytes};
-ghost use Rattle.bags.specs.declared.After.TheVariants.{At};
 ghost use Rattle.tokens.specs.Blanks.{unblanked};
 ghost use Rattle.tokens.specs.Sizes.{most_path_bytes};
 ghost use Rattle.lookups.specs.Values.{absent, ShownAt};
@@ -23,13 +22,6 @@ pub const KEPT: usize = 202;
 
 // How many slots a root has.
 const SLOTS: usize = 64;
-
-// A kept number as one that indexes.
-pub fn wide(place: u16) -> usize
-    ensures { result ≡ place }
-{
-    place as usize
-}
 
 // A slot from a path's length and three of its bytes: each counts with an odd factor, so that paths which differ in one of them alone start apart.
 fn mixed(n: usize, last: u8, first: u8, middle: u8) -> usize
@@ -51,21 +43,19 @@ fn start_slot(path: &[u8]) -> usize
     mixed(n, path[n - 1], path[0], path[n / 2])
 }
 
-// The first empty slot from a start on, round the slots of a root; KEPT where none is empty.
-fn free_slot(places: &[u16; KEPT], base: usize, start: usize) -> usize
+// The first empty slot from a start on, round the slots of a root.
+fn free_slot(places: &[u16; KEPT], base: usize, start: usize) -> Option<usize>
     requires slot_count_bound { base + slot_count ≤ places_size }
     requires start_lt_slot_count { start < slot_count }
     ensures { FirstFree places.now base start result }
 {
-    let mut tries = 0;
-    while tries < SLOTS {
+    for tries in 0..SLOTS {
         let k = base + (start + tries) % SLOTS;
         if places[k] == 0 {
-            return k;
+            return Some(k);
         }
-        tries += 1;
     }
-    KEPT
+    None
 }
 
 // Puts the place of an entry into the slots of its root.
@@ -74,15 +64,14 @@ fn put_entry(s: &[u8], places: &mut [u16; KEPT], base: usize, at: usize)
     requires slot_count_bound { base + slot_count ≤ places_size }
     requires at_nonzero { 0 < at }
     requires s_len_bound { length s.now ≤ most_bag_bytes }
-    requires by_index { (e : ℕ) × (entry_end s.now at ≡ At e) }
+    requires by_index { (e : ℕ) × (entry_end s.now at ≡ Some e) }
     ensures { SlotPut places.old places.new base (start_slot (path_at s.now at)) at }
 {
     let n = s[at] as usize;
     let first = at + 1;
     let end = first + n;
     let start = start_slot(&s[first..end]);
-    let k = free_slot(places, base, start);
-    if k < KEPT {
+    if let Some(k) = free_slot(places, base, start) {
         places[k] = at as u16;
     }
 }
@@ -93,16 +82,14 @@ fn put_section(s: &[u8], places: &mut [u16; KEPT], base: usize, b: usize)
     requires slot_count_bound { base + slot_count ≤ places_size }
     requires by_index { (k : ℕ) → base ≤ k → k < base + slot_count → get_or places.old k 0 ≡ 0 }
     requires s_len_bound { length s.now ≤ most_bag_bytes }
-    requires by_index_2 { (e : ℕ) × (section_end s.now b ≡ At e) }
+    requires by_index_2 { (e : ℕ) × (section_end s.now b ≡ Some e) }
     ensures { Filled s.now places.old places.new base b }
 {
-    let mut left = s[b] as usize;
     let mut next = b + 1;
-    while 0 < left {
+    for _ in 0..s[b] {
         put_entry(s, places, base, next);
         let kind_at = next + 1 + s[next] as usize;
         next = value_next(s[kind_at], s, kind_at + 1);
-        left -= 1;
     }
 }
 
@@ -130,9 +117,9 @@ pub fn sections_in(places: &[u16; KEPT]) -> Sections
     ensures { result ≡ kept_sections places.now }
 {
     Sections {
-        resource: wide(places[192]),
-        env: wide(places[193]),
-        end: wide(places[194]),
+        resource: places[192] as usize,
+        env: places[193] as usize,
+        end: places[194] as usize,
     }
 }
 
@@ -140,12 +127,10 @@ pub fn sections_in(places: &[u16; KEPT]) -> Sections
 fn is_plain(path: &[u8]) -> bool
     ensures { result ≡ true → unblanked path.now ≡ path.now }
 {
-    let mut i = 0;
-    while i < path.len() {
-        if path[i] <= b' ' {
+    for c in path {
+        if *c <= b' ' {
             return false;
         }
-        i += 1;
     }
     true
 }
@@ -159,9 +144,10 @@ fn has_path(s: &[u8], at: usize, path: &[u8]) -> bool
     if s[at] as usize == n {
         let start = at + 1;
         let end = start + n;
-        return same_bytes(&s[start..end], path);
+        same_bytes(&s[start..end], path)
+    } else {
+        false
     }
-    false
 }
 
 // Whether a path of so many bytes may stand in the slots of a root byte.
@@ -177,8 +163,7 @@ fn place_through(s: &[u8], places: &[u16; KEPT], root: u8, path: &[u8]) -> usize
     ensures { ShownAt s.now result
         (look_in absent (base_of s.now (kept_sections places.now) root) (unblanked path.now)) }
 {
-    let p = sections_in(places);
-    base_place(s, p, root, path)
+    base_place(s, sections_in(places), root, path)
 }
 
 // Where the attribute of a root byte and a path stands: from the path's first slot on, and through the section where the slots do not tell. It is the place
@@ -195,9 +180,8 @@ pub fn place_in(s: &[u8], places: &[u16; KEPT], root: u8, path: &[u8]) -> usize
     }
     let base = SLOTS * (root as usize - 1);
     let start = start_slot(path);
-    let mut tries = 0;
-    while tries < SLOTS {
-        let at = wide(places[base + (start + tries) % SLOTS]);
+    for tries in 0..SLOTS {
+        let at = places[base + (start + tries) % SLOTS] as usize;
         if at == 0 {
             if is_plain(path) {
                 return s.len();
@@ -205,10 +189,8 @@ pub fn place_in(s: &[u8], places: &[u16; KEPT], root: u8, path: &[u8]) -> usize
             return place_through(s, places, root, path);
         }
         if has_path(s, at, path) {
-            let kind_at = at + 1 + n;
-            return kind_at;
+            return at + 1 + n;
         }
-        tries += 1;
     }
     place_through(s, places, root, path)
 }

@@ -10,6 +10,7 @@ pub fn read_full<R: Read>(input: &mut R, buf: &mut [u8]) -> usize
     ensures { IsPrefixLen result buf.new }
 {
     let mut done = 0;
+    // a `for` would be no plainer: each read says how far it came
     while done < buf.len() {
         let n = read_some(input, &mut buf[done..]);
         if n == 0 {
@@ -24,10 +25,7 @@ pub fn read_full<R: Read>(input: &mut R, buf: &mut [u8]) -> usize
 fn read_some<R: Read>(input: &mut R, buf: &mut [u8]) -> usize
     ensures { IsPrefixLen result buf.new }
 {
-    match input.read(buf) {
-        Ok(n) => n,
-        Err(_) => 0,
-    }
+    input.read(buf).unwrap_or(0)
 }
 
 // Writes all of the bytes to the standard output.

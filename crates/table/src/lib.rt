@@ -25,7 +25,7 @@ pub struct Entry {
 fn number_of(low: u8, high: u8) -> usize
     ensures { result ≡ of_two_bytes low high }
 {
-    low as usize + 256 * (high as usize)
+    usize::from(u16::from_le_bytes([low, high]))
 }
 
 // Entry `number` of a table that has it.
@@ -101,11 +101,11 @@ pub fn append(table: &mut [u8], seen: &[u8], number: usize, same: bool, x: Entry
 pub fn recorded(table: &[u8]) -> Version
     ensures { result ≡ recorded_version table.now }
 {
-    let x = entry_at(table, 0);
-    if entries::FORBID < x.kind {
-        return Version::Second;
+    if entries::FORBID < entry_at(table, 0).kind {
+        Version::Second
+    } else {
+        Version::First
     }
-    Version::First
 }
 
 // How much higher the kind of a principal part is under a version.

@@ -1,4 +1,6 @@
 -- The cases of a call for a tally, test by test in document 02's order; and the rules that a request is counted by. Assumes nothing.
+use Rattle.std.specs.Prelude.{Some, None}
+use Rattle.std.proofs.lemmas.Option.{none-some, same_Some}
 use mathlib.Core.Path.{◌≡◌, refl, sym, ap, ◌∙◌}
 use mathlib.Core.Bool.{Bool, true, false, cond, ◌||◌}
 use mathlib.Core.List.{List}
@@ -9,12 +11,10 @@ use borrow.Author.Tests.{le-leb, lt-leb, eq-eqb, ne_eqb, ltb-true, ltb-false}
 use lib.Dec.{eqb, ltb}
 use Rattle.grammar.specs.Rules.{principal_types, resource_types}
 use Rattle.placing.specs.Said.{words_of}
-use Rattle.compiling.specs.Outcome.{held_of, begins_of}
-use Rattle.compiling.specs.declared.Held.TheVariants.{Right, Wrong}
+use Rattle.compiling.specs.Outcome.{table_size, held_of, begins_of}
 use Rattle.compiling.proofs.Outcomes.{right_begins, wrong_begins}
 use Rattle.bags.specs.Sections.{sections_of}
 use Rattle.bags.specs.declared.sections.Sections.{Sections}
-use Rattle.bags.specs.declared.sections.Divided.TheVariants.{In}
 use Rattle.questions.specs.Questions.{is_question}
 use Rattle.stored.specs.ReadBack.{policies_at}
 use Rattle.meaning.specs.Targets.{Request, is_typed, type_in, is_system}
@@ -29,21 +29,21 @@ use Rattle.turns.proofs.RowLaws.{none_ready, none_many}
 use Rattle.tallies.specs.Lent.{requests_of}
 use Rattle.tallies.specs.Tallies.{form_refusal, first_wrong, some_asks, first_refusal, group_count, groups_of, with_sums, group_for, RequestsTallied, tally_refusal, counts_after, Tallied}
 use Rattle.tallies.specs.Counted.{RulesHeld}
-use Rattle.tallies.specs.declared.counting.TableSize.{TableSize}
+use Rattle.compiling.specs.declared.TableSize.{TableSize}
 use Rattle.tallies.proofs.Refusing.{first_refusal_is, groups_alike, parts_right}
 use Rattle.tallies.proofs.Deciders.{system_counts}
 
 -- ---- the rules
 
 -- what the table holds where it was looked at, and nothing where it was not
-pub held_rules : (text table : List ℕ) (b : Bool) {policies entries : ℕ} → cond b (held_of text table) (Right 0 0) ≡ Right policies entries
-    → RulesHeld text table policies entries
-held_rules text table true {policies} {entries} h =
+pub held_rules : (text table : List ℕ) (b : Bool) {rules : TableSize} → cond b (held_of text table) (Some (table_size 0 0)) ≡ Some rules
+    → RulesHeld text table rules.policies rules.entries
+held_rules text table true {rules} h =
+    let policies = rules.policies in
+    let entries = rules.entries in
     record { ready = held_ready text table policies entries h; many = held_many text table policies entries h; few = held_few text table policies entries h }
-held_rules text table false {policies} {entries} h =
-    let p : 0 ≡ policies = cc in
-    let e : 0 ≡ entries = cc in
-    rw (← p, ← e) (record { ready = none_ready text table; many = none_many table; few = omega arith })
+held_rules text table false h =
+    rw (← same_Some _ _ h) (record { ready = none_ready text table; many = none_many table; few = omega arith })
 
 -- those for a request: none for the system
 module _ {r : TableSize} (b : Bool) (policies entries : ℕ) (is : r ≡ record { policies = cond b 0 policies; entries = cond b 0 entries }) where
@@ -92,18 +92,19 @@ module _ (text table s : List ℕ) (p : Sections) (qs : List Request) (before : 
   refused_by n e = record { answered = sym e; counts = rw e }
 
   -- the table is looked at and wrong
-  pub wrong_table : (b : Bool) → some_asks qs ≡ b → cond b (held_of text table) (Right 0 0) ≡ Wrong → RequestsTallied text table s p qs before 20 before
-  wrong_table false a h = absurd (let z : ◌≡◌ {A = ℕ} 0 1 = cc in omega arith)
+  pub wrong_table : (b : Bool) → some_asks qs ≡ b → cond b (held_of text table) (Some (table_size 0 0)) ≡ None → RequestsTallied text table s p qs before 20 before
+  wrong_table false a h = absurd (none-some _ (sym h))
   wrong_table true a h =
       let w : begins_of text table ≡ false = sym (wrong_begins text table (sym h)) in
       refused_by 19 (first_refusal_is text table qs ∙ rw (a, w))
 
   -- it is right, or not looked at
-  table_right : (b : Bool) → some_asks qs ≡ b → {policies entries : ℕ} → cond b (held_of text table) (Right 0 0) ≡ Right policies entries
+  table_right : (b : Bool) → some_asks qs ≡ b → {rules : TableSize} → cond b (held_of text table) (Some (table_size 0 0)) ≡ Some rules
       → first_refusal text table qs ≡ first_wrong qs
   table_right false a h = first_refusal_is text table qs ∙ rw a
-  table_right true a {policies} {entries} h =
-      let w : begins_of text table ≡ true = sym (right_begins text table (sym h)) in
+  table_right true a {rules} h =
+      let held : Some (table_size rules.policies rules.entries) ≡ held_of text table = sym h in
+      let w : begins_of text table ≡ true = sym (right_begins text table held) in
       first_refusal_is text table qs ∙ rw (a, w)
 
   wrong_by : (n : ℕ) → (n ≡ 0 → ⊥) → first_refusal text table qs ≡ n → RequestsTallied text table s p qs before n before
@@ -111,21 +112,21 @@ module _ (text table s : List ℕ) (p : Sections) (qs : List Request) (before : 
   wrong_by (suc n) h e = refused_by n e
 
   -- a request is refused by itself
-  pub wrong_request : (b : Bool) → some_asks qs ≡ b → {policies entries n : ℕ} → cond b (held_of text table) (Right 0 0) ≡ Right policies entries
+  pub wrong_request : (b : Bool) → some_asks qs ≡ b → {rules : TableSize} {n : ℕ} → cond b (held_of text table) (Some (table_size 0 0)) ≡ Some rules
       → n ≡ first_wrong qs → (n ≡ 0 → ⊥) → RequestsTallied text table s p qs before n before
   wrong_request b a {n = n} h e z = wrong_by n z (table_right b a h ∙ sym e)
 
   -- nothing is refused: the groups are those by the policies that the text says
-  groups_said : (b : Bool) → some_asks qs ≡ b → {policies entries : ℕ} → cond b (held_of text table) (Right 0 0) ≡ Right policies entries → first_wrong qs ≡ 0
-      → groups_of group_count (λ q. tally_of (decision_at (recorded table) s p q (words_of text (policies_at table entries))) (rows_in s p)) qs ≡ groups_of group_count (group_for text table s p) qs
-  groups_said true a {policies} {entries} h w = rw (held_says text table policies entries h)
-  groups_said false a {policies} {entries} h w =
-      groups_alike (λ q. tally_of (decision_at (recorded table) s p q (words_of text (policies_at table entries))) (rows_in s p)) (group_for text table s p)
-      (λ q e. system_counts (recorded table) s p q (words_of text (policies_at table entries)) (words_in text) (rows_in s p) e) group_count qs w a
+  groups_said : (b : Bool) → some_asks qs ≡ b → {rules : TableSize} → cond b (held_of text table) (Some (table_size 0 0)) ≡ Some rules → first_wrong qs ≡ 0
+      → groups_of group_count (λ q. tally_of (decision_at (recorded table) s p q (words_of text (policies_at table rules.entries))) (rows_in s p)) qs ≡ groups_of group_count (group_for text table s p) qs
+  groups_said true a {rules} h w = rw (held_says text table rules.policies rules.entries h)
+  groups_said false a {rules} h w =
+      groups_alike (λ q. tally_of (decision_at (recorded table) s p q (words_of text (policies_at table rules.entries))) (rows_in s p)) (group_for text table s p)
+      (λ q e. system_counts (recorded table) s p q (words_of text (policies_at table rules.entries)) (words_in text) (rows_in s p) e) group_count qs w a
 
-  pub all_tallied : (b : Bool) → some_asks qs ≡ b → {policies entries n : ℕ} → cond b (held_of text table) (Right 0 0) ≡ Right policies entries
+  pub all_tallied : (b : Bool) → some_asks qs ≡ b → {rules : TableSize} {n : ℕ} → cond b (held_of text table) (Some (table_size 0 0)) ≡ Some rules
       → n ≡ first_wrong qs → n ≡ 0 → {after : List ℕ}
-      → after ≡ with_sums (groups_of group_count (λ q. tally_of (decision_at (recorded table) s p q (words_of text (policies_at table entries))) (rows_in s p)) qs)
+      → after ≡ with_sums (groups_of group_count (λ q. tally_of (decision_at (recorded table) s p q (words_of text (policies_at table rules.entries))) (rows_in s p)) qs)
       → RequestsTallied text table s p qs before n after
   unfolding unless
   all_tallied b a h e z c =
@@ -159,7 +160,7 @@ module _ (text table s : List ℕ) (many : ℕ) (requests before : List ℕ) whe
     unfolding tally_refusal
     refused_24 e = refused_with 23 (rw (le-leb 1 many some, le-leb many group_count few, e))
 
-    pub tallied_there : is_question s ≡ true → (p : Sections) → sections_of s ≡ In p → {answer : ℕ} {after : List ℕ}
+    pub tallied_there : is_question s ≡ true → (p : Sections) → sections_of s ≡ Some p → {answer : ℕ} {after : List ℕ}
         → RequestsTallied text table s p (requests_of many requests) before answer after → Tallied text table s many requests before answer after
     unfolding tally_refusal counts_after divided_as
     tallied_there form p divided w =

@@ -16,6 +16,7 @@ use crate::COUNTS;
 use crate::lent::request_at;
 use bags::sections::Sections;
 use choices::{choices_of, lasts};
+use compiling::TableSize;
 use depths::{LOOKS, looks};
 use kept::late::{effects, lates};
 use kept::{NOTES, Walk};
@@ -33,13 +34,6 @@ const GROUP: usize = 68;
 
 const EIGHT: usize = 544;
 
-// How many policies and entries the table holds; none where no request asks for it.
-#[derive(Clone, Copy)]
-pub struct TableSize {
-    pub policies: usize,
-    pub entries: usize,
-}
-
 // What is asked: the sections of the question, its columns and its rows, and the rules.
 #[derive(Clone, Copy)]
 pub struct Asking {
@@ -56,7 +50,7 @@ fn bump(group: &mut [u32], k: usize)
     requires k_bound { get_or group.old k 0 < 4294967295 }
     ensures { group.new ≡ bumped group.old k }
 {
-    group[k] = group[k] + 1;
+    group[k] += 1;
 }
 
 // A row is counted: by its outcome at place 0 to 3, and from place 4 on by the policy that decides it.
@@ -75,26 +69,22 @@ fn count_row(group: &mut [u32], d: Decision)
             bump(group, 1);
             bump(group, 3 + n);
         }
-        Decision::Nothing => {
-            bump(group, 2);
-        }
-        Decision::System => {
-            bump(group, 3);
-        }
+        Decision::Nothing => bump(group, 2),
+        Decision::System => bump(group, 3),
     }
 }
 
 // Counts all rows into a group of zeros.
-fn count_rows<'a>(
+fn count_rows(
     walk: Walk,
     looks: &[u8; LOOKS],
-    text: &'a [u8],
+    text: &[u8],
     table: &[u8],
-    s: &'a [u8],
+    s: &[u8],
     places: &[u16; KEPT],
     grid: &[[usize; MOST_CANDIDATES]; MOST_COLUMNS],
     ends: &[u8; MOST_COLUMNS],
-    action: &'a [u8],
+    action: &[u8],
     all: usize,
     group: &mut [u32],
 )
@@ -105,29 +95,20 @@ fn count_rows<'a>(
     ensures { (q : Request) → WalkFor text.now table.now walk looks.now action.now q
         → group.new ≡ counted_by text.now table.now s.now walk.p walk.entries all q }
 {
-    let p = walk.p;
     let mut choices = choices_of(ends, 0);
     let mut values = chosen(*grid, MOST_COLUMNS, &choices);
     let mut notes = [0u8; NOTES];
     let lates = lates(looks, walk.policies);
     let mut from = 0;
     let mut kept = 0;
-    let mut row = 0;
-    while row < all {
-        let late = lates[from];
-        let there = Walk {
-            system: walk.system,
-            policies: walk.policies,
-            entries: walk.entries,
-            p: p,
-            n: walk.n,
-            from: from,
-            late: late,
-            mark: kept,
-            permits: walk.permits,
-        };
+    for _ in 0..all {
         let t = take_turn(
-            there,
+            Walk {
+                from,
+                late: lates[from],
+                mark: kept,
+                ..walk
+            },
             looks,
             &mut notes,
             &mut choices,
@@ -140,26 +121,24 @@ fn count_rows<'a>(
             places,
             action,
         );
-        let d = t.d;
         from = t.from;
         kept = t.kept;
-        row += 1;
-        count_row(group, d);
+        count_row(group, t.d);
     }
 }
 
 // Counts all rows for a request: what each policy looks at is found once. The system has no rules.
-fn count_request<'a>(
+fn count_request(
     asking: Asking,
-    text: &'a [u8],
+    text: &[u8],
     table: &[u8],
-    s: &'a [u8],
+    s: &[u8],
     starts: &[usize; MOST_COLUMNS],
     placed: &[u16; KEPT],
     grid: &[[usize; MOST_CANDIDATES]; MOST_COLUMNS],
     ends: &[u8; MOST_COLUMNS],
     subject: &[u8],
-    action: &'a [u8],
+    action: &[u8],
     resource: &[u8],
     group: &mut [u32],
 )
@@ -190,17 +169,16 @@ fn count_request<'a>(
         types,
     );
     let permits = effects(table, rules.entries);
-    let p = asking.p;
     let walk = Walk {
-        system: system,
+        system,
         policies: rules.policies,
         entries: rules.entries,
-        p: p,
+        p: asking.p,
         n: asking.n,
         from: 0,
         late: 0,
         mark: 0,
-        permits: permits,
+        permits,
     };
     count_rows(
         walk, &looks, text, table, s, placed, grid, ends, action, asking.all, group,
@@ -217,24 +195,21 @@ fn rules_for(system: bool, policies: usize, entries: usize) -> TableSize
             entries: 0,
         };
     }
-    TableSize {
-        policies: policies,
-        entries: entries,
-    }
+    TableSize { policies, entries }
 }
 
 // Counts all rows for each request in turn, each into a group of its own.
-fn count_requests<'a>(
+fn count_requests(
     asking: Asking,
-    text: &'a [u8],
+    text: &[u8],
     table: &[u8],
-    s: &'a [u8],
+    s: &[u8],
     starts: &[usize; MOST_COLUMNS],
     placed: &[u16; KEPT],
     grid: &[[usize; MOST_CANDIDATES]; MOST_COLUMNS],
     ends: &[u8; MOST_COLUMNS],
     many: usize,
-    requests: &'a [u8],
+    requests: &[u8],
     counts: &mut [u32],
 )
     requires surveyed { Surveyed text.now table.now s.now asking starts.now grid.now ends.now }
@@ -246,15 +221,8 @@ fn count_requests<'a>(
         (requests_of many requests.now) ++ replicate group_size 0 }
 {
     let mut at = 0;
-    let mut k = 0;
-    while k < many {
+    for k in 0..many {
         let spans = request_at(requests, at);
-        let subject_start = spans.subject.start;
-        let subject_end = spans.subject.end;
-        let action_start = spans.action.start;
-        let action_end = spans.action.end;
-        let resource_start = spans.resource.start;
-        let resource_end = spans.resource.end;
         let start = GROUP * k;
         let end = start + GROUP;
         count_request(
@@ -266,13 +234,12 @@ fn count_requests<'a>(
             placed,
             grid,
             ends,
-            &requests[subject_start..subject_end],
-            &requests[action_start..action_end],
-            &requests[resource_start..resource_end],
+            &requests[spans.subject.start..spans.subject.end],
+            &requests[spans.action.start..spans.action.end],
+            &requests[spans.resource.start..spans.resource.end],
             &mut counts[start..end],
         );
-        at = resource_end;
-        k += 1;
+        at = spans.resource.end;
     }
 }
 
@@ -285,11 +252,9 @@ fn sum_at(counts: &[u32], i: usize) -> u32
 {
     let mut sum: u32 = 0;
     let mut at = i;
-    let mut left: usize = 8;
-    while 0 < left {
-        sum = sum + counts[at];
+    for _ in 0..8usize {
+        sum += counts[at];
         at += GROUP;
-        left -= 1;
     }
     sum
 }
@@ -300,15 +265,13 @@ fn add_up(counts: &mut [u32])
     requires counts_few { CountsFew counts.old }
     ensures { counts.new ≡ take 544 counts.old ++ sums_of counts.old }
 {
-    let mut i = 0;
-    while i < GROUP {
+    for i in 0..GROUP {
         let sum = sum_at(counts, i);
         counts[EIGHT + i] = sum;
-        i += 1;
     }
 }
 
-// All counts are 0.
+// All counts are 0. (By hand: `fill` says of each element what it is a clone of, and the proof of the whole did not close over that.)
 fn clear(counts: &mut [u32])
     requires { length counts.old ≡ counts_size }
     ensures { counts.new ≡ replicate counts_size 0 }
@@ -321,14 +284,14 @@ fn clear(counts: &mut [u32])
 }
 
 // The tally of requests that are all accepted: the places of entries, columns and candidates are found once.
-pub fn count_all<'a>(
+pub fn count_all(
     rules: TableSize,
-    text: &'a [u8],
+    text: &[u8],
     table: &[u8],
-    s: &'a [u8],
+    s: &[u8],
     p: Sections,
     many: usize,
-    requests: &'a [u8],
+    requests: &[u8],
     counts: &mut [u32],
 )
     requires counts_len { length counts.old ≡ counts_size }
@@ -340,17 +303,16 @@ pub fn count_all<'a>(
         (counted_by text.now table.now s.now p rules.entries (rows_in s.now p))
         (requests_of many requests.now)) }
 {
-    let at = p.end;
-    let n = s[at] as usize;
-    let first = at + 1;
+    let n = s[p.end] as usize;
+    let first = p.end + 1;
     let starts = heads(s, first, n);
     let grid = places(s, first, n);
     let ends = lasts(s, n, &starts);
     let all = rows(s, first, n);
     let asking = Asking {
-        p: p,
-        n: n,
-        all: all,
+        p,
+        n,
+        all,
         policies: rules.policies,
         entries: rules.entries,
     };

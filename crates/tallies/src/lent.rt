@@ -32,7 +32,7 @@ fn part_at(requests: &[u8], at: usize) -> LentSpan
         let start = at + 1;
         if size <= n - start {
             return LentSpan {
-                start: start,
+                start,
                 end: start + size,
             };
         }
@@ -49,9 +49,9 @@ pub fn request_at(requests: &[u8], at: usize) -> LentSpans
     let action = part_at(requests, subject.end);
     let resource = part_at(requests, action.end);
     LentSpans {
-        subject: subject,
-        action: action,
-        resource: resource,
+        subject,
+        action,
+        resource,
     }
 }
 
@@ -102,16 +102,10 @@ fn form_at(requests: &[u8], spans: LentSpans, at: usize) -> RequestForm
     ensures { result ≡ form_of (request (span_bytes requests.now spans.subject) (span_bytes requests.now spans.action)
         (span_bytes requests.now spans.resource)) }
 {
-    let subject_start = spans.subject.start;
-    let subject_end = spans.subject.end;
-    let action_start = spans.action.start;
-    let action_end = spans.action.end;
-    let resource_start = spans.resource.start;
-    let resource_end = spans.resource.end;
     form_of(
-        &requests[subject_start..subject_end],
-        &requests[action_start..action_end],
-        &requests[resource_start..resource_end],
+        &requests[spans.subject.start..spans.subject.end],
+        &requests[spans.action.start..spans.action.end],
+        &requests[spans.resource.start..spans.resource.end],
     )
 }
 
@@ -121,22 +115,17 @@ pub fn first_wrong(many: usize, requests: &[u8]) -> RequestForm
 {
     let mut asks = false;
     let mut at = 0;
-    let mut left = many;
-    while 0 < left {
+    for _ in 0..many {
         let spans = request_at(requests, at);
         let form = form_at(requests, spans, at);
         at = spans.resource.end;
-        left -= 1;
-        asks = asks | form.asks;
+        asks |= form.asks;
         if form.refusal != 0 {
             return RequestForm {
-                asks: asks,
+                asks,
                 refusal: form.refusal,
             };
         }
     }
-    RequestForm {
-        asks: asks,
-        refusal: 0,
-    }
+    RequestForm { asks, refusal: 0 }
 }

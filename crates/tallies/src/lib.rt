@@ -4,62 +4,55 @@
 mod counting;
 mod lent;
 
-ghost use Rattle.std.specs.Prelude.{◌≡◌, cond, ◌≤◌, length};
-ghost use Rattle.tokens.specs.Table.{class_table};
-ghost use Rattle.compiling.specs.Outcome.{held_of};
-ghost use Rattle.compiling.specs.declared.Held.TheVariants.{Right};
+ghost use Rattle.std.specs.Prelude.{◌≡◌, cond, ◌≤◌, length, Some};
+ghost use Rattle.compiling.specs.Outcome.{held_of, table_size};
 ghost use Rattle.questions.specs.Questions.{Question};
 ghost use Rattle.questions.specs.Sizes.{most_question_bytes};
 ghost use Rattle.tallies.specs.Lent.{requests_of};
 ghost use Rattle.tallies.specs.Tallies.{group_count, RequestsTallied, Tallied};
 
-use crate::counting::{TableSize, count_all};
+use crate::counting::count_all;
 use crate::lent::first_wrong;
-use bags::sections::{Divided, Sections};
-use compiling::{Held, held_policies};
+use bags::sections::Sections;
+use compiling::{TableSize, held_policies};
 use questions::question_sections;
-use tokens::classes::class_table;
 
 // How many counts a tally has: nine groups, one for each of eight requests and the sums.
 pub const COUNTS: usize = 612;
 
 // The policies and entries that the table holds, looked at only where a request asks for it.
-fn held_for(asked: bool, classes: &[u8; 256], text: &[u8], table: &[u8]) -> Held
-    requires { classes.now ≡ class_table }
-    ensures { result ≡ cond asked (held_of text.now table.now) (Right 0 0) }
+fn held_for(asked: bool, text: &[u8], table: &[u8]) -> Option<TableSize>
+    ensures { result ≡ cond asked (held_of text.now table.now) (Some (table_size 0 0)) }
 {
     if asked {
-        return held_policies(classes, text, table);
+        return held_policies(text, table);
     }
-    Held::Right(0, 0)
+    Some(TableSize {
+        policies: 0,
+        entries: 0,
+    })
 }
 
 // A tally of a question, for so many requests: first what may be wrong with one of them, the text and its table.
-fn tally_asked<'a>(
-    classes: &[u8; 256],
-    text: &'a [u8],
+fn tally_asked(
+    text: &[u8],
     table: &[u8],
-    s: &'a [u8],
+    s: &[u8],
     p: Sections,
     many: usize,
-    requests: &'a [u8],
+    requests: &[u8],
     counts: &mut [u32; COUNTS],
 ) -> u8
-    requires classes_value { classes.now ≡ class_table }
     requires question { Question s.now p × (length s.now ≤ most_question_bytes) }
     requires many_le_group_count { many ≤ group_count }
     ensures { RequestsTallied text.now table.now s.now p (requests_of many requests.now)
         counts.old result counts.new }
 {
     let first = first_wrong(many, requests);
-    match held_for(first.asks, classes, text, table) {
-        Held::Wrong => 20,
-        Held::Right(policies, entries) => {
+    match held_for(first.asks, text, table) {
+        None => 20,
+        Some(rules) => {
             if first.refusal == 0 {
-                let rules = TableSize {
-                    policies: policies,
-                    entries: entries,
-                };
                 count_all(rules, text, table, s, p, many, requests, counts);
             }
             first.refusal
@@ -69,12 +62,12 @@ fn tally_asked<'a>(
 
 // The tally of so many requests over one question: nine groups of 68 counts, one for each of eight requests and the sums. Answers the refusal's number, 0 where
 // there is none.
-pub fn tally<'a>(
-    text: &'a [u8],
+pub fn tally(
+    text: &[u8],
     table: &[u8],
-    question: &'a [u8],
+    question: &[u8],
     many: usize,
-    requests: &'a [u8],
+    requests: &[u8],
     counts: &mut [u32; COUNTS],
 ) -> u8
     ensures { Tallied text.now table.now question.now many requests.now counts.old result
@@ -83,9 +76,8 @@ pub fn tally<'a>(
     if (many == 0) | (8 < many) {
         return 27;
     }
-    let classes = class_table();
-    match question_sections(&classes, question) {
-        Divided::Broken => 24,
-        Divided::In(p) => tally_asked(&classes, text, table, question, p, many, requests, counts),
+    match question_sections(question) {
+        None => 24,
+        Some(p) => tally_asked(text, table, question, p, many, requests, counts),
     }
 }

@@ -5,26 +5,14 @@ use mathlib.Core.List.{List, [], ◌∷◌}
 use Prim.Native.Nat.{ℕ, zero, suc, ◌+◌, ◌-◌, ◌≤◌, ◌<◌}
 use Prim.Native.Char.{code}
 use native.Mathlib.Omega.{arith}
-use lib.Dec.{eqb, leb}
-use lib.ListN.{length, get_or, take, drop, drop_of_length-le}
-use borrow.Author.Tests.{eq-eqb, ne_eqb, le-ltb, lt-ltb, le-leb, lt-leb}
-use Rattle.slices.proofs.Rest.{rest_at}
+use lib.Dec.{eqb, leb, ltb}
+use Rattle.std.specs.Prelude.{Option, Some, None}
+use Rattle.std.specs.Option.{unwrap_or}
+use Rattle.std.specs.List.{position_or_len}
+use Rattle.std.proofs.lemmas.List.Recursion.{is_position_or_len}
+use lib.ListN.{length, take, drop}
+use borrow.Author.Tests.{eq-eqb, ne_eqb, le-ltb, lt-ltb, le-leb, lt-leb, ltb-false}
 use Rattle.meaning.specs.Targets.{before_colon, after_colon, type_in, is_typed}
-
--- ---- the first colon, looked for from i on
-
-module _ (s : List ℕ) (i : ℕ) where
-  pub colon_here : i < length s → get_or s i 0 ≡ code ":" → length (before_colon s) ≡ i + length (before_colon (drop i s)) → i ≡ length (before_colon s)
-  unfolding before_colon
-  colon_here l e k = let z : length (before_colon (drop i s)) ≡ 0 = rw (rest_at s i l, eq-eqb _ _ e) in omega arith
-
-  pub colon_on : i < length s → (get_or s i 0 ≡ code ":" → ⊥) → length (before_colon s) ≡ i + length (before_colon (drop i s)) → length (before_colon s) ≡ i + 1 + length (before_colon (drop (i + 1) s))
-  unfolding before_colon
-  colon_on l n k = let z : length (before_colon (drop i s)) ≡ suc (length (before_colon (drop (i + 1) s))) = rw (rest_at s i l, ne_eqb _ _ n) in omega arith
-
-  pub colon_none : length s ≤ i → length (before_colon s) ≡ i + length (before_colon (drop i s)) → i ≡ length (before_colon s)
-  unfolding before_colon
-  colon_none l k = let z : length (before_colon (drop i s)) ≡ 0 = rw (drop_of_length-le s l) in omega arith
 
 -- ---- before it and after it
 
@@ -49,6 +37,23 @@ kind_short (b ∷ s) = go (eqb b (code ":")) (kind_short s)
     go : (c : Bool) → length (before_colon s) ≤ length s → length (cond c [] (b ∷ before_colon s)) ≤ length (b ∷ s)
     go true h = omega arith
     go false h = omega arith
+
+-- the first colon is the first byte that is one
+colon_at : (s : List ℕ) → length (before_colon s) ≡ position_or_len (λ b. eqb b (code ":")) s
+unfolding before_colon
+colon_at s = is_position_or_len (λ s. length (before_colon s)) (λ b. eqb b (code ":")) refl (λ x xs. go (eqb x (code ":")) x (before_colon xs)) s
+  where
+    go : (c : Bool) (x : ℕ) (r : List ℕ) → length (cond c [] (x ∷ r)) ≡ cond c 0 (1 + length r)
+    go true x r = refl
+    go false x r = omega arith
+
+pub type_ends : (s : List ℕ) (o : Option ℕ) → o ≡ cond (ltb (position_or_len (λ b. eqb b (code ":")) s) (length s)) (Some (position_or_len (λ b. eqb b (code ":")) s)) None
+    → unwrap_or o (length s) ≡ length (before_colon s)
+type_ends s o e = rw (e, ← colon_at s) (go (ltb (length (before_colon s)) (length s)) refl)
+  where
+    go : (b : Bool) → ltb (length (before_colon s)) (length s) ≡ b → unwrap_or (cond b (Some (length (before_colon s))) None) (length s) ≡ length (before_colon s)
+    go true h = refl
+    go false h = omega (arith, ltb-false _ _ h, kind_short s)
 
 pub id_length : (s : List ℕ) → length (after_colon s) ≡ length s - length (before_colon s) - 1
 unfolding before_colon after_colon

@@ -28,14 +28,7 @@ pub fn is_action(s: &[u8]) -> bool
 fn type_end(s: &[u8]) -> usize
     ensures { result ≡ length (before_colon s.now) }
 {
-    let mut i = 0;
-    while i < s.len() {
-        if s[i] == b':' {
-            return i;
-        }
-        i += 1;
-    }
-    i
+    s.iter().position(|b| *b == b':').unwrap_or(s.len())
 }
 
 // The number of the type of a subject, or of a resource; 0 where s is none.

@@ -34,13 +34,11 @@ fn part_matches(text: &[u8], x: Entry, s: &[u8], type_number: usize) -> bool
     ensures { (types : List (List ℕ)) → type_number ≡ type_in types s.now
         → result ≡ part_matches types s.now (part_words text.now (part_of_entry x)) }
 {
-    if x.kind == entries::BARE_PART {
-        return true;
+    match x.kind {
+        entries::BARE_PART => true,
+        entries::TYPED_PART => type_number == x.first,
+        _ => is_quoted(text, x.first, x.second, s),
     }
-    if x.kind == entries::TYPED_PART {
-        return type_number == x.first;
-    }
-    is_quoted(text, x.first, x.second, s)
 }
 
 // Whether the principal part that x says, under either version, matches a subject whose type has this number: a bare one always, any other by its type.
@@ -63,15 +61,11 @@ fn action_matches(text: &[u8], table: &[u8], end: usize, x: Entry, action: &[u8]
     if x.kind == entries::BARE_ACTION {
         return true;
     }
-    let mut left = x.first;
-    let mut e = end - x.first - 1;
-    while 0 < left {
+    for e in end - x.first - 1..end - 1 {
         let literal = entry_in(table, e);
         if is_quoted(text, literal.first, literal.second, action) {
             return true;
         }
-        e += 1;
-        left -= 1;
     }
     false
 }

@@ -12,6 +12,7 @@ use Rattle.tokens.specs.Runs.{is_of}
 use Rattle.tokens.specs.Table.{values_from, entry_of, class_table}
 use Rattle.tokens.specs.declared.classes.Sort.{Sort}
 use Rattle.tokens.specs.declared.classes.Sort.TheVariants.{Blanks, Marks, Digits, Letters, WordBytes, StringBytes, LoneMarks}
+use Rattle.tokens.specs.declared.classes.TheConstants.{CLASSES}
 use Rattle.tokens.proofs.Table.{entry, agree}
 
 abbrev pub has_bit : ℕ → ℕ → Bool
@@ -50,10 +51,15 @@ pub lone_tells : Tells 128 LoneMarks
 unfolding entry_of class_of
 lone_tells = refl
 
--- the table has each byte's entry
-pub entry_at : (table : List ℕ) (b : ℕ) → table ≡ class_table → b < 256 → get_or table b 0 ≡ entry_of b
+-- the table of the code lists each byte's entry: antt computes the rule at every byte and compares it with the table
+pub table_is : CLASSES ≡ class_table
+unfolding class_table entry_of class_of
+table_is = refl
+
+-- so it has each byte's entry
+pub entry_at : (b : ℕ) → b < 256 → get_or CLASSES b 0 ≡ entry_of b
 unfolding class_table
-entry_at table b e h = ap (λ (t : List ℕ). get_or t b 0) e ∙ entry entry_of 0 256 b h
+entry_at b h = ap (λ (table : List ℕ). get_or table b 0) table_is ∙ entry entry_of 0 256 b h
 
 -- past the text's end there is no byte, and the entry of 0 is 0
 pub no_entry : 0 ≡ entry_of 0
@@ -61,17 +67,14 @@ unfolding entry_of class_of
 no_entry = refl
 
 module _ (bit : ℕ) (sort : Sort) (all : Tells bit sort) where
-  -- such a bit tells the sort of each byte
-  pub bit_tells : (table : List ℕ) (b : ℕ) → table ≡ class_table → b < 256 → has_bit bit (get_or table b 0) ≡ is_of sort b
-  bit_tells table b e h = ap (has_bit bit) (entry_at table b e h) ∙ agree (λ (k : ℕ). has_bit bit (entry_of k)) (is_of sort) 256 b all h
-
   module _ (b n : ℕ) (h : b < 256) (e : n ≡ entry_of b) where
-    of_sort : is_of sort b ≡ has_bit bit n
-    of_sort = sym (agree (λ (k : ℕ). has_bit bit (entry_of k)) (is_of sort) 256 b all h) ∙ ap (has_bit bit) (sym e)
+    -- such a bit of a byte's entry tells its sort
+    pub bit_tells : has_bit bit n ≡ is_of sort b
+    bit_tells = ap (has_bit bit) e ∙ agree (λ (k : ℕ). has_bit bit (entry_of k)) (is_of sort) 256 b all h
 
-    -- the same of an entry that was read
+    -- whether the bit is set, as a test of the code says it
     pub bit_set : (bit_and n bit ≡ 0 → ⊥) → is_of sort b ≡ true
-    bit_set f = of_sort ∙ ap not (ne_eqb (bit_and n bit) 0 f)
+    bit_set f = sym bit_tells ∙ ap not (ne_eqb (bit_and n bit) 0 f)
 
     pub bit_clear : bit_and n bit ≡ 0 → is_of sort b ≡ false
-    bit_clear f = of_sort ∙ ap not (eq-eqb (bit_and n bit) 0 f)
+    bit_clear f = sym bit_tells ∙ ap not (eq-eqb (bit_and n bit) 0 f)

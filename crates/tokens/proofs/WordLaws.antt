@@ -1,5 +1,5 @@
 -- A word is compared with the reserved words of its length only. Assumes nothing.
-use mathlib.Core.Path.{◌≡◌, refl, ap, ◌∙◌}
+use mathlib.Core.Path.{◌≡◌, refl, sym, ap, ◌∙◌}
 use mathlib.Core.Bool.{Bool, true, false, cond, not, ◌&&◌, ◌||◌}
 use mathlib.Core.List.{List, [], ◌∷◌}
 use mathlib.Core.Logic.{◌≢◌}
@@ -41,32 +41,14 @@ of_no_length word n2 n3 n4 n5 n6 n8 n9 n11 =
     by_length reserved 201 word
     ∙ simp (ne_eqb _ _ n2, ne_eqb _ _ n3, ne_eqb _ _ n4, ne_eqb _ _ n5, ne_eqb _ _ n6, ne_eqb _ _ n8, ne_eqb _ _ n9, ne_eqb _ _ n11)
 
--- ---- the same of whether a word is reserved
+-- a choice among words, where the word has been compared with the first of them
+pub is_word : (word w : List ℕ) {kind : ℕ} (rest : ℕ) → true ≡ same word w → cond (same word w) kind rest ≡ kind
+is_word word w {kind} rest e = ap (λ (t : Bool). cond t kind rest) (sym e)
 
--- `is_among`, with the words of length `n` only
-unfoldable pub among_by : ℕ → List (List ℕ) → List ℕ → Bool
-among_by n [] word = false
-among_by n (w ∷ more) word = (eqb n (length w) && same word w) || among_by n more word
+pub no_word : (word w : List ℕ) {rest last : ℕ} (kind : ℕ) → false ≡ same word w → rest ≡ last → cond (same word w) kind rest ≡ last
+no_word word w {rest} kind e l = ap (λ (t : Bool). cond t kind rest) (sym e) ∙ l
 
-among_by_length : (words : List (List ℕ)) (word : List ℕ) → is_among words word ≡ among_by (length word) words word
-unfolding is_among among_by
-among_by_length [] word = refl
-among_by_length (w ∷ more) word = go (eqb (length word) (length w)) (eqb-false (length word) (length w)) (among_by_length more word)
-  where
-    go : (t : Bool) → (t ≡ false → length word ≢ length w) → is_among more word ≡ among_by (length word) more word
-        → (same word w || is_among more word) ≡ ((t && same word w) || among_by (length word) more word)
-    go true f e = ap (λ (k : Bool). same word w || k) e
-    go false f e = rw (other_length word w (f refl)) e
-
-pub reserved_of_length : (n : ℕ) (word : List ℕ) → length word ≡ n → is_reserved_word word ≡ among_by n reserved word
-reserved_of_length n word e = among_by_length reserved word ∙ ap (λ (k : ℕ). among_by k reserved word) e
-
-pub reserved_of_no_length : (word : List ℕ) → (length word ≢ 2) → (length word ≢ 3) → (length word ≢ 4) → (length word ≢ 5) → (length word ≢ 6) → (length word ≢ 8)
-    → (length word ≢ 9) → (length word ≢ 11) → is_reserved_word word ≡ false
-unfolding reserved among_by
-reserved_of_no_length word n2 n3 n4 n5 n6 n8 n9 n11 =
-    among_by_length reserved word
-    ∙ simp (ne_eqb _ _ n2, ne_eqb _ _ n3, ne_eqb _ _ n4, ne_eqb _ _ n5, ne_eqb _ _ n6, ne_eqb _ _ n8, ne_eqb _ _ n9, ne_eqb _ _ n11)
+-- ---- whether a word is reserved
 
 named : (words : List (List ℕ)) (first : ℕ) (word : List ℕ) → name < first → eqb (kind_among words first word) name ≡ not (is_among words word)
 unfolding kind_among is_among
@@ -81,3 +63,10 @@ named (w ∷ more) first word h = go (same word w) (named more (suc first) word 
 -- a word is a name exactly when it is not reserved
 pub name_or_reserved : (word : List ℕ) → eqb (word_kind word) name ≡ not (is_reserved_word word)
 name_or_reserved word = named reserved 201 word (omega arith)
+
+pub reserved_or_name : (word : List ℕ) → not (eqb (word_kind word) name) ≡ is_reserved_word word
+reserved_or_name word = ap not (name_or_reserved word) ∙ twice (is_reserved_word word)
+  where
+    twice : (t : Bool) → not (not t) ≡ t
+    twice true = refl
+    twice false = refl

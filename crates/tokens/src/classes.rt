@@ -1,7 +1,7 @@
 // The class of every byte, and what else the token reader asks of a byte: one table.
 ghost use Rattle.std.specs.Prelude.{◌≡◌};
 ghost use Rattle.tokens.specs.Runs.{is_of};
-ghost use Rattle.tokens.specs.Table.{class_table};
+ghost use Rattle.tokens.specs.Table.{entry_of};
 
 // The sorts of bytes: four of the classes, what a word may go on with, what may stand in a string, and the marks that no second byte makes longer.
 #[derive(Clone, Copy)]
@@ -31,7 +31,7 @@ pub const STRING: u8 = 64;
 pub const LONE: u8 = 128;
 
 // By the byte: 0 never, 1 text only, 2 blank, 4 mark, 8 digit, 16 letter, to which the bits of the other sorts are added.
-const CLASSES: [u8; 256] = [
+static CLASSES: [u8; 256] = [
     0, 0, 0, 0, 0, 0, 0, 0, 0, 2, 2, 0, 0, 2, 0, 0, 0, 0, 0, 0, 0, 0, 0, 0, 0, 0, 0, 0, 0, 0, 0, 0,
     66, 68, 4, 65, 65, 65, 68, 65, 196, 196, 65, 65, 196, 100, 196, 65, 104, 104, 104, 104, 104,
     104, 104, 104, 104, 104, 65, 196, 68, 68, 68, 65, 65, 112, 112, 112, 112, 112, 112, 112, 112,
@@ -46,19 +46,18 @@ const CLASSES: [u8; 256] = [
     65, 65, 65, 65, 65,
 ];
 
-// The table, to be made once and lent: what names a constant array stores all of it anew.
-pub fn class_table() -> [u8; 256]
-    ensures { result ≡ class_table }
+// What the table has for a byte.
+pub fn entry_of(b: u8) -> u8
+    ensures { result ≡ entry_of b }
 {
-    CLASSES
+    CLASSES[b as usize]
 }
 
 // Whether the byte is of the sort.
-pub fn is_of(classes: &[u8; 256], sort: Sort, b: u8) -> bool
-    requires { classes.now ≡ class_table }
+pub fn is_of(sort: Sort, b: u8) -> bool
     ensures { result ≡ is_of sort b }
 {
-    let entry = classes[b as usize];
+    let entry = entry_of(b);
     match sort {
         Sort::Blanks => entry & BLANK != 0,
         Sort::Marks => entry & MARK != 0,

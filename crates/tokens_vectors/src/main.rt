@@ -3,34 +3,31 @@
 #![tactic(auto)]
 
 ghost use Rattle.std.specs.Prelude.{◌≡◌, ℕ, ◌<◌, ◌≤◌};
-ghost use Rattle.tokens.specs.Table.{class_table};
 
 use places::{Place, place_of};
 use std::io::Read;
 use token_reader::next_token;
-use tokens::classes::class_table;
 use tokens::kinds;
 use tokens::reader::Token;
-use vectors::with;
+use vectors::{read_part, vector_count, with};
 
 // The sum with a token and its place.
 fn with_token(sum: u64, t: Token, p: Place) -> u64
     requires { sum < 1000003 }
     ensures { result < 1000003 }
 {
-    let s = with(sum, t.kind as usize);
-    let s = with(s, t.start);
-    let s = with(s, t.end);
-    let s = with(s, p.line);
-    with(s, p.column)
+    let s = with(sum, u64::from(t.kind));
+    let s = with(s, t.start as u64);
+    let s = with(s, t.end as u64);
+    let s = with(s, p.line as u64);
+    with(s, p.column as u64)
 }
 
 // The first refused token: the one before, if it was one, else this.
 fn first_refused(before: Token, t: Token) -> Token
     ensures { (n : ℕ) → before.start ≤ n → t.start ≤ n → result.start ≤ n }
 {
-    let k = before.kind;
-    if (kinds::BAD_BYTE <= k) & (k <= kinds::TOO_LONG) {
+    if kinds::BAD_BYTE <= before.kind && before.kind <= kinds::TOO_LONG {
         before
     } else {
         t
@@ -39,19 +36,14 @@ fn first_refused(before: Token, t: Token) -> Token
 
 // The line of a text: its tokens' number and sum, and the token told of with its place.
 fn report<P: Print>(rt: &P, count: usize, sum: u64, t: Token, p: Place) {
-    vectors::print_number(rt, count as u64, b' ');
-    vectors::print_number(rt, sum, b' ');
-    vectors::print_number(rt, t.kind as u64, b' ');
-    vectors::print_number(rt, t.start as u64, b' ');
-    vectors::print_number(rt, t.end as u64, b' ');
-    vectors::print_number(rt, p.line as u64, b' ');
-    vectors::print_number(rt, p.column as u64, b'\n');
+    let _ = println!(rt;
+        "{count} {sum} {} {} {} {} {}",
+        t.kind, t.start, t.end, p.line, p.column
+    );
 }
 
 // Reads all tokens of the text, up to its end, and writes its line.
-fn list<P: Print>(rt: &P, classes: &[u8; 256], text: &[u8])
-    requires { classes.now ≡ class_table }
-{
+fn list<P: Print>(rt: &P, text: &[u8]) {
     let mut at = 0;
     let mut count = 0;
     let mut sum: u64 = 0;
@@ -61,7 +53,7 @@ fn list<P: Print>(rt: &P, classes: &[u8; 256], text: &[u8])
         end: 0,
     };
     loop {
-        let t = next_token(classes, text, at);
+        let t = next_token(text, at);
         sum = with_token(sum, t, place_of(text, t.start));
         told = first_refused(told, t);
         count += 1;
@@ -74,20 +66,15 @@ fn list<P: Print>(rt: &P, classes: &[u8; 256], text: &[u8])
 }
 
 // One vector: a text, which may be a few bytes too long.
-fn vector<P: Print, R: Read>(rt: &P, input: &mut R, classes: &[u8; 256])
-    requires { classes.now ≡ class_table }
-{
+fn vector<P: Print, R: Read>(rt: &P, input: &mut R) {
     let mut text = [0u8; 8200];
-    let n = vectors::read_part(input, &mut text);
-    list(rt, classes, &text[..n]);
+    let n = read_part(input, &mut text);
+    list(rt, &text[..n]);
 }
 
 fn main(rt: HostRuntime) {
     let mut input = rt.reader();
-    let classes = class_table();
-    let mut left = vectors::vector_count(&mut input);
-    while left > 0 {
-        vector(&rt, &mut input, &classes);
-        left -= 1;
+    for _ in 0..vector_count(&mut input) {
+        vector(&rt, &mut input);
     }
 }

@@ -1,4 +1,5 @@
 -- The row at which a walk stands: its choices and their places, its decision, and the next row. Assumes nothing.
+use Rattle.std.specs.Prelude.{Some}
 use mathlib.Core.Path.{◌≡◌, refl, sym, ap, ◌∙◌}
 use mathlib.Core.Bool.{Bool, true, false, cond}
 use mathlib.Core.List.{List, []}
@@ -12,7 +13,6 @@ use Rattle.grammar.specs.Policies.{PolicyOf, Policy}
 use Rattle.grammar.specs.declared.Version.{Version}
 use Rattle.grammar.specs.declared.Version.TheVariants.{First}
 use Rattle.bags.specs.Reading.{many}
-use Rattle.bags.specs.declared.After.TheVariants.{At}
 use Rattle.bags.specs.declared.sections.Sections.{Sections}
 use Rattle.questions.specs.Columns.{column_end}
 use Rattle.questions.specs.Questions.{Question, cell, product, rows_of}
@@ -129,7 +129,7 @@ module _ {s : List ℕ} {p : Sections} {n : ℕ} {starts ends : List ℕ} {grid 
   most : n ≤ 6
   most = rw laid.many question.few
 
-  columns : many n (column_end s) (first_in p) ≡ At question.last
+  columns : many n (column_end s) (first_in p) ≡ Some question.last
   columns = rw laid.many question.columns
 
   pub ends_few : Few ends

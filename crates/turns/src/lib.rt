@@ -41,7 +41,7 @@ fn unless_system(system: bool, m: Marked) -> Marked
 }
 
 // A row's turn. `looks` has what each policy looks at, `notes` what is kept of the rows before; `choices` and `values` are the row's, and then the next row's.
-pub fn take_turn<'a>(
+pub fn take_turn(
     walk: Walk,
     looks: &[u8; LOOKS],
     notes: &mut [u8; NOTES],
@@ -49,11 +49,11 @@ pub fn take_turn<'a>(
     values: &mut [usize; MOST_COLUMNS],
     grid: &[[usize; MOST_CANDIDATES]; MOST_COLUMNS],
     ends: &[u8; MOST_COLUMNS],
-    text: &'a [u8],
+    text: &[u8],
     table: &[u8],
-    s: &'a [u8],
+    s: &[u8],
     places: &[u16; KEPT],
-    action: &'a [u8],
+    action: &[u8],
 ) -> Turn
     requires walked { Walked text.now table.now s.now walk (kept_heads places.now) grid.now ends.now looks.now }
     requires somewhere { Somewhere s.now walk.p grid.now ends.now choices.old values.old }
@@ -74,9 +74,9 @@ pub fn take_turn<'a>(
     let from = step(grid, ends, choices, values);
     let d = marked.d;
     Turn {
-        d: d,
+        d,
         mark: marked.mark,
-        from: from,
-        kept: kept,
+        from,
+        kept,
     }
 }

@@ -2,32 +2,28 @@
 use mathlib.Core.Path.{◌≡◌}
 use mathlib.Core.Logic.Iff
 use mathlib.Core.Logic.{◌↔◌}
-use mathlib.Core.List.{List, ◌∷◌}
-use Prim.Native.Nat.{ℕ, ◌+◌, ◌<◌, ◌≤◌}
+use mathlib.Core.Bool.{Bool, true, false}
+use mathlib.Core.List.{List, [], ◌∷◌}
+use Prim.Native.Nat.{ℕ, zero, suc, ◌+◌, ◌<◌, ◌≤◌}
 use native.Mathlib.Omega.{arith}
-use lib.Bits.{bit_or, or_add_and, and_le_l, and_le_r, or_lt}
-use lib.ListN.{length, get_or, drop, drop_of_length-le}
-use Rattle.slices.proofs.Rest.{rest_at}
+use lib.Bits.{bit_or, or_add_and, and_le_l, and_le_r}
+use lib.ListN.{length, get_or, drop}
+use Rattle.std.specs.Bool.{MatchBool}
+use Rattle.std.specs.Str.{IsAscii, IsNotAscii}
+use Rattle.slices.specs.Decides.{Decides}
+use Rattle.slices.proofs.Decided.{yes_to, no_to}
 use Rattle.utf8.specs.Characters.{OnlyAscii, no_byte, and_byte, Utf8}
-use Rattle.utf8.proofs.Counting.{ascii_byte}
 use Rattle.utf8.proofs.Places.{ascii, utf8_on}
 
-two_ascii : (a b : ℕ) → bit_or a b ≤ 0x7F ↔ ((a ≤ 0x7F) × (b ≤ 0x7F))
-two_ascii a b = (
-  (λ h. (omega (arith, or_add_and a b, and_le_r a b), omega (arith, or_add_and a b, and_le_l a b))),
-  (λ h. omega (arith, or_lt 7 a b (omega (arith, h.0)) (omega (arith, h.1)))),
-)
+two_ascii : {a b : ℕ} → bit_or a b ≤ 0x7F → (a ≤ 0x7F) × (b ≤ 0x7F)
+two_ascii {a} {b} h = (omega (arith, or_add_and a b, and_le_r a b), omega (arith, or_add_and a b, and_le_l a b))
 
-module _ (a b c d : ℕ) where
-  pub four_told : bit_or (bit_or (bit_or a b) c) d ≤ 0x7F → (a ≤ 0x7F) × (b ≤ 0x7F) × (c ≤ 0x7F) × (d ≤ 0x7F)
-  four_told h =
-      let u = (two_ascii (bit_or (bit_or a b) c) d).0 h in
-      let v = (two_ascii (bit_or a b) c).0 u.0 in
-      let w = (two_ascii a b).0 v.0 in
-      (w.0, w.1, v.1, u.1)
-
-  pub four_ascii : a ≤ 0x7F → b ≤ 0x7F → c ≤ 0x7F → d ≤ 0x7F → bit_or (bit_or (bit_or a b) c) d ≤ 0x7F
-  four_ascii ha hb hc hd = (two_ascii (bit_or (bit_or a b) c) d).1 ((two_ascii (bit_or a b) c).1 ((two_ascii a b).1 (ha, hb), hc), hd)
+four_told : (a b c d : ℕ) → bit_or (bit_or (bit_or a b) c) d ≤ 0x7F → (a ≤ 0x7F) × (b ≤ 0x7F) × (c ≤ 0x7F) × (d ≤ 0x7F)
+four_told a b c d h =
+    let u = two_ascii {a = bit_or (bit_or a b) c} {b = d} h in
+    let v = two_ascii {a = bit_or a b} {b = c} u.0 in
+    let w = two_ascii {a = a} {b = b} v.0 in
+    (w.0, w.1, v.1, u.1)
 
 -- what holds from a byte of ASCII on exactly when it holds from the next byte on holds so past four of them
 pub past_four : (P : List ℕ → Type 0) (s : List ℕ) (i : ℕ) → ((k : ℕ) → k < length s → get_or s k 0 ≤ 0x7F → P (drop k s) ↔ P (drop (k + 1) s)) → i + 4 ≤ length s
@@ -39,24 +35,21 @@ past_four P s i step h f =
     next : (k j : ℕ) → j ≡ k + 1 → k < length s → get_or s k 0 ≤ 0x7F → P (drop k s) ↔ P (drop j s)
     next k j e m l = rw e (step k m l)
 
--- ---- ASCII from a place on
+-- ---- ASCII by each of its bytes
 
-tail_ascii : {x : ℕ} {s : List ℕ} → OnlyAscii (x ∷ s) → OnlyAscii s
-tail_ascii (and_byte l a) = a
+each_ascii : (s : List ℕ) → ((i : ℕ) → get_or s i 0 < 0x80) → OnlyAscii s
+each_ascii [] f = no_byte
+each_ascii (x ∷ s) f = and_byte (omega (arith, f 0)) (each_ascii s (λ i. f (suc i)))
 
-pub ascii_on : (s : List ℕ) (i : ℕ) → i < length s → get_or s i 0 ≤ 0x7F → OnlyAscii (drop i s) ↔ OnlyAscii (drop (i + 1) s)
-ascii_on s i h l = rw (rest_at s i h) (tail_ascii, and_byte l)
+none_above : (s : List ℕ) (i : ℕ) → 0x80 ≤ get_or s i 0 → OnlyAscii s → ⊥
+none_above [] i h a = absurd (omega arith)
+none_above (x ∷ s) zero h (and_byte l a) = omega arith
+none_above (x ∷ s) (suc i) h (and_byte l a) = none_above s i h a
 
-pub ascii_end : (s : List ℕ) (i : ℕ) → length s ≤ i → OnlyAscii (drop i s)
-ascii_end s i h = rw (drop_of_length-le s) no_byte
-
-pub ascii_stops : (s : List ℕ) (i : ℕ) → i < length s → 0x7F < get_or s i 0 → OnlyAscii s → ⊥
-ascii_stops s i h l a = omega (arith, ascii_byte s i a h)
-
-pub four_stop : (s : List ℕ) (i : ℕ) → i + 4 ≤ length s
-    → 0x7F < bit_or (bit_or (bit_or (get_or s i 0) (get_or s (i + 1) 0)) (get_or s (i + 2) 0)) (get_or s (i + 3) 0) → OnlyAscii s → ⊥
-four_stop s i h l a =
-    omega (arith, four_ascii (get_or s i 0) (get_or s (i + 1) 0) (get_or s (i + 2) 0) (get_or s (i + 3) 0) (ascii_byte s i a (omega arith)) (ascii_byte s (i + 1) a (omega arith)) (ascii_byte s (i + 2) a (omega arith)) (ascii_byte s (i + 3) a (omega arith)))
+-- what std says of its test decides it
+pub by_bytes : (s : List ℕ) (r : Bool) → MatchBool r (IsAscii s) (IsNotAscii s) → Decides (OnlyAscii s) r
+by_bytes s true h = yes_to (each_ascii s h)
+by_bytes s false (i, h) = no_to (none_above s i h)
 
 -- ---- UTF-8 from a place on, past a byte of ASCII
 

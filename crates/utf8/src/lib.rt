@@ -4,83 +4,73 @@
 ghost use Rattle.std.specs.Prelude.{◌≡◌, ◌+◌, ◌<◌, length, get_or, drop};
 ghost use Rattle.slices.specs.Decides.{Decides};
 ghost use Rattle.utf8.specs.Characters.{OnlyAscii, Utf8};
-ghost use Rattle.utf8.specs.Reading.{bytes_by_first, may_stand_second, goes_on_character, width};
+ghost use Rattle.utf8.specs.Reading.{bytes_by_first, may_stand_second, goes_on_character, followed, width};
 
-// How many bytes a character has that begins with x; 0: none does.
+// How many bytes a character has that begins with x; 0: none does, as in `bytes_by_first`, which the clause names.
+#[tactic(auto, unfolding(crate::specs::Reading::bytes_by_first))]
 fn size_by_first(x: u8) -> usize
     ensures { result ≡ bytes_by_first x }
 {
-    if x <= 0x7F {
-        return 1;
+    match x {
+        0x00..=0x7F => 1,
+        0xC2..=0xDF => 2,
+        0xE0..=0xEF => 3,
+        0xF0..=0xF4 => 4,
+        _ => 0,
     }
-    if x < 0xC2 {
-        return 0;
-    }
-    if x <= 0xDF {
-        return 2;
-    }
-    if x <= 0xEF {
-        return 3;
-    }
-    if x <= 0xF4 {
-        return 4;
-    }
-    0
 }
 
 // The same, where a character begins with x.
+#[tactic(auto, unfolding(crate::specs::Reading::bytes_by_first))]
 pub fn known_size(x: u8) -> usize
     requires { 0 < bytes_by_first x }
     ensures { result ≡ bytes_by_first x }
 {
-    if x <= 0x7F {
-        return 1;
+    match x {
+        0x00..=0x7F => 1,
+        0x80..=0xDF => 2,
+        0xE0..=0xEF => 3,
+        _ => 4,
     }
-    if x <= 0xDF {
-        return 2;
-    }
-    if x <= 0xEF {
-        return 3;
-    }
-    4
 }
 
 // Whether y may stand second in a character of two bytes or more that begins with x.
+#[tactic(auto, unfolding(crate::specs::Reading::may_stand_second, crate::specs::Reading::lowest_second, crate::specs::Reading::highest_second))]
 fn may_follow(x: u8, y: u8) -> bool
     ensures { result ≡ may_stand_second x y }
 {
-    if x == 0xE0 {
-        return (0xA0 <= y) & (y <= 0xBF);
+    match x {
+        0xE0 => (0xA0..=0xBF).contains(&y),
+        0xED => (0x80..=0x9F).contains(&y),
+        0xF0 => (0x90..=0xBF).contains(&y),
+        0xF4 => (0x80..=0x8F).contains(&y),
+        _ => (0x80..=0xBF).contains(&y),
     }
-    if x == 0xED {
-        return (0x80 <= y) & (y <= 0x9F);
-    }
-    if x == 0xF0 {
-        return (0x90 <= y) & (y <= 0xBF);
-    }
-    if x == 0xF4 {
-        return (0x80 <= y) & (y <= 0x8F);
-    }
-    (0x80 <= y) & (y <= 0xBF)
 }
 
 // Whether y goes on a character: whether it may stand third or fourth in one.
+#[tactic(auto, unfolding(crate::specs::Reading::goes_on_character))]
 pub fn goes_on(y: u8) -> bool
     ensures { result ≡ goes_on_character y }
 {
-    (0x80 <= y) & (y <= 0xBF)
+    (0x80..=0xBF).contains(&y)
 }
 
-// The byte that stands j further than the next; 0 past the end.
-fn byte_past(s: &[u8], at: usize, j: usize) -> u8
-    requires { at < length s.now }
-    ensures { result ≡ get_or (drop (at + 1) s.now) j 0 }
+// The byte at a place; 0 past the end, which goes on no character.
+fn byte_in(s: &[u8], j: usize) -> u8
+    ensures { result ≡ get_or s.now j 0 }
 {
-    let next = at + 1;
-    if j < s.len() - next {
-        return s[next + j];
-    }
-    0
+    s.get(j).copied().unwrap_or(0)
+}
+
+// Whether the first of k bytes, x, is followed by what may follow it.
+#[tactic(auto, unfolding(crate::specs::Reading::followed))]
+fn is_followed(k: usize, x: u8, rest: &[u8]) -> bool
+    ensures { result ≡ followed k x rest.now }
+{
+    k <= 1
+        || may_follow(x, byte_in(rest, 0))
+            && (k <= 2 || goes_on(byte_in(rest, 1)) && (k <= 3 || goes_on(byte_in(rest, 2))))
 }
 
 // As `character`, where a byte stands: by its ranges.
@@ -90,28 +80,14 @@ fn longer(s: &[u8], at: usize) -> usize
 {
     let x = s[at];
     let k = size_by_first(x);
-    if k <= 1 {
-        return k;
+    if is_followed(k, x, &s[at + 1..]) {
+        k
+    } else {
+        0
     }
-    if !may_follow(x, byte_past(s, at, 0)) {
-        return 0;
-    }
-    if k <= 2 {
-        return k;
-    }
-    if !goes_on(byte_past(s, at, 1)) {
-        return 0;
-    }
-    if k <= 3 {
-        return k;
-    }
-    if !goes_on(byte_past(s, at, 2)) {
-        return 0;
-    }
-    k
 }
 
-// How many bytes the character has that stands at `at`, 1 to 4; 0: none stands there.
+// How many bytes the character has that stands at `at`, 1 to 4; 0: none stands there, since the clause's `width` is a number.
 pub fn character(s: &[u8], at: usize) -> usize
     ensures { result ≡ width (drop at s.now) }
 {
@@ -128,20 +104,7 @@ pub fn character(s: &[u8], at: usize) -> usize
 pub fn is_ascii(s: &[u8]) -> bool
     ensures { Decides (OnlyAscii s.now) result }
 {
-    let mut i = 0;
-    while 4 <= s.len() - i {
-        if (s[i] | s[i + 1] | s[i + 2] | s[i + 3]) > 0x7F {
-            return false;
-        }
-        i += 4;
-    }
-    while i < s.len() {
-        if s[i] > 0x7F {
-            return false;
-        }
-        i += 1;
-    }
-    true
+    s.is_ascii()
 }
 
 // Whether the bytes are characters only. Four bytes of ASCII are passed at once.
@@ -150,11 +113,10 @@ pub fn is_utf8(s: &[u8]) -> bool
 {
     let mut i = 0;
     while i < s.len() {
-        if 4 <= s.len() - i {
-            if (s[i] | s[i + 1] | s[i + 2] | s[i + 3]) <= 0x7F {
-                i += 4;
-                continue;
-            }
+        // Four put together by hand: std's `is_ascii` is a call, and tests fewer than eight bytes one at a time.
+        if 4 <= s.len() - i && (s[i] | s[i + 1] | s[i + 2] | s[i + 3]) <= 0x7F {
+            i += 4;
+            continue;
         }
         let n = character(s, i);
         if n == 0 {

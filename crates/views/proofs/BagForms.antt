@@ -1,4 +1,5 @@
 -- What is looked up in a bag's bytes is what the bag has that the bytes say. Assumes nothing.
+use Rattle.std.specs.Prelude.{Some}
 use Prim.Native.Nat.{ℕ, ◌+◌}
 use mathlib.Core.List.{List, [], map}
 use mathlib.Core.Bool.{Bool, true, false, cond}
@@ -8,9 +9,7 @@ use Rattle.bags.specs.Reading.{byte}
 use Rattle.bags.specs.Sections.{path_at, kind_at, entry_end, sections_of}
 use Rattle.bags.specs.Data.{Datum}
 use Rattle.bags.specs.Forms.{Contents, BagBytes}
-use Rattle.bags.specs.declared.After.TheVariants.{At}
 use Rattle.bags.specs.declared.sections.Sections.{Sections}
-use Rattle.bags.specs.declared.sections.Divided.TheVariants.{In}
 use Rattle.bags.proofs.SectionLaws.{entry_at}
 use Rattle.bags.proofs.Told.{map_each, each_agree}
 use Rattle.bags.proofs.ValueForms.{entry_here, section_here}
@@ -22,7 +21,7 @@ use Rattle.views.proofs.ReadLaws.{reads_it}
 
 module _ (s : List ℕ) where
   -- an entry's value stands for what its bytes say
-  entry_means : (at e : ℕ) → entry_end s at ≡ At e → entry_meant s (bag_entry_at s at e) ≡ entry_here s at
+  entry_means : (at e : ℕ) → entry_end s at ≡ Some e → entry_meant s (bag_entry_at s at e) ≡ entry_here s at
   entry_means at e h =
       let w = entry_at s at e h in
       ap (λ (d : Datum). record { path = path_at s at; value = d }) (reads_it s (kind_at s at) (record { inside = w.named; whole = λ n. (e, w.valued) }))
@@ -51,6 +50,6 @@ pub base_shows : (s : List ℕ) (p : Sections) (c : Contents) → c ≡ contents
 base_shows s p c q root path = rw (q, base_holds s p root)
 
 -- of a bag it is that of the bag that the bytes say
-pub bag_shows : {s : List ℕ} {c : Contents} (p : Sections) → sections_of s ≡ In p → BagBytes s c → (root : ℕ) (path : List ℕ)
+pub bag_shows : {s : List ℕ} {c : Contents} (p : Sections) → sections_of s ≡ Some p → BagBytes s c → (root : ℕ) (path : List ℕ)
     → look (base_bag s p) root path ≡ look (as_bag c) root path
 bag_shows {s} {c} p q w = base_shows s p c (bag_is p q w.all)

@@ -1,4 +1,5 @@
 -- A row by its places: the numbers behind the base's say where its columns stand, and the row is that of the base and these columns. Assumes nothing.
+use Rattle.std.specs.Prelude.{Some}
 use Prim.Native.Nat.{ℕ, ◌+◌, ◌-◌, ◌<◌, ◌≤◌}
 use mathlib.Core.List.{List}
 use mathlib.Core.Bool.{Bool, true, false, and-eq-true_iff}
@@ -10,9 +11,7 @@ use lib.ListN.{length, get_or, set, length-set, length-drop}
 use lib.Seq.{get_or-set_same, get_or-set_other, get_or-drop, ext_get_or}
 use Rattle.bags.specs.Reading.{many}
 use Rattle.bags.specs.Sections.{sections_of}
-use Rattle.bags.specs.declared.After.TheVariants.{At}
 use Rattle.bags.specs.declared.sections.Sections.{Sections}
-use Rattle.bags.specs.declared.sections.Divided.TheVariants.{In}
 use Rattle.slots.specs.Slots.{kept_sections, Indexed}
 use Rattle.slots.proofs.SlotLaws.{sections_by_slots, indexed_by_slots}
 use Rattle.questions.specs.Columns.{column_end}
@@ -103,12 +102,12 @@ module _ {s : List ℕ} {p : Sections} {n : ℕ} {places : List ℕ} (w : Places
 -- ---- the heads of a question's columns
 
 -- a question has at most 4,096 bytes
-pub question_small : (s : List ℕ) (p : Sections) → question_only s ≡ In p → length s ≤ 4096
+pub question_small : (s : List ℕ) (p : Sections) → question_only s ≡ Some p → length s ≤ 4096
 unfolding is_question
 question_small s p h = leb-true (length s) 4096 ((and-eq-true_iff (leb (length s) 4096) (follows s (sections_of s))).0 (question_divided s p h).0).0
 
 -- a column starts in the question's bytes, and beyond the columns stands 0
-pub heads_low : (s : List ℕ) (n at last most : ℕ) (heads : List ℕ) → many n (column_end s) at ≡ At last → length s ≤ most
+pub heads_low : (s : List ℕ) (n at last most : ℕ) (heads : List ℕ) → many n (column_end s) at ≡ Some last → length s ≤ most
     → ((i : ℕ) → i < 6 → get_or heads i 0 ≡ first_of n (head_of s at) i) → (i : ℕ) → i < 6 → get_or heads i 0 ≤ most
 heads_low s n at last most heads columns small are i h = go (ltb i n) refl
   where

@@ -1,4 +1,5 @@
 -- What a read value stands for is what the bytes say; and what is found stands for what the bag has. Assumes nothing.
+use Rattle.std.specs.Prelude.{Some}
 use Prim.Native.Nat.{ℕ, zero, suc, ◌+◌, ◌-◌}
 use mathlib.Core.List.{List, [], ◌∷◌, map}
 use mathlib.Core.Bool.{Bool, true, false, ◌&&◌, cond}
@@ -11,7 +12,6 @@ use Rattle.slices.specs.Same.{same}
 use Rattle.bags.specs.Reading.{byte, many, each}
 use Rattle.bags.specs.Paths.{every}
 use Rattle.bags.specs.Sections.{kind_at, entry_end, section_end, Sectioned}
-use Rattle.bags.specs.declared.After.TheVariants.{At}
 use Rattle.bags.specs.declared.sections.Sections.{Sections}
 use Rattle.bags.proofs.ReadLaws.{first, each_done, each_more}
 use Rattle.bags.proofs.ValueLaws.{Ended, string, number, flag, list, value_at_lem}
@@ -79,7 +79,7 @@ columns_mean s (c ∷ cs) view seen root path h = go (eqb c.root root && same c.
 
 -- ---- each entry of the base has a value that is there
 
-entries_filled : (n : ℕ) (s : List ℕ) (at e : ℕ) → many n (entry_end s) at ≡ At e → filled (map (entry_meant s) (each n (entry_end s) (bag_entry_at s) at)) ≡ true
+entries_filled : (n : ℕ) (s : List ℕ) (at e : ℕ) → many n (entry_end s) at ≡ Some e → filled (map (entry_meant s) (each n (entry_end s) (bag_entry_at s) at)) ≡ true
 unfolding every
 entries_filled zero s at e h = rw (each_done (entry_end s) (bag_entry_at s) 0 at (omega arith))
 entries_filled (suc n) s at e h =
@@ -90,7 +90,7 @@ entries_filled (suc n) s at e h =
     rw (each_more (entry_end s) (bag_entry_at s) (suc n) at f.stop (omega arith) f.ends, m)
     (simp (present_kind s (kind_at s at) f.stop (value_at_lem (byte s (kind_at s at)) s (kind_at s at + 1) f.stop w.valued), entries_filled n s f.stop e later))
 
-section_filled : (s : List ℕ) (b e : ℕ) → section_end s b ≡ At e → filled (map (entry_meant s) (section_at s b)) ≡ true
+section_filled : (s : List ℕ) (b e : ℕ) → section_end s b ≡ Some e → filled (map (entry_meant s) (section_at s b)) ≡ true
 unfolding section_at
 section_filled s b e h = entries_filled (byte s b) s (b + 1) e (section_at_lem s b e h).entries
 

@@ -1,4 +1,5 @@
 -- The bag of a row is the base that the question's bytes say, with each column's attribute set to the candidate that is chosen, or removed. Assumes nothing.
+use Rattle.std.specs.Prelude.{Option, Some}
 use Prim.Native.Nat.{ℕ, zero, suc, ◌+◌, ◌-◌, ◌<◌}
 use mathlib.Core.List.{List, [], ◌∷◌, map}
 use mathlib.Core.Bool.{true}
@@ -10,11 +11,8 @@ use Rattle.tokens.specs.Table.{values_from}
 use Rattle.bags.specs.Reading.{byte, many}
 use Rattle.bags.specs.Data.{Datum, absent, datum_at}
 use Rattle.bags.specs.Forms.{Contents}
-use Rattle.bags.specs.declared.After.TheVariants.{At}
 use Rattle.bags.specs.Sections.{sections_of}
 use Rattle.bags.specs.declared.sections.Sections.{Sections}
-use Rattle.bags.specs.declared.sections.Divided.{Divided}
-use Rattle.bags.specs.declared.sections.Divided.TheVariants.{In}
 use Rattle.bags.proofs.ReadLaws.{first, nth, each_done, each_more}
 use Rattle.bags.proofs.Told.{map_each, each_nth}
 use Rattle.bags.proofs.Exactly.{contents_at}
@@ -34,7 +32,7 @@ use Rattle.views.proofs.BagForms.{base_shows}
 
 module _ (s : List ℕ) where
   -- candidate j of a column that stands at c
-  value_picked : (c e j : ℕ) → column_end s c ≡ At e → j < count_of s c
+  value_picked : (c e j : ℕ) → column_end s c ≡ Some e → j < count_of s c
       → datum_in s (value_at s (choice_at s c j)) ≡ get_or (map (λ (x : Choice). x.is) (choices_here s (count_of s c) (count_at s c + 1))) j absent
   unfolding choice_at choices_here
   value_picked c e j h l =
@@ -45,7 +43,7 @@ module _ (s : List ℕ) where
       let k = reads_it s r.start (candidate_valued s r.start r.stop r.stops) in
       rw (lt-ltb j (count_of s c) l, r.starts) (k ∙ sym (ap (λ (l : List Datum). get_or l j absent) m ∙ v))
 
-  column_picked : (c e j : ℕ) → column_end s c ≡ At e → j < count_of s c → chosen_meant s (chosen_at s c (choice_at s c j)) ≡ picked (column_here s c) j
+  column_picked : (c e j : ℕ) → column_end s c ≡ Some e → j < count_of s c → chosen_meant s (chosen_at s c (choice_at s c j)) ≡ picked (column_here s c) j
   column_picked c e j h l = ap (λ (d : Datum). record { root = byte s c; path = column_path s c; value = d }) (value_picked c e j h l)
 
 -- values from the second place on are those of the next rule from the first on
@@ -67,7 +65,7 @@ module _ (s : List ℕ) where
   unfolding many
   no_head at = refl
 
-  later_head : (at e i : ℕ) → column_end s at ≡ At e → head_of s at (suc i) ≡ head_of s e i
+  later_head : (at e i : ℕ) → column_end s at ≡ Some e → head_of s at (suc i) ≡ head_of s e i
   unfolding many
   later_head at e i h = rw h
 
@@ -80,7 +78,7 @@ module _ (s : List ℕ) where
   columns_none at choices = refl
 
   -- of n columns the first with its choice, and the others with theirs
-  columns_first_lem : (n at e : ℕ) (choices : List ℕ) → column_end s at ≡ At e
+  columns_first_lem : (n at e : ℕ) (choices : List ℕ) → column_end s at ≡ Some e
       → columns_of (suc n) s at choices ≡ chosen_at s at (choice_at s at (get_or choices 0 0)) ∷ columns_of n s e (drop 1 choices)
   unfolding columns_of many
   columns_first_lem n at e choices h =
@@ -88,12 +86,12 @@ module _ (s : List ℕ) where
       (shifted (numbered at choices) 0 n
       ∙ alike (λ i. numbered at choices (suc i)) (numbered e (drop 1 choices)) 0 n (λ i. rw (later_head at e i h, later_choice choices i)))
 
-  chooses_later : (n at e : ℕ) (choices : List ℕ) → column_end s at ≡ At e → Chooses (suc n) s at choices → Chooses n s e (drop 1 choices)
+  chooses_later : (n at e : ℕ) (choices : List ℕ) → column_end s at ≡ Some e → Chooses (suc n) s at choices → Chooses n s e (drop 1 choices)
   chooses_later n at e choices h ch i l =
       let k : get_or choices (suc i) 0 < count_of s (head_of s at (suc i)) = ch (suc i) (omega arith) in
       rw (later_head at e i h, later_choice choices i) at k
 
-  columns_picked : (n at last : ℕ) (choices : List ℕ) → many n (column_end s) at ≡ At last → Chooses n s at choices
+  columns_picked : (n at last : ℕ) (choices : List ℕ) → many n (column_end s) at ≡ Some last → Chooses n s at choices
       → map (chosen_meant s) (columns_of n s at choices) ≡ picked_all (columns_here s n at) choices
   unfolding columns_here picked_all
   columns_picked zero at last choices h ch = rw (columns_none at choices, each_done (column_end s) (λ at e. column_here s at) 0 at (omega arith))
@@ -119,7 +117,7 @@ columns_same [] view seen root path h = h
 columns_same (c ∷ cs) view seen root path h = rw (columns_same cs view seen root path h)
 
 -- each attribute of a row is that of the base and the columns that the question's bytes say
-pub row_holds : {s : List ℕ} {base : Contents} {cs : List Column} (p : Sections) → sections_of s ≡ In p → QuestionBytes s base cs
+pub row_holds : {s : List ℕ} {base : Contents} {cs : List Column} (p : Sections) → sections_of s ≡ Some p → QuestionBytes s base cs
     → (choices : List ℕ) → Chooses (byte s p.end) s (p.end + 1) choices → (root : ℕ) (path : List ℕ)
     → look (bag_of_row s p (byte s p.end) (p.end + 1) choices) root path ≡ look (row_bag (as_bag base) (picked_all cs choices)) root path
 unfolding bag_of_row columns_at
@@ -127,7 +125,7 @@ row_holds {s} {base} {cs} p r w choices ch root path =
     let d = question_stands w in
     let q : d.places ≡ p = same_places d.read r in
     let i : is_question s ≡ true = (question_exactly s).1 (base, (cs, w)) in
-    let o : question_only s ≡ In p = rw i r in
+    let o : question_only s ≡ Some p = rw i r in
     let k = columns_picked s (byte s p.end) (p.end + 1) (question_is_lem s p o).last choices (question_is_lem s p o).columns ch in
     let c : cs ≡ columns_at s p.end = rw q at d.columns_are in
     let b : base ≡ contents_at s p = rw q at d.base_is in
@@ -136,5 +134,5 @@ row_holds {s} {base} {cs} p r w choices ch root path =
     ∙ columns_same (picked_all cs choices) (look (base_bag s p)) (look (as_bag base)) root path (base_shows s p base b root path)
     ∙ sym (row_view_is (as_bag base) (picked_all cs choices) root path)
   where
-    same_places : {x : Divided} {a c : Sections} → x ≡ In a → x ≡ In c → a ≡ c
+    same_places : {x : Option Sections} {a c : Sections} → x ≡ Some a → x ≡ Some c → a ≡ c
     same_places h k = cc

@@ -1,4 +1,5 @@
 -- A row that is made of a question's places stands in its bytes, and its view is the look-up in the row's bag. Assumes nothing.
+use Rattle.std.specs.Prelude.{Some}
 use Prim.Native.Nat.{ℕ, ◌+◌, ◌<◌, ◌≤◌}
 use mathlib.Core.List.{List, [], map}
 use mathlib.Core.Path.{◌≡◌, refl, sym, ◌∙◌, ap, subst}
@@ -9,7 +10,6 @@ use lib.Ieee.Scale.{finite}
 use lib.ListN.{get_or}
 use Rattle.bags.specs.Reading.{many}
 use Rattle.bags.specs.Sections.{Sectioned}
-use Rattle.bags.specs.declared.After.TheVariants.{At}
 use Rattle.bags.specs.declared.sections.Sections.{Sections}
 use Rattle.bags.proofs.ReadLaws.{nth}
 use Rattle.lookups.specs.Values.{value_at, Valued, ValueWhole}
@@ -55,7 +55,7 @@ module _ (s : List ℕ) (p : Sections) (n : ℕ) (heads values : List ℕ) (w : 
 
 -- ---- a row of a question
 
-module _ (s : List ℕ) (p : Sections) (n at last : ℕ) (few : n ≤ 6) (columns : many n (column_end s) at ≡ At last) (choices : List ℕ) (chooses : Chooses n s at choices) where
+module _ (s : List ℕ) (p : Sections) (n at last : ℕ) (few : n ≤ 6) (columns : many n (column_end s) at ≡ Some last) (choices : List ℕ) (chooses : Chooses n s at choices) where
   column : (i : ℕ) → i < n → (e : ℕ) × Columned s (head_of s at i) e
   column = column_of s n at last columns
 

@@ -13,7 +13,7 @@ ghost use Rattle.views.specs.Places.{kept_heads, placed_value, RowAt, WithColumn
 
 use lookups::finding::same_path;
 use questions::sizes::{MOST_CANDIDATES, MOST_COLUMNS};
-use slots::{KEPT, place_in, wide};
+use slots::{KEPT, place_in};
 
 // Where the number of columns is kept among the places; the columns' own follow.
 const COLUMNS: usize = 195;
@@ -24,10 +24,10 @@ pub fn names(s: &[u8], head: usize, root: u8, path: &[u8]) -> bool
     ensures { result ≡ (eqb (byte s.now head) root && same (column_path s.now head) (unblanked path.now)) }
 {
     if s[head] == root {
-        let n = s[head + 1] as usize;
-        return same_path(s, head + 2, n, path);
+        same_path(s, head + 2, s[head + 1] as usize, path)
+    } else {
+        false
     }
-    false
 }
 
 // The place of column number `i`, from 0 on.
@@ -35,7 +35,7 @@ fn head_of(places: &[u16; KEPT], i: usize) -> usize
     requires { i < most_columns }
     ensures { result ≡ get_or (kept_heads places.now) i 0 }
 {
-    wide(places[COLUMNS + 1 + i])
+    places[COLUMNS + 1 + i] as usize
 }
 
 // The places of a row: those of its base, and of its `n` columns.
@@ -46,10 +46,8 @@ pub fn with_columns(base: [u16; KEPT], n: usize, heads: &[usize; MOST_COLUMNS]) 
 {
     let mut places = base;
     places[COLUMNS] = n as u16;
-    let mut i = 0;
-    while i < MOST_COLUMNS {
+    for i in 0..MOST_COLUMNS {
         places[COLUMNS + 1 + i] = heads[i] as u16;
-        i += 1;
     }
     places
 }
@@ -67,15 +65,12 @@ pub fn attribute(
     ensures { ShownAt s.now result
         (placed_value s.now places.now values.now root (unblanked path.now)) }
 {
-    let mut left = wide(places[COLUMNS]);
-    let mut i = 0;
-    while 0 < left {
+    let n = places[COLUMNS] as usize;
+    for i in 0..n {
         let head = head_of(places, i);
         if names(s, head, root, path) {
             return values[i];
         }
-        i += 1;
-        left -= 1;
     }
     place_in(s, places, root, path)
 }
@@ -91,11 +86,9 @@ pub fn chosen(
     ensures { (i : ℕ) → i < most_columns → get_or result i 0 ≡ cond (ltb i n) (get_or (get_or grid i []) (get_or choices.now i 0) 0) 0 }
 {
     let mut values = [0usize; MOST_COLUMNS];
-    let mut i = 0;
-    while i < n {
+    for i in 0..n {
         let choice = choices[i] as usize;
         values[i] = grid[i][choice];
-        i += 1;
     }
     values
 }

@@ -1,11 +1,11 @@
 -- A choice whose place is not 0 is one of its column's candidates. Assumes nothing.
 use Prim.Native.Nat.{ℕ, ◌+◌, ◌<◌, ◌≤◌}
 use mathlib.Core.List.{List, []}
-use mathlib.Core.Bool.{Bool, true, false, ◌||◌, cond, false≢true}
+use mathlib.Core.Bool.{Bool, true, false, cond}
 use mathlib.Core.Path.{◌≡◌, refl}
 use borrow.Author.Tests.{ltb-true}
 use native.Mathlib.Omega.{arith}
-use lib.Dec.{eqb, ltb}
+use lib.Dec.{ltb}
 use lib.ListN.{get_or}
 use Rattle.bags.specs.Reading.{end_place, many}
 use Rattle.questions.specs.Columns.{candidate_end, count_at}
@@ -29,7 +29,3 @@ pub all_candidates : (s : List ℕ) (n at : ℕ) (choices : List ℕ) (grid : Li
     → Chooses n s at choices
 all_candidates s n at choices grid few is h i l =
     a_candidate s at n i (get_or choices i 0) (rw (is i (get_or choices i 0) (omega arith) (h i l).0) at (h i l).1)
-
--- a string or a list is not absent
-pub not_absent : (kind : ℕ) → (eqb kind 1 || eqb kind 4) ≡ true → kind ≡ 0 → ⊥
-not_absent kind h e = false≢true (rw e at h)

@@ -4,12 +4,11 @@
 
 ghost use Rattle.std.specs.Prelude.{true, [], ◌≡◌, ℕ, ◌<◌, ◌≤◌, T, length, get_or};
 ghost use Rattle.std.specs.Float.Ieee.Scale.{finite};
-ghost use Rattle.tokens.specs.Table.{class_table};
 ghost use Rattle.lookups.specs.Values.{ValueWhole};
 ghost use Rattle.questions.specs.Questions.{Question};
 ghost use Rattle.questions.specs.Sizes.{most_question_bytes};
 
-use bags::sections::{Divided, Sections};
+use bags::sections::Sections;
 use bags::values::{LIST, STRING};
 use lookups::steps::value_next;
 use lookups::values::{Value, value_at};
@@ -17,9 +16,7 @@ use questions::grid::{heads, places};
 use questions::question_sections;
 use slots::index_of;
 use std::io::Read;
-use streams::print_bytes;
-use tokens::classes::class_table;
-use vectors::place_at;
+use vectors::{read_part, sum_of, vector_count};
 use views::{attribute, chosen, with_columns};
 
 // A value's line.
@@ -28,14 +25,12 @@ fn report<P: Print>(rt: &P, s: &[u8], v: Value)
 {
     let kind = v.kind;
     let place = v.place;
-    vectors::print_number(rt, kind as u64, b' ');
-    if (kind == STRING) | (kind == LIST) {
-        vectors::print_bits(rt, v.number, b' ');
+    let _ = print!(rt; "{kind} {:016x}", v.number.to_bits());
+    if kind == STRING || kind == LIST {
         let end = value_next(kind, s, place);
-        vectors::print_number(rt, vectors::sum_of(&s[place..end]), b'\n');
-    } else {
-        vectors::print_bits(rt, v.number, b'\n');
+        let _ = print!(rt; " {}", sum_of(&s[place..end]));
     }
+    let _ = println!(rt);
 }
 
 // Whether each choice is a candidate of its column: past the last of them the places are 0.
@@ -43,16 +38,11 @@ fn are_candidates(grid: [[usize; 8]; 6], n: usize, choices: &[u8; 6]) -> bool
     requires { n ≤ 6 }
     ensures { result ≡ true → (i : ℕ) → i < n → (get_or choices.now i 0 < 8) × (0 < get_or (get_or grid i []) (get_or choices.now i 0) 0) }
 {
-    let mut i = 0;
-    while i < n {
-        let choice = choices[i];
-        if 8 <= choice {
+    for i in 0..n {
+        let choice = usize::from(choices[i]);
+        if 8 <= choice || grid[i][choice] == 0 {
             return false;
         }
-        if place_at(grid, i, choice as usize) == 0 {
-            return false;
-        }
-        i += 1;
     }
     true
 }
@@ -73,40 +63,35 @@ fn row<P: Print>(rt: &P, s: &[u8], p: Sections, choices: &[u8; 6], root: u8, pat
         let k = attribute(s, &found, &values, root, path);
         report(rt, s, value_at(s, k));
     } else {
-        print_bytes(rt, b"-\n");
+        let _ = println!(rt; "-");
     }
 }
 
-fn answer<P: Print>(rt: &P, classes: &[u8; 256], s: &[u8], choices: &[u8; 6], root: u8, path: &[u8])
-    requires { classes.now ≡ class_table }
-{
-    match question_sections(classes, s) {
-        Divided::Broken => vectors::print_number(rt, 24, b'\n'),
-        Divided::In(p) => row(rt, s, p, choices, root, path),
+fn answer<P: Print>(rt: &P, s: &[u8], choices: &[u8; 6], root: u8, path: &[u8]) {
+    match question_sections(s) {
+        Some(p) => row(rt, s, p, choices, root, path),
+        None => {
+            let _ = println!(rt; "24");
+        }
     }
 }
 
 // One vector: a question, the choices of six columns, a root byte and a path.
-fn vector<P: Print, R: Read>(rt: &P, input: &mut R, classes: &[u8; 256])
-    requires { classes.now ≡ class_table }
-{
+fn vector<P: Print, R: Read>(rt: &P, input: &mut R) {
     let mut question = [0u8; 8192];
     let mut choices = [0u8; 6];
     let mut root = [0u8; 1];
     let mut path = [0u8; 256];
-    let q = vectors::read_part(input, &mut question);
-    vectors::read_part(input, &mut choices);
-    vectors::read_part(input, &mut root);
-    let p = vectors::read_part(input, &mut path);
-    answer(rt, classes, &question[..q], &choices, root[0], &path[..p]);
+    let q = read_part(input, &mut question);
+    read_part(input, &mut choices);
+    read_part(input, &mut root);
+    let p = read_part(input, &mut path);
+    answer(rt, &question[..q], &choices, root[0], &path[..p]);
 }
 
 fn main(rt: HostRuntime) {
     let mut input = rt.reader();
-    let classes = class_table();
-    let mut left = vectors::vector_count(&mut input);
-    while left > 0 {
-        vector(&rt, &mut input, &classes);
-        left -= 1;
+    for _ in 0..vector_count(&mut input) {
+        vector(&rt, &mut input);
     }
 }

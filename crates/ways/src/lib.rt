@@ -41,155 +41,135 @@ pub fn part_met(at: usize, x: Entry) -> usize
     ensures { result ≡ part_met at x }
 {
     if x.kind < entries::AND {
-        return at;
-    }
-    first_met(at, x)
-}
-
-// What is left becomes k.
-fn ended_by(w: Way, k: Verdict) -> Way
-    ensures { result ≡ ended_by w k }
-{
-    let yes = w.yes;
-    let held = w.held;
-    let kept = w.kept;
-    Way {
-        at: 0,
-        yes: yes,
-        no: k,
-        rest: w.rest,
-        held: held,
-        kept: kept,
+        at
+    } else {
+        first_met(at, x)
     }
 }
 
-// What ends before `at` is left, and its Yes and No become these.
-fn gone_on(w: Way, at: usize, yes: Verdict, no: Verdict) -> Way
-    ensures { result ≡ gone_on w at yes no }
-{
-    let held = w.held;
-    let kept = w.kept;
-    Way {
-        at: at,
-        yes: yes,
-        no: no,
-        rest: w.rest,
-        held: held,
-        kept: kept,
+impl Way {
+    // What is left becomes k.
+    fn ended_by(self, k: Verdict) -> Way
+        ensures { result ≡ ended_by self k }
+    {
+        Way {
+            at: 0,
+            no: k,
+            ..self
+        }
     }
-}
 
-// The part that is met first is left, and ends before `part`; the rest is kept for then.
-pub fn entered(w: Way, part: usize) -> Way
-    ensures { result ≡ entered_at w part }
-{
-    let yes = w.yes;
-    let no = w.no;
-    Way {
-        at: part,
-        yes: Verdict::Yes,
-        no: Verdict::No,
-        rest: w.at,
-        held: yes,
-        kept: no,
+    // What ends before `at` is left, and its Yes and No become these.
+    fn gone_on(self, at: usize, yes: Verdict, no: Verdict) -> Way
+        ensures { result ≡ gone_on self at yes no }
+    {
+        Way {
+            at,
+            yes,
+            no,
+            ..self
+        }
     }
-}
 
-// What was kept is left.
-pub fn come_back(w: Way) -> Way
-    ensures { result ≡ come_back w }
-{
-    let held = w.held;
-    let kept = w.kept;
-    Way {
-        at: w.rest,
-        yes: held,
-        no: kept,
-        rest: 0,
-        held: Verdict::Yes,
-        kept: Verdict::Yes,
+    // The part that is met first is left, and ends before `part`; the rest is kept for then.
+    pub fn entered(self, part: usize) -> Way
+        ensures { result ≡ entered_at self part }
+    {
+        Way {
+            at: part,
+            yes: Verdict::Yes,
+            no: Verdict::No,
+            rest: self.at,
+            held: self.yes,
+            kept: self.no,
+        }
     }
-}
 
-// What is left after a Yes of the part that is met first. It stops `||` where nothing before it can be Missing.
-fn after_yes(settles: bool, w: Way, x: Entry) -> Way
-    ensures { result ≡ after_yes settles w x }
-{
-    let yes = w.yes;
-    let no = w.no;
-    if x.kind == entries::AND {
-        return gone_on(w, x.first, yes, no);
+    // What was kept is left.
+    pub fn come_back(self) -> Way
+        ensures { result ≡ come_back self }
+    {
+        Way {
+            at: self.rest,
+            yes: self.held,
+            no: self.kept,
+            rest: 0,
+            held: Verdict::Yes,
+            kept: Verdict::Yes,
+        }
     }
-    if x.kind == entries::IF {
-        return gone_on(w, x.second, yes, no);
-    }
-    if (x.kind == entries::OR) & !settles {
-        return gone_on(w, x.first, yes, yes);
-    }
-    ended_by(w, yes)
-}
 
-// The same after a No, which stops `&&` so.
-fn after_no(settles: bool, w: Way, x: Entry) -> Way
-    requires { 0 < w.at }
-    ensures { result ≡ after_no settles w x }
-{
-    let yes = w.yes;
-    let no = w.no;
-    if x.kind == entries::OR {
-        return gone_on(w, x.first, yes, no);
+    // What is left after a Yes of the part that is met first. It stops `||` where nothing before it can be Missing.
+    fn after_yes(self, settles: bool, x: Entry) -> Way
+        ensures { result ≡ after_yes settles self x }
+    {
+        if x.kind == entries::AND {
+            return self.gone_on(x.first, self.yes, self.no);
+        }
+        if x.kind == entries::IF {
+            return self.gone_on(x.second, self.yes, self.no);
+        }
+        if (x.kind == entries::OR) & !settles {
+            return self.gone_on(x.first, self.yes, self.yes);
+        }
+        self.ended_by(self.yes)
     }
-    if x.kind == entries::IF {
-        return gone_on(w, w.at - 1, yes, no);
-    }
-    if (x.kind == entries::AND) & !settles {
-        return gone_on(w, x.first, no, no);
-    }
-    ended_by(w, no)
-}
 
-// The same after a Missing, which counts as a No where `settles`.
-fn after_missing(settles: bool, w: Way, x: Entry) -> Way
-    requires { 0 < w.at }
-    ensures { result ≡ after_missing settles w x }
-{
-    if settles {
-        return after_no(settles, w, x);
+    // The same after a No, which stops `&&` so.
+    fn after_no(self, settles: bool, x: Entry) -> Way
+        requires { 0 < self.at }
+        ensures { result ≡ after_no settles self x }
+    {
+        if x.kind == entries::OR {
+            return self.gone_on(x.first, self.yes, self.no);
+        }
+        if x.kind == entries::IF {
+            return self.gone_on(self.at - 1, self.yes, self.no);
+        }
+        if (x.kind == entries::AND) & !settles {
+            return self.gone_on(x.first, self.no, self.no);
+        }
+        self.ended_by(self.no)
     }
-    let yes = w.yes;
-    let no = w.no;
-    if x.kind == entries::OR {
-        return gone_on(w, x.first, yes, Verdict::Missing);
-    }
-    if x.kind == entries::AND {
-        return gone_on(w, x.first, Verdict::Missing, no);
-    }
-    ended_by(w, Verdict::Missing)
-}
 
-// The same after the verdict v. No stands first: a decision takes a hundredth fewer instructions so.
-pub fn after_part(settles: bool, w: Way, x: Entry, v: Verdict) -> Way
-    requires { 0 < w.at }
-    ensures { result ≡ after_part settles w x v }
-{
-    match v {
-        Verdict::No => after_no(settles, w, x),
-        Verdict::Yes => after_yes(settles, w, x),
-        Verdict::Missing => after_missing(settles, w, x),
+    // The same after a Missing, which counts as a No where `settles`.
+    fn after_missing(self, settles: bool, x: Entry) -> Way
+        requires { 0 < self.at }
+        ensures { result ≡ after_missing settles self x }
+    {
+        if settles {
+            return self.after_no(settles, x);
+        }
+        match x.kind {
+            entries::OR => self.gone_on(x.first, self.yes, Verdict::Missing),
+            entries::AND => self.gone_on(x.first, Verdict::Missing, self.no),
+            _ => self.ended_by(Verdict::Missing),
+        }
     }
-}
 
-// What is left inside `!` or brackets.
-pub fn inside_part(w: Way, x: Entry) -> Way
-    requires { 0 < w.at }
-    ensures { result ≡ inside_part w x }
-{
-    let yes = w.yes;
-    let no = w.no;
-    if x.kind == entries::NOT {
-        return gone_on(w, w.at - 1, no, yes);
+    // The same after the verdict v. No stands first: a decision takes a hundredth fewer instructions so.
+    pub fn after_part(self, settles: bool, x: Entry, v: Verdict) -> Way
+        requires { 0 < self.at }
+        ensures { result ≡ after_part settles self x v }
+    {
+        match v {
+            Verdict::No => self.after_no(settles, x),
+            Verdict::Yes => self.after_yes(settles, x),
+            Verdict::Missing => self.after_missing(settles, x),
+        }
     }
-    gone_on(w, w.at - 1, yes, no)
+
+    // What is left inside `!` or brackets.
+    pub fn inside_part(self, x: Entry) -> Way
+        requires { 0 < self.at }
+        ensures { result ≡ inside_part self x }
+    {
+        if x.kind == entries::NOT {
+            self.gone_on(self.at - 1, self.no, self.yes)
+        } else {
+            self.gone_on(self.at - 1, self.yes, self.no)
+        }
+    }
 }
 
 // Whether an absent attribute makes an operator false under a version.
@@ -207,13 +187,7 @@ pub fn settled_as(settles: bool, v: Verdict) -> Verdict
     ensures { result ≡ settled_if settles v }
 {
     match v {
-        Verdict::Yes => Verdict::Yes,
-        Verdict::No => Verdict::No,
-        Verdict::Missing => {
-            if settles {
-                return Verdict::No;
-            }
-            Verdict::Missing
-        }
+        Verdict::Missing => if settles { Verdict::No } else { v },
+        _ => v,
     }
 }

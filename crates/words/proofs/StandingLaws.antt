@@ -7,7 +7,8 @@ use Prim.Native.Nat.{ℕ, suc, ◌+◌, ◌-◌, ◌≤◌, ◌<◌}
 use native.Mathlib.Omega.{arith}
 use lib.Dec.{eqb, leb, ltb}
 use lib.ListN.{length, get_or, take, drop, length-append, length-take}
-use borrow.Author.Tests.{eqb-true, eq-eqb, ne_eqb, leb-true, le-leb, ltb-true, ltb-false}
+use borrow.Author.Tests.{ne_eqb, leb-true, le-leb, ltb-true, ltb-false}
+use Rattle.std.specs.Prelude.{Option, Some, None}
 use Rattle.slices.specs.Same.{same}
 use Rattle.slices.specs.Standing.{stands_at}
 use Rattle.slices.proofs.Equal.{same_decides}
@@ -34,34 +35,19 @@ ends_parts u w text at =
     ∙ (ap (λ (b : Bool). b && not (word_byte (get_or text (at + length u + length w) 0))) (stand_parts u w text at)
     ∙ sym (and_assoc (stands_at u text at) (stands_at w text (at + length u)) (not (word_byte (get_or text (at + length u + length w) 0)))))
 
--- where the first part stands, the others decide
-pub ends_on : (u w text : List ℕ) (at : ℕ) → stands_at u text at ≡ true → ends_in (u ++ w) text at ≡ ends_in w text (at + length u)
-ends_on u w text at h = ends_parts u w text at ∙ ap (λ (b : Bool). b && ends_in w text (at + length u)) h
-
-pub ends_off : (u w text : List ℕ) (at : ℕ) → stands_at u text at ≡ false → ends_in (u ++ w) text at ≡ false
-ends_off u w text at h = ends_parts u w text at ∙ ap (λ (b : Bool). b && ends_in w text (at + length u)) h
-
 -- the same for one byte
 and_true : (a : Bool) → (a && true) ≡ a
 and_true true = refl
 and_true false = refl
 
-pub ends_byte : (x : ℕ) (w text : List ℕ) (at : ℕ) → ends_in (x ∷ w) text at ≡ (eqb (get_or text at 0) x && ends_in w text (at + 1))
+ends_byte : (x : ℕ) (w text : List ℕ) (at : ℕ) → ends_in (x ∷ w) text at ≡ (eqb (get_or text at 0) x && ends_in w text (at + 1))
 unfolding stands_at
 ends_byte x w text at = ends_parts (x ∷ []) w text at ∙ ap (λ (b : Bool). b && ends_in w text (at + 1)) (and_true (eqb (get_or text at 0) x))
-
-pub one_stands : (b : ℕ) (text : List ℕ) (at : ℕ) → get_or text at 0 ≡ b → stands_at (b ∷ []) text at ≡ true
-unfolding stands_at
-one_stands b text at e = and_true (eqb (get_or text at 0) b) ∙ eq-eqb (get_or text at 0) b e
-
-pub other_stands : (b : ℕ) (text : List ℕ) (at : ℕ) → (get_or text at 0 ≡ b → ⊥) → stands_at (b ∷ []) text at ≡ false
-unfolding stands_at
-other_stands b text at n = and_true (eqb (get_or text at 0) b) ∙ ne_eqb (get_or text at 0) b n
 
 -- ---- the word at a place
 
 -- the longest run of word bytes from a place on
-unfoldable pub word_at : List ℕ → ℕ → List ℕ
+unfoldable word_at : List ℕ → ℕ → List ℕ
 word_at text at = take (run WordBytes (drop at text)) (drop at text)
 
 module _ (text : List ℕ) (at : ℕ) where
@@ -81,12 +67,12 @@ module _ (text : List ℕ) (at : ℕ) where
   unfolding word_at run class_of
   some_word e = rw (rest_at text at (inside word_byte text at never e)) (simp e)
 
-pub no_bytes : (text : List ℕ) (at : ℕ) → ends_in [] text at ≡ not (word_byte (get_or text at 0))
+no_bytes : (text : List ℕ) (at : ℕ) → ends_in [] text at ≡ not (word_byte (get_or text at 0))
 unfolding ends_in stands_at
 no_bytes text at = ap (λ (k : ℕ). not (word_byte (get_or text k 0))) (omega arith)
 
 -- bytes of words that stand at a place, with no word byte behind them, are the word there
-pub ends_same : (w : List ℕ) → every word_byte w ≡ true → (text : List ℕ) (at : ℕ) → ends_in w text at ≡ same (word_at text at) w
+ends_same : (w : List ℕ) → every word_byte w ≡ true → (text : List ℕ) (at : ℕ) → ends_in w text at ≡ same (word_at text at) w
 unfolding every same
 ends_same [] v text at = no_bytes text at ∙ go (word_byte (get_or text at 0)) refl
   where
@@ -108,10 +94,10 @@ ends_same (x ∷ w) v text at = ends_byte x w text at ∙ go (word_byte (get_or 
 unfoldable plain : List ℕ → Bool
 plain w = every word_byte w && leb (length w) 64
 
--- what the reserved word r, found at a place of a text, says of the kind k of the word there: neither is one, or both are, and r has the word's bytes
-abbrev Found : List ℕ → ℕ → Token → ℕ → Type 0
+-- what the answer r, of which reserved word stands at a place of a text, says of the kind k of the word there: there is none and this is a name, or it is the word there
+abbrev Found : List ℕ → ℕ → Option Token → ℕ → Type 0
 Found text at r k =
-    ((r.kind ≡ name) × (k ≡ name)) ⊎ ((r ≡ token k at (run_end WordBytes text at)) × (run WordBytes (drop at text) ≤ 64) × (name < k))
+    ((r ≡ None) × (k ≡ name)) ⊎ ((r ≡ Some (token k at (run_end WordBytes text at))) × (run WordBytes (drop at text) ≤ 64) × (name < k))
 
 module _ (text : List ℕ) (at : ℕ) where
   found_among : (words : List (List ℕ)) → every plain words ≡ true → (first : ℕ) → name < first
@@ -123,12 +109,12 @@ module _ (text : List ℕ) (at : ℕ) where
       (go (same (word_at text at) w) refl (found_among more (and_right (plain w) (every plain more) v) (suc first) (omega arith)))
     where
       go : (t : Bool) → same (word_at text at) w ≡ t → Found text at (reserved_among more (suc first) text at) (kind_among more (suc first) (word_at text at))
-          → Found text at (cond t (token first at (at + length w)) (reserved_among more (suc first) text at)) (cond t first (kind_among more (suc first) (word_at text at)))
+          → Found text at (cond t (Some (token first at (at + length w))) (reserved_among more (suc first) text at)) (cond t first (kind_among more (suc first) (word_at text at)))
       go true e f =
           let is : length (word_at text at) ≡ length w = ap length ((same_decides (word_at text at) w).sound e) in
           let size : length w ≡ run WordBytes (drop at text) = sym is ∙ word_length text at in
           let small = leb-true (length w) 64 (and_right (every word_byte w) _ (and_left (plain w) (every plain more) v)) in
-          inr (ap (λ (n : ℕ). token first at (at + n)) size, omega arith, h)
+          inr (ap (λ (n : ℕ). Some (token first at (at + n))) size, omega arith, h)
       go false e f = f
 
 -- all reserved words are such
@@ -145,52 +131,51 @@ module _ (text : List ℕ) (at : ℕ) where
       ap (λ (n : ℕ). take n (drop at text)) size
 
   -- a reserved word that is found is the token there
-  pub found_word : ((reserved_at text at).kind ≡ name → ⊥) → reserved_at text at ≡ word_token text at
+  pub found_word : {t : Token} → reserved_at text at ≡ Some t → t ≡ word_token text at
   unfolding word_token sized
-  found_word n =
+  found_word {t} e =
       ⊎_elim
-      (λ (h : ((reserved_at text at).kind ≡ name) × (word_kind (word_at text at) ≡ name)). absurd (n h.0))
-      (λ (h : (reserved_at text at ≡ token (word_kind (word_at text at)) at (run_end WordBytes text at)) × (run WordBytes (drop at text) ≤ 64) × (name < word_kind (word_at text at))).
-      rw (word_here, le-leb (run_end WordBytes text at - at) 64 (omega (arith, h.1))) h.0)
+      (λ (h : (reserved_at text at ≡ None) × (word_kind (word_at text at) ≡ name)). let never : ◌≡◌ {A = Option Token} None (Some t) = sym h.0 ∙ e in absurd (cc))
+      (λ (h : (reserved_at text at ≡ Some (token (word_kind (word_at text at)) at (run_end WordBytes text at))) × (run WordBytes (drop at text) ≤ 64) × (name < word_kind (word_at text at))).
+      let same : Some t ≡ Some (token (word_kind (word_at text at)) at (run_end WordBytes text at)) = sym e ∙ h.0 in
+      let here : t ≡ token (word_kind (word_at text at)) at (run_end WordBytes text at) = cc in
+      rw (word_here, le-leb (run_end WordBytes text at - at) 64 (omega (arith, h.1))) here)
       found
 
   -- where none is found, the word is a name
-  pub name_word : (reserved_at text at).kind ≡ name → word_kind (take (run_end WordBytes text at - at) (drop at text)) ≡ name
-  name_word n =
+  name_word : reserved_at text at ≡ None → word_kind (take (run_end WordBytes text at - at) (drop at text)) ≡ name
+  name_word e =
       ap word_kind word_here
       ∙ ⊎_elim
-      (λ (h : ((reserved_at text at).kind ≡ name) × (word_kind (word_at text at) ≡ name)). h.1)
-      (λ (h : (reserved_at text at ≡ token (word_kind (word_at text at)) at (run_end WordBytes text at)) × (run WordBytes (drop at text) ≤ 64) × (name < word_kind (word_at text at))).
-      sym (ap (λ (t : Token). t.kind) h.0) ∙ n)
+      (λ (h : (reserved_at text at ≡ None) × (word_kind (word_at text at) ≡ name)). h.1)
+      (λ (h : (reserved_at text at ≡ Some (token (word_kind (word_at text at)) at (run_end WordBytes text at))) × (run WordBytes (drop at text) ≤ 64) × (name < word_kind (word_at text at))).
+      let never : ◌≡◌ {A = Option Token} None (Some (token (word_kind (word_at text at)) at (run_end WordBytes text at))) = sym e ∙ h.0 in absurd (cc))
       found
 
 -- ---- the words that begin with a byte
 
 -- `reserved_among` where a byte is known to stand at the place: only the words that begin with it are looked at
-unfoldable pub from_among : ℕ → List (List ℕ) → ℕ → List ℕ → ℕ → Token
-from_among b [] first text at = token name at at
-from_among b ([] ∷ more) first text at = cond (ends_in [] text at) (token first at (at + 0)) (from_among b more (suc first) text at)
-from_among b ((x ∷ w) ∷ more) first text at = cond (eqb b x && ends_in w text (at + 1)) (token first at (at + suc (length w))) (from_among b more (suc first) text at)
+unfoldable pub from_among : ℕ → List (List ℕ) → ℕ → List ℕ → ℕ → Option Token
+from_among b [] first text at = None
+from_among b ([] ∷ more) first text at = cond (ends_in [] text at) (Some (token first at (at + 0))) (from_among b more (suc first) text at)
+from_among b ((x ∷ w) ∷ more) first text at =
+    cond (eqb b x && ends_in w text (at + 1)) (Some (token first at (at + suc (length w)))) (from_among b more (suc first) text at)
 
 by_byte : (text : List ℕ) (at : ℕ) (words : List (List ℕ)) (first : ℕ) → reserved_among words first text at ≡ from_among (get_or text at 0) words first text at
 unfolding reserved_among from_among
 by_byte text at [] first = refl
-by_byte text at ([] ∷ more) first = ap (λ (t : Token). cond (ends_in [] text at) (token first at (at + 0)) t) (by_byte text at more (suc first))
+by_byte text at ([] ∷ more) first = ap (λ (t : Option Token). cond (ends_in [] text at) (Some (token first at (at + 0))) t) (by_byte text at more (suc first))
 by_byte text at ((x ∷ w) ∷ more) first =
-    ap (λ (b : Bool). cond b (token first at (at + suc (length w))) (reserved_among more (suc first) text at)) (ends_byte x w text at)
-    ∙ ap (λ (t : Token). cond (eqb (get_or text at 0) x && ends_in w text (at + 1)) (token first at (at + suc (length w))) t) (by_byte text at more (suc first))
+    ap (λ (b : Bool). cond b (Some (token first at (at + suc (length w)))) (reserved_among more (suc first) text at)) (ends_byte x w text at)
+    ∙ ap (λ (t : Option Token). cond (eqb (get_or text at 0) x && ends_in w text (at + 1)) (Some (token first at (at + suc (length w)))) t) (by_byte text at more (suc first))
 
 module _ (text : List ℕ) (at : ℕ) where
   pub from_byte : (b : ℕ) → get_or text at 0 ≡ b → reserved_at text at ≡ from_among b reserved permit_word text at
   from_byte b e = by_byte text at reserved permit_word ∙ ap (λ (x : ℕ). from_among x reserved permit_word text at) e
 
-  pub from_first : (b : ℕ) → stands_at (b ∷ []) text at ≡ true → reserved_at text at ≡ from_among b reserved permit_word text at
-  unfolding stands_at
-  from_first b e = from_byte b (eqb-true (get_or text at 0) b (and_left (eqb (get_or text at 0) b) true e))
-
   -- no reserved word begins with any other byte
   pub from_none : (b : ℕ) → (b ≢ 97) → (b ≢ 99) → (b ≢ 101) → (b ≢ 102) → (b ≢ 104) → (b ≢ 105) → (b ≢ 108) → (b ≢ 112) → (b ≢ 114) → (b ≢ 116) → (b ≢ 119)
-      → from_among b reserved permit_word text at ≡ token name at at
+      → from_among b reserved permit_word text at ≡ None
   unfolding from_among reserved
   from_none b na nc ne nf nh ni nl np nr nt nw =
       simp (
@@ -207,19 +192,14 @@ module _ (text : List ℕ) (at : ℕ) where
         ne_eqb b 119 nw,
       )
 
--- the word of a kind whose bytes behind the first are v, or else what is left
-abbrev pub choice : List ℕ → ℕ → List ℕ → ℕ → Token → Token
-choice v kind text at rest = cond (ends_in v text (at + 1)) (token kind at (at + suc (length v))) rest
+-- a choice among words whose test has been answered
+pub here : {p : Bool} {t : Option Token} (rest : Option Token) → true ≡ p → cond p t rest ≡ t
+here {p} {t} rest e = ap (λ (b : Bool). cond b t rest) (sym e)
 
--- such a choice is answered by a look at these bytes
-module _ (v : List ℕ) (kind : ℕ) (rest : Token) (text : List ℕ) (at : ℕ) (e : reserved_at text at ≡ choice v kind text at rest) where
-  pub first_of : ends_in v text (at + 1) ≡ true → reserved_at text at ≡ token kind at (at + suc (length v))
-  first_of h = e ∙ ap (λ (b : Bool). cond b (token kind at (at + suc (length v))) rest) h
-
-  pub others_of : ends_in v text (at + 1) ≡ false → reserved_at text at ≡ rest
-  others_of h = e ∙ ap (λ (b : Bool). cond b (token kind at (at + suc (length v))) rest) h
+pub not_here : {p : Bool} {rest last : Option Token} (t : Option Token) → false ≡ p → rest ≡ last → cond p t rest ≡ last
+not_here {p} {rest} t e l = ap (λ (b : Bool). cond b t rest) (sym e) ∙ l
 
 -- where no reserved word is found, the word up to its end is a name
-pub name_token : (text : List ℕ) (at end : ℕ) → (reserved_at text at).kind ≡ name → end ≡ run_end WordBytes text at → sized name 64 (end - at) at end ≡ word_token text at
+pub name_token : (text : List ℕ) (at end : ℕ) → reserved_at text at ≡ None → end ≡ run_end WordBytes text at → sized name 64 (end - at) at end ≡ word_token text at
 unfolding word_token
 name_token text at end n e = rw (e, name_word text at n)

@@ -14,4 +14,4 @@ pub print_tally-requires-2 : goal.print_tally-requires-2
 print_tally-requires-2 g c = policies_few c.desk_compile-c.ensures
 
 pub returns : goal.returns
-returns g c = some_counted c.desk_compile-c.ensures _ _ _ c.if-c-gt0.false c.wide.ensures.0 c.print_tally-2.ensures
+returns g c = some_counted c.desk_compile-c.ensures _ _ _ c.if-c-gt0.false c.from.ensures c.print_tally-2.ensures

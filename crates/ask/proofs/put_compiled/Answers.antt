@@ -6,4 +6,4 @@ pub returns-then-c-gt0 : goal.returns-then-c-gt0
 returns-then-c-gt0 c = (refusal_told _ c.if-c-gt0.true c.put_refusal.ensures.0, c.put_refusal.ensures.1)
 
 pub returns : goal.returns
-returns c = (compiled_told _ c.if-c-gt0.false c.put_two.ensures.0, omega arith)
+returns c = (compiled_told _ c.if-c-gt0.false c.put_numbers.ensures.0, omega arith)

@@ -1,5 +1,5 @@
 use Rattle.numbers.proofs.Exponent.{not_nan}
 use Rattle.bags_vectors.proofs.report.Goals as goal
 
-pub print_bits-requires : goal.print_bits-requires
-print_bits-requires g c = not_nan _ c.requires
+pub float_to_bits-v : goal.float_to_bits-v
+float_to_bits-v g c = not_nan _ c.requires

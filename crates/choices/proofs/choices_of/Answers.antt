@@ -11,7 +11,7 @@ use Rattle.choices.proofs.choices_of.Goals as goal
 pub loop-k-init : goal.loop-k-init
 loop-k-init c =
     let none = drop_of_length-le (counts_by c.args.lasts.now) {i = 6} (omega (arith, counts_length c.args.lasts.now)) in
-    (omega arith, refl, record { some = rw none (no_digits _); left = rw none (sym (div-one c.args.row)) })
+    (refl, record { some = rw none (no_digits _); left = rw none (sym (div-one c.args.row)) })
 
 pub overflow_cast-n : goal.overflow_cast-n
 overflow_cast-n c = omega (arith, c.requires.few (c.loop-k.k - 1) (omega arith))
@@ -30,10 +30,9 @@ loop-k-preserved c =
     let lasts = c.args.lasts.now in
     let j = c.loop-k.k - 1 in
     let e : c.loop-k.k ≡ suc j = omega arith in (
-      omega arith,
       simp length-set (omega arith),
-      more_digits lasts c.args.row j c.loop-k.choices c.loop-k.rest (omega arith) (omega arith) (rw e at c.loop-k.invariant.2),
+      more_digits lasts c.args.row j c.loop-k.choices c.loop-k.rest (omega arith) (omega arith) (rw e at c.loop-k.invariant.1),
     )
 
 pub returns : goal.returns
-returns c = let e : c.loop-k.k ≡ 0 = omega arith in (rw e at c.loop-k.invariant.2).some
+returns c = let e : c.loop-k.k ≡ 0 = omega arith in (rw e at c.loop-k.invariant.1).some

@@ -9,7 +9,4 @@ use mathlib.Core.Path.{◌≡◌, refl, sym}
 use Rattle.choices.proofs.choices_of.Given as goal
 
 abbrev pub invariant-loop-k : goal.invariant-loop-k
-invariant-loop-k l = (l.k ≤ 6) × (length l.choices ≡ 6) × Digits (counts_by l.lasts) l.row l.k l.choices l.rest
-
-abbrev pub decreases-loop-k : goal.decreases-loop-k
-decreases-loop-k l = l.k
+invariant-loop-k l = (length l.choices ≡ 6) × Digits (counts_by l.lasts) l.row l.k l.choices l.rest

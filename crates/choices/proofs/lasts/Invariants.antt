@@ -9,7 +9,4 @@ use mathlib.Core.Path.{◌≡◌, refl, ap, ◌∙◌}
 use Rattle.choices.proofs.lasts.Given as goal
 
 abbrev pub invariant-loop-i : goal.invariant-loop-i
-invariant-loop-i l = (length l.ends ≡ 6) × ((k : ℕ) → k < 6 → get_or l.ends k 0 ≡ first_of l.i (λ k. count_of l.s (get_or l.heads k 0) - 1) k) × (l.i ≤ l.n)
-
-abbrev pub decreases-loop-i : goal.decreases-loop-i
-decreases-loop-i l = l.n - l.i
+invariant-loop-i l = (length l.ends ≡ 6) × ((k : ℕ) → k < 6 → get_or l.ends k 0 ≡ first_of l.i (λ k. count_of l.s (get_or l.heads k 0) - 1) k)

@@ -12,7 +12,7 @@ use Rattle.choices.proofs.step.Goals as goal
 pub loop-k-init : goal.loop-k-init
 loop-k-init c =
     let many = as_many c.requires.combines in
-    (omega arith, omega (arith, counts_length c.args.lasts.now, c.requires.few.six), c.requires.values_are, carry_one _ _ c.requires.few.six c.requires.combines, none_passed _ _)
+    (omega (arith, counts_length c.args.lasts.now, c.requires.few.six), c.requires.values_are, carry_one _ _ c.requires.few.six c.requires.combines, none_passed _ _)
 
 pub overflow_add-next : goal.overflow_add-next
 overflow_add-next c = omega (arith, c.requires.few.few (c.loop-k.k - 1) (omega arith))
@@ -30,20 +30,19 @@ pub returns-then-choice-lasts : goal.returns-then-choice-lasts
 returns-then-choice-lasts c =
     let e : c.loop-k.k ≡ suc (c.loop-k.k - 1) = omega arith in
     let six = c.requires.few.six in
-    moved_on _ _ _ _ _ _ (pick_set _ _ _ _ _ c.loop-k.invariant.1 (omega arith) c.loop-k.invariant.2)
-    (moved_at _ _ c.loop-k.choices (c.loop-k.k - 1) _ (rw e at c.loop-k.invariant.4) (omega arith) c.if-choice-lasts.true)
-    (take_next c.args.lasts.now _ (c.loop-k.k - 1) c.loop-k.choices (omega arith) (rw e at c.loop-k.invariant.3) c.if-choice-lasts.true)
+    moved_on _ _ _ _ _ _ (pick_set _ _ _ _ _ c.loop-k.invariant.0 (omega arith) c.loop-k.invariant.1)
+    (moved_at _ _ c.loop-k.choices (c.loop-k.k - 1) _ (rw e at c.loop-k.invariant.3) (omega arith) c.if-choice-lasts.true)
+    (take_next c.args.lasts.now _ (c.loop-k.k - 1) c.loop-k.choices (omega arith) (rw e at c.loop-k.invariant.2) c.if-choice-lasts.true)
 
 pub loop-k-preserved : goal.loop-k-preserved
 loop-k-preserved c =
     let e : c.loop-k.k ≡ suc (c.loop-k.k - 1) = omega arith in
     let six = c.requires.few.six in (
-      omega arith,
-      simp length-set c.loop-k.invariant.1,
-      pick_set _ _ _ _ _ c.loop-k.invariant.1 (omega arith) c.loop-k.invariant.2,
-      hand_on c.args.lasts.now _ (c.loop-k.k - 1) c.loop-k.choices (omega arith) (rw e at c.loop-k.invariant.3) (omega arith),
-      pass_on _ _ c.loop-k.choices (c.loop-k.k - 1) _ (rw e at c.loop-k.invariant.4) (omega arith),
+      simp length-set c.loop-k.invariant.0,
+      pick_set _ _ _ _ _ c.loop-k.invariant.0 (omega arith) c.loop-k.invariant.1,
+      hand_on c.args.lasts.now _ (c.loop-k.k - 1) c.loop-k.choices (omega arith) (rw e at c.loop-k.invariant.2) (omega arith),
+      pass_on _ _ c.loop-k.choices (c.loop-k.k - 1) _ (rw e at c.loop-k.invariant.3) (omega arith),
     )
 
 pub returns : goal.returns
-returns c = moved_round _ _ _ _ _ _ c.loop-k.invariant.2 (all_passed (omega arith) c.loop-k.invariant.4) c.requires.combines c.loop-k.k (omega arith) c.loop-k.invariant.3
+returns c = moved_round _ _ _ _ _ _ c.loop-k.invariant.1 (all_passed (omega arith) c.loop-k.invariant.3) c.requires.combines c.loop-k.k (omega arith) c.loop-k.invariant.2

@@ -10,7 +10,4 @@ use mathlib.Core.Path.{◌≡◌}
 use Rattle.choices.proofs.step.Given as goal
 
 abbrev pub invariant-loop-k : goal.invariant-loop-k
-invariant-loop-k l = (l.k ≤ 6) × (length l.choices ≡ 6) × Picked l.grid l.choices l.values × Carried (counts_by l.lasts) (row_of (counts_by l.lasts) l.initial.choices) l.k l.choices × Passed l.lasts l.initial.choices l.k l.choices
-
-abbrev pub decreases-loop-k : goal.decreases-loop-k
-decreases-loop-k l = l.k
+invariant-loop-k l = (length l.choices ≡ 6) × Picked l.grid l.choices l.values × Carried (counts_by l.lasts) (row_of (counts_by l.lasts) l.initial.choices) l.k l.choices × Passed l.lasts l.initial.choices l.k l.choices

@@ -1,31 +1,26 @@
 -- `compiling::compile` meets its contract: by the version that the number names. Assumes nothing.
+use native.Mathlib.Omega.{arith}
+use mathlib.Core.Path.{ap}
 use borrow.Author.Rules.{rules}
-use borrow.Author.Tests.{eq-eqb, ne_eqb}
+use borrow.Author.Tests.{ne_eqb}
+use Rattle.std.specs.Prelude.{Err}
 use Rattle.grammar.specs.Versions.{if_version}
 use Rattle.compiling.specs.Outcome.{compiled_of, table_after}
+use Rattle.compiling.specs.declared.Refused.{Refused}
 use Rattle.compiling.proofs.compile.Goals as goal
 
-pub returns-then-number-eq1 : goal.returns-then-number-eq1
+pub returns-in-1 : goal.returns-in-1
 unfolding compiled_of table_after if_version
-returns-then-number-eq1 c =
-    let number = c.args.number in
-    let e = eq-eqb number 1 c.if-number-eq1.true in
-    let k = c.compile_under.ensures in
-    record { answered = rw e k.0; table = rw e k.1 }
+returns-in-1 c = let k = c.compile_under.ensures in record { answered = rw c.in-1.is k.0; table = rw c.in-1.is k.1 }
 
-pub returns-then-number-eq2 : goal.returns-then-number-eq2
+pub returns-in-2 : goal.returns-in-2
 unfolding compiled_of table_after if_version
-returns-then-number-eq2 c =
-    let number = c.args.number in
-    let n = ne_eqb number 1 c.if-number-eq1.false in
-    let e = eq-eqb number 2 c.if-number-eq2.true in
-    let k = c.compile_under-then-number-eq2.ensures in
-    record { answered = rw (n, e) k.0; table = rw (n, e) k.1 }
+returns-in-2 c = let k = c.compile_under-in-2.ensures in record { answered = rw c.in-2.is k.0; table = rw c.in-2.is k.1 }
 
-pub returns : goal.returns
+pub returns-in_default : goal.returns-in_default
 unfolding compiled_of table_after if_version
-returns c =
+returns-in_default c =
     let number = c.args.number in
-    let n = ne_eqb number 1 c.if-number-eq1.false in
-    let m = ne_eqb number 2 c.if-number-eq2.false in
-    record { answered = rw (n, m) c.unplaced.ensures; table = rw (n, m) }
+    let n = ne_eqb number 1 (omega arith) in
+    let m = ne_eqb number 2 (omega arith) in
+    record { answered = rw (n, m) (ap (λ (r : Refused). Err r) c.unplaced.ensures); table = rw (n, m) }

@@ -8,18 +8,18 @@ use Rattle.compiling.proofs.held_policies.Goals as goal
 pub returns-then-text-gt-MOST_TEXT_BYTES : goal.returns-then-text-gt-MOST_TEXT_BYTES
 returns-then-text-gt-MOST_TEXT_BYTES c = sym (too_long_held _ _ c.if-text-gt-MOST_TEXT_BYTES.true)
 
-pub returns-in-Lost : goal.returns-in-Lost
+pub returns-in-Ok : goal.returns-in-Ok
 unfolding said
-returns-in-Lost c = lost_held _ (as_lost c.in-Lost.is c.read_all-whole.ensures) ∙ sym (fitting_held _ _ c.if-text-gt-MOST_TEXT_BYTES.false)
-
-pub returns-then-same : goal.returns-then-same
-unfolding said
-returns-then-same c =
-    right_held c.recorded-version.ensures (as_complete c.in-All.is c.read_all-whole.ensures) c.if-same.true
+returns-in-Ok c =
+    right_held c.recorded-version.ensures (as_complete c.in-Ok.is c.read_all.ensures) c.if-whole.true
     ∙ sym (fitting_held _ _ c.if-text-gt-MOST_TEXT_BYTES.false)
 
-pub returns-else-same : goal.returns-else-same
+pub returns-in_default : goal.returns-in_default
 unfolding said
-returns-else-same c =
-    wrong_held c.recorded-version.ensures (as_complete c.in-All.is c.read_all-whole.ensures) c.if-same.false
+returns-in_default c =
+    wrong_held c.recorded-version.ensures (as_complete c.in-Ok.is c.read_all.ensures) c.if-whole.false
     ∙ sym (fitting_held _ _ c.if-text-gt-MOST_TEXT_BYTES.false)
+
+pub returns-in_default-2 : goal.returns-in_default-2
+unfolding said
+returns-in_default-2 c = lost_held _ (as_lost c.in_default.is c.read_all.ensures) ∙ sym (fitting_held _ _ c.if-text-gt-MOST_TEXT_BYTES.false)

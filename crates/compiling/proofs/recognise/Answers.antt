@@ -11,10 +11,10 @@ returns-then-text-gt-MOST_TEXT_BYTES c = sym (too_long _ _ _ c.if-text-gt-MOST_T
 pub returns-then-room-text : goal.returns-then-room-text
 returns-then-room-text c = sym (no_room _ _ _ c.if-text-gt-MOST_TEXT_BYTES.false c.if-room-text.true)
 
-pub returns-in-Lost : goal.returns-in-Lost
+pub returns-in-Err : goal.returns-in-Err
 unfolding said
-returns-in-Lost c = turned_found _ (as_lost c.in-Lost.is c.read_all-whole.ensures) ∙ sym (fitting _ _ _ c.if-text-gt-MOST_TEXT_BYTES.false c.if-room-text.false)
+returns-in-Err c = turned_found _ (as_lost c.in-Err.is c.read_all.ensures) ∙ sym (fitting _ _ _ c.if-text-gt-MOST_TEXT_BYTES.false c.if-room-text.false)
 
-pub returns-in-All : goal.returns-in-All
+pub returns-in-Ok : goal.returns-in-Ok
 unfolding said
-returns-in-All c = complete_found (as_complete c.in-All.is c.read_all-whole.ensures) ∙ sym (fitting _ _ _ c.if-text-gt-MOST_TEXT_BYTES.false c.if-room-text.false)
+returns-in-Ok c = complete_found (as_complete c.in-Ok.is c.read_all.ensures) ∙ sym (fitting _ _ _ c.if-text-gt-MOST_TEXT_BYTES.false c.if-room-text.false)

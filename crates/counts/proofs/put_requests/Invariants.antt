@@ -1,4 +1,4 @@
-use Rattle.std.proofs.Common.{◌-◌, ◌+◌, ◌*◌, ◌≤◌}
+use Rattle.std.proofs.Common.{◌+◌, ◌*◌, ◌≤◌}
 use Rattle.folder.specs.Added.{Added}
 use Rattle.counts.specs.Tallied.{request_lines}
 use Rattle.counts.proofs.put_requests.Given as goal
@@ -6,9 +6,5 @@ use Rattle.counts.proofs.put_requests.Given as goal
 abbrev pub invariant-loop-k : goal.invariant-loop-k
 invariant-loop-k l = record {
   put : Added l.initial.out l.at (request_lines l.counts l.policies l.k) l.out l.filled;
-  within : l.k ≤ l.many;
   room : l.filled ≤ l.at + 3429 * l.k;
 }
-
-abbrev pub decreases-loop-k : goal.decreases-loop-k
-decreases-loop-k l = l.many - l.k

@@ -8,26 +8,17 @@ use Rattle.depths.specs.Columns.{depth_from}
 use Rattle.depths.proofs.Steady.{depth_done, depth_on}
 use Rattle.depths.proofs.depth.Goals as goal
 
-pub loop-at-init : goal.loop-at-init
-loop-at-init c = (omega arith, c.requires.first_le_end, refl)
-
 pub entry_at-x-requires : goal.entry_at-x-requires
 entry_at-x-requires c = omega (arith, c.requires.end_lt_field_numbers)
 
 pub column_of-k-requires : goal.column_of-k-requires
 column_of-k-requires c = c.requires.counted
 
-pub overflow_add-at : goal.overflow_add-at
-overflow_add-at c = omega (arith, c.requires.end_lt_field_numbers)
-
 pub loop-at-preserved : goal.loop-at-preserved
-loop-at-preserved c = (
-  omega arith,
-  omega arith,
-  rw (c.deeper_of-deepest.ensures, c.column_of-k.ensures, c.entry_at-x.ensures)
-      (depth_on c.args.text.now (entry_at c.args.table.now) c.args.s.now c.args.n c.args.heads.now c.args.but (c.args.end - c.loop-at.at)
-      (c.args.end - (c.loop-at.at + 1)) c.loop-at.at c.loop-at.deepest (omega arith) ∙ c.loop-at.invariant.2),
-)
+loop-at-preserved c =
+    rw (c.deeper_of-deepest.ensures, c.column_of-k.ensures, c.entry_at-x.ensures)
+    (depth_on c.args.text.now (entry_at c.args.table.now) c.args.s.now c.args.n c.args.heads.now c.args.but (c.args.end - c.loop-at.at)
+    (c.args.end - (c.loop-at.at + 1)) c.loop-at.at c.loop-at.deepest (omega arith) ∙ c.loop-at.invariant)
 
 pub returns : goal.returns
-returns c = depth_done c.args.text.now (entry_at c.args.table.now) c.args.s.now c.args.n c.args.heads.now c.args.but (c.args.end - c.loop-at.at) c.loop-at.at c.loop-at.deepest (omega arith) ∙ c.loop-at.invariant.2
+returns c = depth_done c.args.text.now (entry_at c.args.table.now) c.args.s.now c.args.n c.args.heads.now c.args.but (c.args.end - c.loop-at.at) c.loop-at.at c.loop-at.deepest (omega arith) ∙ c.loop-at.invariant

@@ -9,7 +9,4 @@ use Rattle.depths.proofs.Steady.{depth_done, depth_on}
 use Rattle.depths.proofs.depth.Given as goal
 
 abbrev pub invariant-loop-at : goal.invariant-loop-at
-invariant-loop-at l = (l.first ≤ l.at) × (l.at ≤ l.end) × (depth_from (l.end - l.at) l.text l.table l.s l.n l.heads l.but l.at l.deepest ≡ depth_from (l.end - l.first) l.text l.table l.s l.n l.heads l.but l.first 0)
-
-abbrev pub decreases-loop-at : goal.decreases-loop-at
-decreases-loop-at l = l.end - l.at
+invariant-loop-at l = depth_from (l.end - l.at) l.text l.table l.s l.n l.heads l.but l.at l.deepest ≡ depth_from (l.end - l.first) l.text l.table l.s l.n l.heads l.but l.first 0

@@ -5,14 +5,14 @@ use Rattle.compiling.specs.Outcome.{compile_said}
 use Rattle.desk.specs.Answers.{compiled_as, compile_says}
 use Rattle.desk.proofs.desk_compile.Goals as goal
 
-pub returns-in-Policies : goal.returns-in-Policies
+pub returns-in-Ok : goal.returns-in-Ok
 unfolding compile_says compile_said
-returns-in-Policies c =
+returns-in-Ok c =
     let e = c.compile.ensures in
-    record { answered = ap (λ a. compiled_as (compile_said a)) (sym c.in-Policies.is ∙ e.answered); table = e.table }
+    record { answered = ap (λ a. compiled_as (compile_said a)) (sym c.in-Ok.is ∙ e.answered); table = e.table }
 
-pub returns-in-Refused : goal.returns-in-Refused
+pub returns-in-Err : goal.returns-in-Err
 unfolding compile_says compile_said
-returns-in-Refused c =
+returns-in-Err c =
     let e = c.compile.ensures in
-    record { answered = ap (λ a. compiled_as (compile_said a)) (sym c.in-Refused.is ∙ e.answered); table = e.table }
+    record { answered = ap (λ a. compiled_as (compile_said a)) (sym c.in-Err.is ∙ e.answered); table = e.table }

@@ -5,10 +5,10 @@ use Rattle.deciding.specs.Answers.{decide_said}
 use Rattle.desk.specs.Answers.{decided_as, decide_says}
 use Rattle.desk.proofs.desk_decide.Goals as goal
 
-pub returns-in-Decided : goal.returns-in-Decided
+pub returns-in-Ok : goal.returns-in-Ok
 unfolding decide_says
-returns-in-Decided c = c.decided.ensures ∙ ap (λ a. decided_as (decide_said a)) (sym c.in-Decided.is ∙ c.decide.ensures)
+returns-in-Ok c = c.decided.ensures ∙ ap (λ a. decided_as (decide_said a)) (sym c.in-Ok.is ∙ c.decide.ensures)
 
-pub returns-in-Refused : goal.returns-in-Refused
+pub returns-in-Err : goal.returns-in-Err
 unfolding decide_says decide_said
-returns-in-Refused c = ap (λ a. decided_as (decide_said a)) (sym c.in-Refused.is ∙ c.decide.ensures)
+returns-in-Err c = ap (λ a. decided_as (decide_said a)) (sym c.in-Err.is ∙ c.decide.ensures)

@@ -4,14 +4,14 @@ use mathlib.Core.Path.{sym, ap, ◌∙◌}
 use Rattle.desk.specs.Answers.{locked_as, lock_says}
 use Rattle.desk.proofs.desk_lock.Goals as goal
 
-pub returns-in-Written : goal.returns-in-Written
+pub returns-in-Ok : goal.returns-in-Ok
 unfolding lock_says locked_as
-returns-in-Written c =
+returns-in-Ok c =
     let e = c.lock.ensures in
-    record { answered = ap locked_as (sym c.in-Written.is ∙ e.answered); room = e.bytes }
+    record { answered = ap locked_as (sym c.in-Ok.is ∙ e.answered); room = e.bytes }
 
-pub returns-in-Refused : goal.returns-in-Refused
+pub returns-in-Err : goal.returns-in-Err
 unfolding lock_says locked_as
-returns-in-Refused c =
+returns-in-Err c =
     let e = c.lock.ensures in
-    record { answered = ap locked_as (sym c.in-Refused.is ∙ e.answered); room = e.bytes }
+    record { answered = ap locked_as (sym c.in-Err.is ∙ e.answered); room = e.bytes }

@@ -5,10 +5,10 @@ use Rattle.lookups.specs.Lookups.{lookup_said}
 use Rattle.desk.specs.Answers.{found_as, lookup_says}
 use Rattle.desk.proofs.desk_lookup.Goals as goal
 
-pub returns-in-Found : goal.returns-in-Found
+pub returns-in-Ok : goal.returns-in-Ok
 unfolding lookup_says
-returns-in-Found c = ap (λ a. found_as (lookup_said a)) (sym c.in-Found.is ∙ c.lookup.ensures)
+returns-in-Ok c = ap (λ a. found_as (lookup_said a)) (sym c.in-Ok.is ∙ c.lookup.ensures)
 
-pub returns-in-Refused : goal.returns-in-Refused
+pub returns-in-Err : goal.returns-in-Err
 unfolding lookup_says
-returns-in-Refused c = ap (λ a. found_as (lookup_said a)) (sym c.in-Refused.is ∙ c.lookup.ensures)
+returns-in-Err c = ap (λ a. found_as (lookup_said a)) (sym c.in-Err.is ∙ c.lookup.ensures)

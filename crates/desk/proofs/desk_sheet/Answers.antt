@@ -5,14 +5,14 @@ use Rattle.sheets.specs.Sheets.{sheet_said}
 use Rattle.desk.specs.Answers.{listed_as, sheet_says}
 use Rattle.desk.proofs.desk_sheet.Goals as goal
 
-pub returns-in-Listed : goal.returns-in-Listed
+pub returns-in-Ok : goal.returns-in-Ok
 unfolding sheet_says sheet_said
-returns-in-Listed c =
+returns-in-Ok c =
     let e = c.sheet.ensures in
-    record { answered = ap (λ a. listed_as (sheet_said a)) (sym c.in-Listed.is ∙ e.answered); sheet = e.sheet }
+    record { answered = ap (λ a. listed_as (sheet_said a)) (sym c.in-Ok.is ∙ e.answered); sheet = e.sheet }
 
-pub returns-in-Refused : goal.returns-in-Refused
+pub returns-in-Err : goal.returns-in-Err
 unfolding sheet_says sheet_said
-returns-in-Refused c =
+returns-in-Err c =
     let e = c.sheet.ensures in
-    record { answered = ap (λ a. listed_as (sheet_said a)) (sym c.in-Refused.is ∙ e.answered); sheet = e.sheet }
+    record { answered = ap (λ a. listed_as (sheet_said a)) (sym c.in-Err.is ∙ e.answered); sheet = e.sheet }

@@ -5,4 +5,4 @@ use Rattle.desk.proofs.desk_tally.Goals as goal
 
 pub returns : goal.returns
 unfolding tally_says
-returns c = let e = c.tally-number.ensures in record { answered = e.answered; counts = e.counts }
+returns c = let e = c.tally.ensures in record { answered = e.answered; counts = e.counts }

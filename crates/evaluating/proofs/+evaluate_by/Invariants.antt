@@ -18,7 +18,7 @@ decreases-evaluate_by l = l.end
 
 abbrev pub invariant-loop-w : goal.invariant-loop-w
 invariant-loop-w l =
-    Going l.text.now l.table.now (λ (c : Tree). verdict l.settles (with_action l.action.now (placed_view l.s.now l.places l.values)) (tree_words l.text.now c)) l.end l.w
+    Going l.row.text.now l.row.table.now (λ (c : Tree). verdict l.settles (with_action l.row.action.now (placed_view l.row.s.now l.row.places.now l.row.values.now)) (tree_words l.row.text.now c)) l.end l.w
 
 abbrev pub decreases-loop-w : goal.decreases-loop-w
 decreases-loop-w l =

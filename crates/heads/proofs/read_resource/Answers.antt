@@ -1,24 +1,22 @@
 -- `heads::read_resource` meets its contract: what follows `is` or `==`, or nothing. Assumes nothing.
 use mathlib.Core.Path.{◌≡◌, refl, sym, ◌∙◌, ap}
 use mathlib.Core.List.{List, [], ◌∷◌}
-use Prim.Native.Nat.{ℕ}
+use Prim.Native.Nat.{ℕ, ◌+◌, ◌-◌}
 use native.Mathlib.Omega.{arith}
 use borrow.Author.Rules.{rules}
-use borrow.Author.Tests.{eq-eqb, ne_eqb, not-true, not-false}
+use borrow.Author.Tests.{eq-eqb, ne_eqb}
 use Rattle.tokens.specs.Kinds as kinds
 use Rattle.tokens.specs.declared.reader.Token.{Token}
 use Rattle.reading.specs.Lexemes.{lexeme, is}
-use Rattle.reading.proofs.Stream.{next_on, next_off}
-use Rattle.grammar.specs.Parser.{no_text, is_text_of, read_resource}
+use Rattle.grammar.specs.Parser.{no_text, is_text_of, read_resource, read_type}
 use Rattle.grammar.proofs.Completeness.{text_of, no_text_of, no_sort_of}
 use Rattle.grammar.specs.Policies.{any, pinned}
-use Rattle.grammar.specs.Rules.{span_of}
+use Rattle.grammar.specs.Rules.{span_of, resource_types}
 use Rattle.table.specs.declared.Entry.{Entry}
 use Rattle.table.specs.Entries.{part_entry}
 use Rattle.table.proofs.Versions.{raised_none}
 use Rattle.parts.specs.Names.{types_of}
-use Rattle.parts.proofs.Standing.{number_small, standing, lowered, past, ready_past, turned_as, turned_for, kind_on, kind_off}
-use Rattle.parts.proofs.Writing.{done_as, done_alike, turned_done, weaker, one_done}
+use Rattle.parts.proofs.SoFar.{so_begins, so_passed, so_other, so_from, so_put, so_ready, so_lies, so_high, so_small, so_same, so_refused, so_done_put}
 use Rattle.heads.proofs.read_resource.Goals as goal
 
 -- the number of a token where a string may stand
@@ -30,88 +28,75 @@ string-number : (s : List ℕ) (t : Token) → t.kind ≡ kinds.string → no_te
 unfolding no_text
 string-number s t e = rw (eq-eqb _ _ e)
 
-pub next_token-next-requires : goal.next_token-next-requires
-next_token-next-requires c = (c.requires.table, c.requires.lies.high)
-
 pub read_type-requires : goal.read_type-requires
+unfolding read_resource
 read_type-requires c =
-    let t = c.args.t in (
-      ready_past t c.requires (λ (z : t.kind ≡ 0). let e = c.if-t-eq-IS.true in omega arith) c.next_token-next.ensures.lies
-          (let l = c.requires.lies.low in omega arith),
-      omega arith,
-    )
+    let old = c.args.reader.now in
+    let some : old.next.kind ≡ 0 → ⊥ = λ (z : old.next.kind ≡ 0). (let k = c.in-208.is in omega arith) in
+    let one = so_passed (is kinds.is_word) _ _ (so_begins old read_resource c.requires.lies) c.pass.ensures some (eq-eqb _ _ c.in-208.is) in
+    (so_ready one c.requires.small (let l = c.requires.lies.low in omega arith), omega arith)
 
-pub returns-then-t-eq-IS : goal.returns-then-t-eq-IS
+pub returns-in-208 : goal.returns-in-208
 unfolding read_resource types_of
-returns-then-t-eq-IS c =
-    let s = c.args.text.now in
-    let t = c.args.t in
-    let some : t.kind ≡ 0 → ⊥ = λ (z : t.kind ≡ 0). (let k = c.if-t-eq-IS.true in omega arith) in
-    let l = (past t c.requires.lies some c.next_token-next.ensures.lies).low in
-    done_as (kind_on s t kinds.is_word _ _ _ (omega arith) c.if-t-eq-IS.true c.requires.lies.high c.next_token-next.ensures.is)
-    (done_alike (λ e p. ap (λ (x : Entry). x ∷ []) (raised_none (part_entry p))) (weaker (omega (arith, l)) c.read_type.ensures))
-
-pub next_token-s-requires : goal.next_token-s-requires
-next_token-s-requires c = (c.requires.table, c.requires.lies.high)
-
-pub turned_away-requires : goal.turned_away-requires
-turned_away-requires c = c.next_token-s.ensures.lies.order
+returns-in-208 c =
+    let old = c.args.reader.now in
+    let some : old.next.kind ≡ 0 → ⊥ = λ (z : old.next.kind ≡ 0). (let k = c.in-208.is in omega arith) in
+    let one = so_passed (is kinds.is_word) _ _ (so_begins old read_resource c.requires.lies) c.pass.ensures some (eq-eqb _ _ c.in-208.is) in
+    so_same (read_type resource_types) one c.read_type.ensures (λ p. sym (ap (λ (x : Entry). x ∷ []) (raised_none (part_entry p)))) (omega arith)
 
 pub returns-then-s-ne-STRING : goal.returns-then-s-ne-STRING
 unfolding read_resource
 returns-then-s-ne-STRING c =
-    let s = c.args.text.now in
-    let t = c.args.t in
-    let n = c.next_token-s.result in
-    turned_done (turned_as (kind_off s t kinds.is_word _ _ c.if-t-eq-IS.false ∙ kind_on s t kinds.equal _ _ _ (omega arith) c.if-t-eq-EQUAL.true c.requires.lies.high c.next_token-s.ensures.is ∙ next_off s n (is_text_of (is kinds.string)) _ _ (no_sort_of (is kinds.string) (lexeme s n) (ne_eqb _ _ c.if-s-ne-STRING.true))) (turned_for s n no_text (sym (other-number s n c.if-s-ne-STRING.true)) c.turned_away.ensures))
+    let old = c.args.reader.now in
+    let some : old.next.kind ≡ 0 → ⊥ = λ (z : old.next.kind ≡ 0). (let k = c.in-61.is in omega arith) in
+    let one = so_passed (is kinds.equal) _ _ (so_other (is kinds.is_word) _ _ (so_begins old read_resource c.requires.lies) (rw c.in-61.is)) c.pass-in-61.ensures some (eq-eqb _ _ c.in-61.is) in
+    let now = c.pass-in-61.new.self in
+    so_refused no_text (so_other (is_text_of (is kinds.string)) _ _ one (no_sort_of (is kinds.string) (lexeme now.text.now now.next) (ne_eqb _ _ c.if-s-ne-STRING.true)))
+    (sym (other-number now.text.now now.next c.if-s-ne-STRING.true))
 
 pub is_text-requires : goal.is_text-requires
-is_text-requires c = lowered (omega arith) c.next_token-s.ensures.lies
-
-pub turned_away-requires-then-not-is_text : goal.turned_away-requires-then-not-is_text
-turned_away-requires-then-not-is_text c = c.next_token-s.ensures.lies.order
+unfolding read_resource
+is_text-requires c =
+    let old = c.args.reader.now in
+    let some : old.next.kind ≡ 0 → ⊥ = λ (z : old.next.kind ≡ 0). (let k = c.in-61.is in omega arith) in
+    let one = so_passed (is kinds.equal) _ _ (so_other (is kinds.is_word) _ _ (so_begins old read_resource c.requires.lies) (rw c.in-61.is)) c.pass-in-61.ensures some (eq-eqb _ _ c.in-61.is) in
+    let now = c.pass-in-61.new.self in
+    so_lies one (omega arith)
 
 pub returns-then-not-is_text : goal.returns-then-not-is_text
 unfolding read_resource
 returns-then-not-is_text c =
-    let s = c.args.text.now in
-    let t = c.args.t in
-    let n = c.next_token-s.result in
-    turned_done (turned_as (kind_off s t kinds.is_word _ _ c.if-t-eq-IS.false ∙ kind_on s t kinds.equal _ _ _ (omega arith) c.if-t-eq-EQUAL.true c.requires.lies.high c.next_token-s.ensures.is ∙ next_off s n (is_text_of (is kinds.string)) _ _ (no_text_of (is kinds.string) (lexeme s n) (sym c.is_text.ensures ∙ c.if-not-is_text.true))) (turned_for s n no_text (sym (string-number s n c.if-s-ne-STRING.false)) c.turned_away-then-not-is_text.ensures))
+    let old = c.args.reader.now in
+    let some : old.next.kind ≡ 0 → ⊥ = λ (z : old.next.kind ≡ 0). (let k = c.in-61.is in omega arith) in
+    let one = so_passed (is kinds.equal) _ _ (so_other (is kinds.is_word) _ _ (so_begins old read_resource c.requires.lies) (rw c.in-61.is)) c.pass-in-61.ensures some (eq-eqb _ _ c.in-61.is) in
+    let now = c.pass-in-61.new.self in
+    so_refused no_text (so_other (is_text_of (is kinds.string)) _ _ one (no_text_of (is kinds.string) (lexeme now.text.now now.next) (sym c.is_text.ensures ∙ c.if-not-is_text.true)))
+    (sym (string-number now.text.now now.next c.if-s-ne-STRING.false))
 
-pub next_token-next-requires-then-t-eq-EQUAL : goal.next_token-next-requires-then-t-eq-EQUAL
-next_token-next-requires-then-t-eq-EQUAL c = (c.requires.table, c.next_token-s.ensures.lies.high)
+pub pass-requires-in-61-2 : goal.pass-requires-in-61-2
+unfolding read_resource
+pass-requires-in-61-2 c =
+    let old = c.args.reader.now in
+    let some : old.next.kind ≡ 0 → ⊥ = λ (z : old.next.kind ≡ 0). (let k = c.in-61.is in omega arith) in
+    let one = so_passed (is kinds.equal) _ _ (so_other (is kinds.is_word) _ _ (so_begins old read_resource c.requires.lies) (rw c.in-61.is)) c.pass-in-61.ensures some (eq-eqb _ _ c.in-61.is) in
+    let now = c.pass-in-61.new.self in
+    so_high one
 
-pub append-ok-requires : goal.append-ok-requires
-append-ok-requires c = omega (arith, number_small c.requires)
-
-pub overflow_add-result : goal.overflow_add-result
-overflow_add-result c = omega (arith, number_small c.requires)
-
-pub returns-then-t-eq-EQUAL : goal.returns-then-t-eq-EQUAL
+pub returns-else-not-is_text : goal.returns-else-not-is_text
 unfolding read_resource part_entry
-returns-then-t-eq-EQUAL c =
-    let s = c.args.text.now in
-    let t = c.args.t in
-    let n = c.next_token-s.result in
-    let some : t.kind ≡ 0 → ⊥ = λ (z : t.kind ≡ 0). (let k = c.if-t-eq-EQUAL.true in omega arith) in
-    let some' : n.kind ≡ 0 → ⊥ = λ (z : n.kind ≡ 0). (let k = c.if-s-ne-STRING.false in omega arith) in
-    let a = past t c.requires.lies some c.next_token-s.ensures.lies in
-    let b = past n a some' c.next_token-next-then-t-eq-EQUAL.ensures.lies in
-    let a_low = a.low in
-    one_done (pinned (span_of (lexeme s n))) refl (kind_off s t kinds.is_word _ _ c.if-t-eq-IS.false ∙ kind_on s t kinds.equal _ _ _ (omega arith) c.if-t-eq-EQUAL.true c.requires.lies.high c.next_token-s.ensures.is ∙ next_on s n (is_text_of (is kinds.string)) _ _ _ some' c.next_token-s.ensures.lies.high c.next_token-next-then-t-eq-EQUAL.ensures.is (text_of (is kinds.string) (lexeme s n) (eq-eqb _ _ c.if-s-ne-STRING.false) (sym c.is_text.ensures ∙ c.if-not-is_text.false)))
-    (lowered (omega (arith, a_low)) b) c.append-ok.ensures
+returns-else-not-is_text c =
+    let old = c.args.reader.now in
+    let some : old.next.kind ≡ 0 → ⊥ = λ (z : old.next.kind ≡ 0). (let k = c.in-61.is in omega arith) in
+    let one = so_passed (is kinds.equal) _ _ (so_other (is kinds.is_word) _ _ (so_begins old read_resource c.requires.lies) (rw c.in-61.is)) c.pass-in-61.ensures some (eq-eqb _ _ c.in-61.is) in
+    let now = c.pass-in-61.new.self in
+    let some' : now.next.kind ≡ 0 → ⊥ = λ (z : now.next.kind ≡ 0). (let k = c.if-s-ne-STRING.false in omega arith) in
+    let two = so_passed (is_text_of (is kinds.string)) _ _ one c.pass-in-61-2.ensures some' (text_of (is kinds.string) (lexeme now.text.now now.next) (eq-eqb _ _ c.if-s-ne-STRING.false) (sym c.is_text.ensures ∙ c.if-not-is_text.false)) in
+    so_done_put [] _ (pinned (span_of (lexeme old.text.now now.next))) (so_put two c.put.ensures) refl (omega arith)
 
-pub append-ok-requires-2 : goal.append-ok-requires-2
-append-ok-requires-2 c = omega (arith, number_small c.requires)
-
-pub overflow_add-result-2 : goal.overflow_add-result-2
-overflow_add-result-2 c = omega (arith, number_small c.requires)
-
-pub returns : goal.returns
+pub returns-in_default : goal.returns-in_default
 unfolding read_resource part_entry
-returns c =
-    let s = c.args.text.now in
-    let t = c.args.t in
+returns-in_default c =
+    let old = c.args.reader.now in
     let l = c.requires.lies.low in
-    one_done any refl (kind_off s t kinds.is_word _ _ c.if-t-eq-IS.false ∙ kind_off s t kinds.equal _ _ c.if-t-eq-EQUAL.false) (standing t (omega (arith, l)) c.requires.lies) c.append-ok-2.ensures
+    let so = so_other (is kinds.equal) _ _ (so_other (is kinds.is_word) _ _ (so_begins old read_resource c.requires.lies) (ne_eqb _ _ (λ e. omega arith))) (ne_eqb _ _ (λ e. omega arith)) in
+    so_done_put [] _ any (so_put (so_from (old.next.start - 1 + 1) (omega arith) so) c.put-in_default.ensures) refl (omega arith)

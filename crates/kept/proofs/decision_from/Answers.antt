@@ -31,6 +31,9 @@ use Rattle.kept.proofs.decision_from.Goals as goal
 pub overflow_sub-mark : goal.overflow_sub-mark
 overflow_sub-mark c = and_le_l _ _
 
+pub invariant_of-row : goal.invariant_of-row
+invariant_of-row c = record { stands = ∣ stands_placed c.requires.places_of _ c.requires.row_stands ∣₁ }
+
 pub loop-left-init : goal.loop-left-init
 loop-left-init c =
     let underway = c.requires.underway in (
@@ -123,7 +126,6 @@ met-satisfied-requires c =
     record {
       i_lt_most_policies = (few, pre.chosen_there.small c.wide-column.result (omega (arith, c.wide-column.ensures, own-small)), c.loop-left.invariant.0);
       last_ending = ends.last;
-      row_at = stands_placed pre.places_of _ pre.row_stands;
     }
 
 pub bit_at-bit-requires : goal.bit_at-bit-requires

@@ -10,21 +10,20 @@ use Rattle.kept.proofs.Noting.{clear_none, clear_here, clear_other, clear_all, n
 use Rattle.kept.proofs.forget.Goals as goal
 
 pub loop-c-init : goal.loop-c-init
-loop-c-init c = (c.requires.notes_len, omega arith, λ j. clear_none c.args.at j _)
+loop-c-init c = (c.requires.notes_len, λ j. clear_none c.args.at j _)
 
 pub loop-c-preserved : goal.loop-c-preserved
 loop-c-preserved c = (
   simp length-set c.loop-c.invariant.0,
-  omega arith,
   λ j.
       set_cases c.loop-c.notes (c.args.at + c.loop-c.c) 0 0 (omega arith)
       (λ x. x ≡ cond (leb c.args.at j && ltb j (c.args.at + (c.loop-c.c + 1))) 0 (get_or c.args.notes.now j 0)) j
-      (clear_here c.args.at j _ c.loop-c.c) (λ d. c.loop-c.invariant.2 j ∙ clear_other c.args.at j _ c.loop-c.c d),
+      (clear_here c.args.at j _ c.loop-c.c) (λ d. c.loop-c.invariant.1 j ∙ clear_other c.args.at j _ c.loop-c.c d),
 )
 
 pub returns-after-loop-c : goal.returns-after-loop-c
 returns-after-loop-c c = record {
-  by_index = (λ j. c.loop-c.invariant.2 j ∙ clear_all c.args.at j _ _ c.loop-c.c c.if-stale.true (omega arith));
+  by_index = (λ j. c.loop-c.invariant.1 j ∙ clear_all c.args.at j _ _ c.loop-c.c c.if-stale.true (omega arith));
   notes_len_2 = c.loop-c.invariant.0;
 }
 

@@ -10,7 +10,4 @@ use Rattle.kept.proofs.Noting.{clear_none, clear_here, clear_other, clear_all, n
 use Rattle.kept.proofs.forget.Given as goal
 
 abbrev pub invariant-loop-c : goal.invariant-loop-c
-invariant-loop-c l = (length l.notes ≡ 512) × (l.c ≤ 8) × ((j : ℕ) → get_or l.notes j 0 ≡ cond (leb l.at j && ltb j (l.at + l.c)) 0 (get_or l.initial.notes j 0))
-
-abbrev pub decreases-loop-c : goal.decreases-loop-c
-decreases-loop-c l = 8 - l.c
+invariant-loop-c l = (length l.notes ≡ 512) × ((j : ℕ) → get_or l.notes j 0 ≡ cond (leb l.at j && ltb j (l.at + l.c)) 0 (get_or l.initial.notes j 0))

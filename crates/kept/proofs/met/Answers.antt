@@ -14,15 +14,12 @@ returns-then-said-ne0 c =
     }
 
 pub satisfied_where-hit-requires : goal.satisfied_where-hit-requires
-satisfied_where-hit-requires c = record {
-  last = last_read c.args.text.now c.args.table.now c.end_of-end.ensures c.entry_at-x.ensures c.requires.last_ending;
-  row_at = c.requires.row_at;
-}
+satisfied_where-hit-requires c = last_read c.args.row.now.text.now c.args.row.now.table.now c.end_of-end.ensures c.entry_at-x.ensures c.requires.last_ending
 
 pub returns : goal.returns
 returns c =
     let forget = c.forget in
-    let read = policy_read c.args.table.now c.end_of-end.ensures c.entry_at-x.ensures in
+    let read = policy_read c.args.row.now.table.now c.end_of-end.ensures c.entry_at-x.ensures in
     record {
       by_index = (λ sat here old.
           rw c.note_of.ensures

@@ -1,74 +1,95 @@
--- `leaves::read_call` meets its contract: two marks, and then what the list's reader says, between the attribute's entry and the call's. Assumes nothing.
-use mathlib.Core.List.{[], ◌∷◌}
-use mathlib.Core.Path.{◌≡◌, ◌∙◌}
-use Prim.Native.Nat.{◌+◌, ◌-◌}
+-- `leaves::read_call` meets its contract: two marks, what the list's reader says, between the attribute's entry and the call's, and a third mark. Assumes nothing.
+use mathlib.Core.Path.{◌≡◌, ◌∙◌, sym, ap, refl}
+use mathlib.Core.List.{[], ◌∷◌, ◌++◌}
+use Prim.Native.Nat.{ℕ, ◌+◌, ◌-◌}
 use native.Mathlib.Omega.{arith}
+use borrow.Author.Tests.{eq-eqb, ne_eqb}
+use Rattle.std.proofs.lemmas.Result.{err_from_is_err_and}
 use Rattle.tokens.specs.Kinds as kinds
-use Rattle.reading.specs.Reader.{mapped, before}
+use Rattle.reading.specs.Reader.{Reader, took, need, before, mapped, bind}
 use Rattle.grammar.specs.Parser.{read_list, read_call}
-use Rattle.grammar.specs.Policies.{contains}
-use Rattle.table.specs.Entries.{entry, operand_entry, tree_entries}
-use Rattle.parts.specs.Names.{sort_of}
-use Rattle.parts.proofs.Literals.{list_count}
-use Rattle.parts.proofs.Standing.{number_small, ready_past, turned_as, need_on, need_off}
-use Rattle.parts.proofs.Writing.{closed_next}
-use Rattle.parts.proofs.Writing.{done_as, turned_done, kept_one, closing, expected_done, free_small, counts}
+use Rattle.grammar.specs.Policies.{Tree, Which, Root, Span, contains}
+use Rattle.grammar.specs.Rules.{is_literal}
+use Rattle.table.specs.Entries.{entry, literal_entries, operand_entry, tree_entries}
+use Rattle.parts.proofs.Standing.{number_small, lowered}
+use Rattle.parts.proofs.SoFar.{so_begins, so_as, so_from, so_put, so_before, so_stood, so_stopped, so_closed, so_read, so_lost, as_stood}
+use Rattle.leaves.proofs.Handed.{ready_on, ready_put, next_lies, mapped_bind}
 use Rattle.leaves.proofs.read_call.Goals as goal
 
-pub turned_away-requires : goal.turned_away-requires
-turned_away-requires c = c.requires.lies.order
+-- what is read after each mark
+abbrev in_brackets : Which → Root → Span → Reader Tree
+in_brackets w root p = before kinds.right_round (mapped (contains w root p) (read_list is_literal))
 
-pub returns-then-t-ne40 : goal.returns-then-t-ne40
+abbrev in_round : Which → Root → Span → Reader Tree
+in_round w root p = need kinds.left_square (in_brackets w root p)
+
+pub expect-requires : goal.expect-requires
+expect-requires c = lowered (omega arith) c.requires.lies
+
+pub returns-in_err-expect : goal.returns-in_err-expect
 unfolding read_call
-returns-then-t-ne40 c = λ w k root p e. turned_done (need_off _ _ kinds.left_round _ c.if-t-ne40.true c.turned_away.ensures)
+returns-in_err-expect c =
+    λ w k root q e.
+    let r = c.args.reader.now in
+    let p = err_from_is_err_and c.from_residual.result c.from_residual.ensures.1 in
+    rw (p.1, p.2) (so_stopped kinds.left_round (in_round w root q) (so_begins r (read_call w root q) c.requires.lies) c.expect.ensures c.in_err-expect.was)
 
-pub next_token-square-requires : goal.next_token-square-requires
-next_token-square-requires c = (c.requires.table, c.requires.lies.high)
+pub expect-requires-2 : goal.expect-requires-2
+expect-requires-2 c =
+    let r = c.args.reader.now in
+    let s = as_stood c.in_ok-expect.was c.expect.ensures in
+    (ready_on {low = 0} s.1 c.requires (λ (z : r.next.kind ≡ 0). omega (arith, s.0)) (omega arith)).lies
 
-pub turned_away-requires-then-square-ne91 : goal.turned_away-requires-then-square-ne91
-turned_away-requires-then-square-ne91 c = omega (arith, c.next_token-square.ensures.lies.order, c.requires.lies.order)
-
-pub returns-then-square-ne91 : goal.returns-then-square-ne91
+pub returns-in_err-expect-2 : goal.returns-in_err-expect-2
 unfolding read_call
-returns-then-square-ne91 c = λ w k root p e. turned_done (turned_as (need_on _ _ kinds.left_round _ _ (omega arith) c.if-t-ne40.false c.requires.lies.high c.next_token-square.ensures.is) (need_off _ _ kinds.left_square _ c.if-square-ne91.true c.turned_away-then-square-ne91.ensures))
+returns-in_err-expect-2 c =
+    λ w k root q e.
+    let r = c.args.reader.now in
+    let p = err_from_is_err_and c.from_residual-in_err-expect-2.result c.from_residual-in_err-expect-2.ensures.1 in
+    let so = so_stood kinds.left_round (in_round w root q) (omega arith) (so_begins r (read_call w root q) c.requires.lies) c.expect.ensures c.in_ok-expect.was in
+    rw (p.1, p.2) (so_stopped kinds.left_square (in_brackets w root q) so c.expect-2.ensures c.in_err-expect-2.was)
 
-pub next_token-first-requires : goal.next_token-first-requires
-next_token-first-requires c = (c.requires.table, c.next_token-square.ensures.lies.high)
+pub put_entry-requires : goal.put_entry-requires
+put_entry-requires c =
+    let r = c.args.reader.now in
+    let s = as_stood c.in_ok-expect.was c.expect.ensures in
+    let s₂ = as_stood c.in_ok-expect-2.was c.expect-2.ensures in
+    rw s₂.1 (rw s.1 (omega (arith, number_small c.requires)))
 
-pub append-ok-requires : goal.append-ok-requires
-append-ok-requires c = omega (arith, number_small c.requires)
+pub read_counted-requires : goal.read_counted-requires
+read_counted-requires c =
+    let r = c.args.reader.now in
+    let s = as_stood c.in_ok-expect.was c.expect.ensures in
+    let s₂ = as_stood c.in_ok-expect-2.was c.expect-2.ensures in
+    let f : c.expect-2.new.self.free ≡ r.free = rw s₂.1 (rw s.1 refl) in
+    let a = ready_on {low = r.free + 2} s.1 c.requires (λ (z : r.next.kind ≡ 0). omega (arith, s.0)) (omega (arith, c.requires.lies.low)) in
+    let q = c.expect.new.self.next in
+    let b = ready_on {low = r.free + 3} s₂.1 a (λ (z : q.kind ≡ 0). omega (arith, s₂.0)) (omega (arith, a.lies.low)) in
+    ready_put c.put_entry.ensures b (omega (arith, c.put_entry.ensures.free, f))
 
-pub overflow_add-number : goal.overflow_add-number
-overflow_add-number c = omega (arith, number_small c.requires)
+pub returns-in_err-read_counted : goal.returns-in_err-read_counted
+unfolding read_call
+returns-in_err-read_counted c =
+    λ w k root q e.
+    let r = c.args.reader.now in
+    let p = err_from_is_err_and c.from_residual-in_err-read_counted.result c.from_residual-in_err-read_counted.ensures.1 in
+    let so = so_stood kinds.left_round (in_round w root q) (omega arith) (so_begins r (read_call w root q) c.requires.lies) c.expect.ensures c.in_ok-expect.was in
+    let so₂ = so_put (so_stood kinds.left_square (in_brackets w root q) (omega arith) so c.expect-2.ensures c.in_ok-expect-2.was) c.put_entry.ensures in
+    let so₃ = so_as (λ i. bind (read_list is_literal i) (λ ls. need kinds.right_round (took (contains w root q ls)))) (mapped_bind (contains w root q) (read_list is_literal) (λ v. need kinds.right_round (took v)))
+    (so_before kinds.right_round (mapped (contains w root q) (read_list is_literal)) so₂) in
+    rw (p.1, p.2) (so_lost (read_list is_literal) (λ ls. need kinds.right_round (took (contains w root q ls))) so₃ c.read_counted.ensures c.in_err-read_counted.was)
 
-pub read_list-list-requires : goal.read_list-list-requires
-read_list-list-requires c =
-    let t = c.args.t in
-    let q = c.next_token-square.result in
-    let r = ready_past {low = c.args.number} t c.requires (λ (z : t.kind ≡ 0). let e = c.if-t-ne40.false in omega arith) c.next_token-square.ensures.lies (let l = c.requires.lies.low in omega arith) in
-    ready_past q r (λ (z : q.kind ≡ 0). let e = c.if-square-ne91.false in omega arith) c.next_token-first.ensures.lies (let l = r.lies.low in omega arith)
-
-pub overflow_add-number-2 : goal.overflow_add-number-2
-overflow_add-number-2 c = omega (arith, number_small c.requires)
-
-pub counted-call-requires : goal.counted-call-requires
-counted-call-requires c =
-    let p = c.requires in
-    (omega (arith, free_small c.read_list-list.ensures.says (let l = p.lies.low in let o = p.lies.order in let a = c.next_token-square.ensures.lies.low in let b = c.next_token-square.ensures.lies.order in let d = c.next_token-first.ensures.lies.low in let t = c.args.t in let some = p.lies.some (λ (z : t.kind ≡ 0). let e = c.if-t-ne40.false in omega arith) in omega (arith, l, a, b, d, some)), p.small), counts c.read_list-list.ensures.says)
-
-pub expected-requires : goal.expected-requires
-expected-requires c = (c.requires.table, closed_next _ c.read_list-list.ensures.says c.counted-call.ensures.0)
+pub expect-requires-3 : goal.expect-requires-3
+expect-requires-3 c = next_lies c.read_counted.ensures c.in_ok-read_counted.was
 
 pub returns : goal.returns
-unfolding read_call before mapped tree_entries operand_entry sort_of
+unfolding read_call tree_entries operand_entry
 returns c =
-    λ w k root p e.
-    let pre = c.requires in
-    let t = c.args.t in
-    let some = pre.lies.some (λ (z : t.kind ≡ 0). let e = c.if-t-ne40.false in omega arith) in
-    let l = pre.lies.low in
-    let a = c.next_token-square.ensures.lies.low in
-    let b = c.next_token-square.ensures.lies.order in
-    let d = c.next_token-first.ensures.lies.low in
-    done_as (need_on _ _ kinds.left_round _ _ (omega arith) c.if-t-ne40.false pre.lies.high c.next_token-square.ensures.is ∙ need_on _ _ kinds.left_square _ _ (omega arith) c.if-square-ne91.false c.next_token-square.ensures.lies.high c.next_token-first.ensures.is)
-    (expected_done kinds.right_round (omega arith) (closing (c.args.left ∷ []) (contains w root p) (kept_one c.args.left c.append-ok.ensures) (λ n. entry c.args.kind (n - (c.args.number + 1)) 0) (λ ls n h. rw (e, k) (list_count (c.args.left ∷ []) ls c.args.kind _ n h)) (omega (arith, l, some, a, b, d)) c.read_list-list.ensures c.counted-call.ensures) c.expected.ensures)
+    λ w k root q e.
+    let r = c.args.reader.now in
+    let so = so_stood kinds.left_round (in_round w root q) (omega arith) (so_begins r (read_call w root q) c.requires.lies) c.expect.ensures c.in_ok-expect.was in
+    let so₂ = so_put (so_stood kinds.left_square (in_brackets w root q) (omega arith) so c.expect-2.ensures c.in_ok-expect-2.was) c.put_entry.ensures in
+    let so₃ = so_as (λ i. bind (read_list is_literal i) (λ ls. need kinds.right_round (took (contains w root q ls)))) (mapped_bind (contains w root q) (read_list is_literal) (λ v. need kinds.right_round (took v)))
+    (so_before kinds.right_round (mapped (contains w root q) (read_list is_literal)) so₂) in
+    let l = so_read (read_list is_literal) (λ ls. need kinds.right_round (took (contains w root q ls))) so₃ c.read_counted.ensures {base' = r.next.start} c.in_ok-read_counted.was (omega arith) in
+    so_closed kinds.right_round (contains w root q l.value) (omega arith) l.so c.expect-3.ensures (rw (e, k) refl) (omega arith)

@@ -12,6 +12,3 @@ use Rattle.lock_pieces.proofs.put.Given as goal
 
 abbrev pub invariant-loop-i : goal.invariant-loop-i
 invariant-loop-i l = (l.room ≡ paste l.initial.room l.at l.bytes l.i) × (l.i ≤ length l.bytes) × (length l.room ≡ length l.initial.room)
-
-abbrev pub decreases-loop-i : goal.decreases-loop-i
-decreases-loop-i l = length l.bytes - l.i

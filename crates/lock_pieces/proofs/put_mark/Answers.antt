@@ -1,38 +1,39 @@
 -- `lock_pieces::put_mark` meets its contract: a case for each comparator. Assumes nothing.
 use Rattle.locks.specs.Reading.{comparator_for}
 use Rattle.permits.specs.Permits.{sign_of}
-use borrow.Author.Tests.{eq-eqb, ne_eqb}
+use native.Mathlib.Omega.{arith}
+use borrow.Author.Tests.{ne_eqb}
 use borrow.Author.Rules.{rules}
 use Rattle.lock_pieces.proofs.put_mark.Goals as goal
 
 pub put-requires : goal.put-requires
 unfolding comparator_for sign_of
-put-requires c = rw (eq-eqb _ _ c.if-mark-eq62.true) at c.requires
+put-requires c = rw c.in-62.is at c.requires
 
-pub returns-then-mark-eq62 : goal.returns-then-mark-eq62
+pub returns-in-62 : goal.returns-in-62
 unfolding comparator_for sign_of
-returns-then-mark-eq62 c = rw (eq-eqb _ _ c.if-mark-eq62.true) c.put.ensures
+returns-in-62 c = rw c.in-62.is c.put.ensures
 
-pub put-requires-then-mark-eq60 : goal.put-requires-then-mark-eq60
+pub put-requires-in-60 : goal.put-requires-in-60
 unfolding comparator_for sign_of
-put-requires-then-mark-eq60 c = rw (ne_eqb _ _ c.if-mark-eq62.false, eq-eqb _ _ c.if-mark-eq60.true) at c.requires
+put-requires-in-60 c = rw c.in-60.is at c.requires
 
-pub returns-then-mark-eq60 : goal.returns-then-mark-eq60
+pub returns-in-60 : goal.returns-in-60
 unfolding comparator_for sign_of
-returns-then-mark-eq60 c = rw (ne_eqb _ _ c.if-mark-eq62.false, eq-eqb _ _ c.if-mark-eq60.true) c.put-then-mark-eq60.ensures
+returns-in-60 c = rw c.in-60.is c.put-in-60.ensures
 
-pub put-requires-then-mark-eq-AT_LEAST : goal.put-requires-then-mark-eq-AT_LEAST
+pub put-requires-in-190 : goal.put-requires-in-190
 unfolding comparator_for sign_of
-put-requires-then-mark-eq-AT_LEAST c = rw (ne_eqb _ _ c.if-mark-eq62.false, ne_eqb _ _ c.if-mark-eq60.false, eq-eqb _ _ c.if-mark-eq-AT_LEAST.true) at c.requires
+put-requires-in-190 c = rw c.in-190.is at c.requires
 
-pub returns-then-mark-eq-AT_LEAST : goal.returns-then-mark-eq-AT_LEAST
+pub returns-in-190 : goal.returns-in-190
 unfolding comparator_for sign_of
-returns-then-mark-eq-AT_LEAST c = rw (ne_eqb _ _ c.if-mark-eq62.false, ne_eqb _ _ c.if-mark-eq60.false, eq-eqb _ _ c.if-mark-eq-AT_LEAST.true) c.put-then-mark-eq-AT_LEAST.ensures
+returns-in-190 c = rw c.in-190.is c.put-in-190.ensures
 
-pub put-requires-2 : goal.put-requires-2
+pub put-requires-in_default : goal.put-requires-in_default
 unfolding comparator_for sign_of
-put-requires-2 c = rw (ne_eqb _ _ c.if-mark-eq62.false, ne_eqb _ _ c.if-mark-eq60.false, ne_eqb _ _ c.if-mark-eq-AT_LEAST.false) at c.requires
+put-requires-in_default c = rw (ne_eqb c.args.mark 62 (omega arith), ne_eqb c.args.mark 60 (omega arith), ne_eqb c.args.mark 190 (omega arith)) at c.requires
 
-pub returns : goal.returns
+pub returns-in_default : goal.returns-in_default
 unfolding comparator_for sign_of
-returns c = rw (ne_eqb _ _ c.if-mark-eq62.false, ne_eqb _ _ c.if-mark-eq60.false, ne_eqb _ _ c.if-mark-eq-AT_LEAST.false) c.put-2.ensures
+returns-in_default c = rw (ne_eqb c.args.mark 62 (omega arith), ne_eqb c.args.mark 60 (omega arith), ne_eqb c.args.mark 190 (omega arith)) c.put-in_default.ensures

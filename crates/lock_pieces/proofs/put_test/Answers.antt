@@ -12,46 +12,46 @@ use borrow.Author.Rules.{rules}
 use Rattle.lock_pieces.proofs.put_test.Goals as goal
 
 pub put_attribute-left-requires : goal.put_attribute-left-requires
-put_attribute-left-requires c = omega (arith, simp length-append at (ap length (text_equal _ c.args.mark c.args.path.now c.args.value.now c.if-sort-eq-EQUALITY.true)))
+put_attribute-left-requires c = omega (arith, simp length-append at (ap length (text_equal _ c.args.mark c.args.path.now c.args.value.now c.in-1.is)))
 
 pub put-between-requires : goal.put-between-requires
-put-between-requires c = omega (arith, simp length-append at (ap length (text_equal _ c.args.mark c.args.path.now c.args.value.now c.if-sort-eq-EQUALITY.true)))
+put-between-requires c = omega (arith, simp length-append at (ap length (text_equal _ c.args.mark c.args.path.now c.args.value.now c.in-1.is)))
 
 pub put_quoted-requires : goal.put_quoted-requires
-put_quoted-requires c = omega (arith, simp length-append at (ap length (text_equal _ c.args.mark c.args.path.now c.args.value.now c.if-sort-eq-EQUALITY.true)), length-append c.args.value.now (34 ∷ []))
+put_quoted-requires c = omega (arith, simp length-append at (ap length (text_equal _ c.args.mark c.args.path.now c.args.value.now c.in-1.is)), length-append c.args.value.now (34 ∷ []))
 
-pub returns-then-sort-eq-EQUALITY : goal.returns-then-sort-eq-EQUALITY
-returns-then-sort-eq-EQUALITY c =
-    let e = text_equal _ c.args.mark c.args.path.now c.args.value.now c.if-sort-eq-EQUALITY.true in
+pub returns-in-1 : goal.returns-in-1
+returns-in-1 c =
+    let e = text_equal _ c.args.mark c.args.path.now c.args.value.now c.in-1.is in
     let k = length-append c.args.value.now (34 ∷ []) in
     rw e (put_both c.put_attribute-left.ensures (put_both c.put-between.ensures c.put_quoted.ensures (room_left _ c.put_attribute-left.ensures (rw e at c.requires))) (rw e at c.requires))
 
 pub put_quoted-left-requires : goal.put_quoted-left-requires
-put_quoted-left-requires c = omega (arith, simp length-append at (ap length (text_member _ c.args.mark c.args.path.now c.args.value.now c.if-sort-eq-EQUALITY.false c.if-sort-eq-MEMBERSHIP.true)), length-append c.args.value.now (34 ∷ []))
+put_quoted-left-requires c = omega (arith, simp length-append at (ap length (text_member _ c.args.mark c.args.path.now c.args.value.now (omega arith) c.in-2.is)), length-append c.args.value.now (34 ∷ []))
 
-pub put-between-requires-then-sort-eq-MEMBERSHIP : goal.put-between-requires-then-sort-eq-MEMBERSHIP
-put-between-requires-then-sort-eq-MEMBERSHIP c = omega (arith, simp length-append at (ap length (text_member _ c.args.mark c.args.path.now c.args.value.now c.if-sort-eq-EQUALITY.false c.if-sort-eq-MEMBERSHIP.true)), length-append c.args.value.now (34 ∷ []))
+pub put-between-requires-in-2 : goal.put-between-requires-in-2
+put-between-requires-in-2 c = omega (arith, simp length-append at (ap length (text_member _ c.args.mark c.args.path.now c.args.value.now (omega arith) c.in-2.is)), length-append c.args.value.now (34 ∷ []))
 
 pub put_attribute-requires : goal.put_attribute-requires
-put_attribute-requires c = omega (arith, simp length-append at (ap length (text_member _ c.args.mark c.args.path.now c.args.value.now c.if-sort-eq-EQUALITY.false c.if-sort-eq-MEMBERSHIP.true)), length-append c.args.value.now (34 ∷ []))
+put_attribute-requires c = omega (arith, simp length-append at (ap length (text_member _ c.args.mark c.args.path.now c.args.value.now (omega arith) c.in-2.is)), length-append c.args.value.now (34 ∷ []))
 
-pub returns-then-sort-eq-MEMBERSHIP : goal.returns-then-sort-eq-MEMBERSHIP
-returns-then-sort-eq-MEMBERSHIP c =
-    let e = text_member _ c.args.mark c.args.path.now c.args.value.now c.if-sort-eq-EQUALITY.false c.if-sort-eq-MEMBERSHIP.true in
+pub returns-in-2 : goal.returns-in-2
+returns-in-2 c =
+    let e = text_member _ c.args.mark c.args.path.now c.args.value.now (omega arith) c.in-2.is in
     let k = length-append c.args.value.now (34 ∷ []) in
-    rw e (put_both c.put_quoted-left.ensures (put_both c.put-between-then-sort-eq-MEMBERSHIP.ensures c.put_attribute.ensures (room_left _ c.put_quoted-left.ensures (rw e at c.requires))) (rw e at c.requires))
+    rw e (put_both c.put_quoted-left.ensures (put_both c.put-between-in-2.ensures c.put_attribute.ensures (room_left _ c.put_quoted-left.ensures (rw e at c.requires))) (rw e at c.requires))
 
-pub put_attribute-left-requires-2 : goal.put_attribute-left-requires-2
-put_attribute-left-requires-2 c = omega (arith, simp length-append at (ap length (text_order _ c.args.mark c.args.path.now c.args.value.now c.if-sort-eq-EQUALITY.false c.if-sort-eq-MEMBERSHIP.false)))
+pub put_attribute-left-requires-in_default : goal.put_attribute-left-requires-in_default
+put_attribute-left-requires-in_default c = omega (arith, simp length-append at (ap length (text_order c.args.sort c.args.mark c.args.path.now c.args.value.now (omega arith) (omega arith))))
 
 pub put_mark-between-requires : goal.put_mark-between-requires
-put_mark-between-requires c = omega (arith, simp length-append at (ap length (text_order _ c.args.mark c.args.path.now c.args.value.now c.if-sort-eq-EQUALITY.false c.if-sort-eq-MEMBERSHIP.false)), length-append (sign_of (comparator_for c.args.mark)) (32 ∷ []))
+put_mark-between-requires c = omega (arith, simp length-append at (ap length (text_order c.args.sort c.args.mark c.args.path.now c.args.value.now (omega arith) (omega arith))), length-append (sign_of (comparator_for c.args.mark)) (32 ∷ []))
 
 pub put-requires : goal.put-requires
-put-requires c = omega (arith, simp length-append at (ap length (text_order _ c.args.mark c.args.path.now c.args.value.now c.if-sort-eq-EQUALITY.false c.if-sort-eq-MEMBERSHIP.false)), length-append (sign_of (comparator_for c.args.mark)) (32 ∷ []))
+put-requires c = omega (arith, simp length-append at (ap length (text_order c.args.sort c.args.mark c.args.path.now c.args.value.now (omega arith) (omega arith))), length-append (sign_of (comparator_for c.args.mark)) (32 ∷ []))
 
-pub returns : goal.returns
-returns c =
-    let e = text_order _ c.args.mark c.args.path.now c.args.value.now c.if-sort-eq-EQUALITY.false c.if-sort-eq-MEMBERSHIP.false in
+pub returns-in_default : goal.returns-in_default
+returns-in_default c =
+    let e = text_order c.args.sort c.args.mark c.args.path.now c.args.value.now (omega arith) (omega arith) in
     let k = length-append (sign_of (comparator_for c.args.mark)) (32 ∷ []) in
-    rw e (put_both c.put_attribute-left-2.ensures (put_both c.put_mark-between.ensures c.put.ensures (room_left _ c.put_attribute-left-2.ensures (rw e at c.requires))) (rw e at c.requires))
+    rw e (put_both c.put_attribute-left-in_default.ensures (put_both c.put_mark-between.ensures c.put.ensures (room_left _ c.put_attribute-left-in_default.ensures (rw e at c.requires))) (rw e at c.requires))

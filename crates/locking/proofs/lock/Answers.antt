@@ -6,16 +6,15 @@ use borrow.Author.Rules.{rules}
 use Rattle.locking.proofs.lock.Goals as goal
 
 pub returns-then-room-size : goal.returns-then-room-size
-returns-then-room-size c = no_room _ _ _ _ c.in-Of.size (sym c.permit_size.ensures ∙ c.in-Of.is) _ c.if-room-size.true
+returns-then-room-size c = no_room _ _ _ _ c.in-Some.size (sym c.permit_size.ensures ∙ c.in-Some.is) _ c.if-room-size.true
 
 pub put_permit-requires : goal.put_permit-requires
 put_permit-requires c = record {
-  classes_value = search rules;
-  writable = ready _ _ _ _ c.in-Of.size (sym c.permit_size.ensures ∙ c.in-Of.is) _ (omega arith);
+  writable = ready _ _ _ _ c.in-Some.size (sym c.permit_size.ensures ∙ c.in-Some.is) _ (omega arith);
 }
 
-pub returns-in-Bad : goal.returns-in-Bad
-returns-in-Bad c = no_lock _ _ _ _ _ (sym c.permit_size.ensures ∙ c.in-Bad.is)
+pub returns-in-None : goal.returns-in-None
+returns-in-None c = no_lock _ _ _ _ _ (sym c.permit_size.ensures ∙ c.in-None.is)
 
 pub returns-else-room-size : goal.returns-else-room-size
-returns-else-room-size c = written _ _ _ _ c.in-Of.size (sym c.permit_size.ensures ∙ c.in-Of.is) _ _ _ (omega arith) c.put_permit.ensures
+returns-else-room-size c = written _ _ _ _ c.in-Some.size (sym c.permit_size.ensures ∙ c.in-Some.is) _ _ _ (omega arith) c.put_permit.ensures

@@ -10,12 +10,10 @@ use Rattle.permits.specs.Permits.{quoted}
 use Rattle.slices.specs.Parts.{part}
 use mathlib.Core.Bool.{true}
 use mathlib.Core.Path.{◌≡◌}
+use Prim.Native.Nat.{◌-◌}
 use Rattle.locking.proofs.put_actions.Given as goal
 
-abbrev pub invariant-loop-next : goal.invariant-loop-next
-invariant-loop-next l =
-    (are_some (things_from l.left (action_step l.actions) l.next) ≡ true)
-    × Rest l.initial.room l.at (actions_text l.actions) l.room l.end (text_of between_actions quoted (things_from l.left (action_step l.actions) l.next))
-
-abbrev pub decreases-loop-next : goal.decreases-loop-next
-decreases-loop-next l = l.left
+abbrev pub invariant-loop : goal.invariant-loop
+invariant-loop l =
+    (are_some (things_from (16 - l.counter) (action_step l.actions) l.next) ≡ true)
+    × Rest l.initial.room l.at (actions_text l.actions) l.room l.end (text_of between_actions quoted (things_from (16 - l.counter) (action_step l.actions) l.next))

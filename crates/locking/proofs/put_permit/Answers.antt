@@ -13,7 +13,7 @@ put-a-requires c = omega (arith, framed_long (actions_text c.args.actions.now) c
 
 pub put_actions-b-requires : goal.put_actions-b-requires
 put_actions-b-requires c = record {
-  classes_value = (search rules, c.requires.writable.actions);
+  actions_value = c.requires.writable.actions;
   actions_in_bounds = omega (arith, framed_long (actions_text c.args.actions.now) c.args.resource.now (tests_text c.args.vocabulary.now c.args.lock.now), c.requires.writable.fits);
 }
 
@@ -28,7 +28,7 @@ put-e-requires c = omega (arith, framed_long (actions_text c.args.actions.now) c
 
 pub put_tests-f-requires : goal.put_tests-f-requires
 put_tests-f-requires c = record {
-  classes_value = (search rules, c.requires.writable.tests);
+  tests_value = c.requires.writable.tests;
   lock_in_bounds = omega (arith, framed_long (actions_text c.args.actions.now) c.args.resource.now (tests_text c.args.vocabulary.now c.args.lock.now), c.requires.writable.fits, length-append c.args.resource.now (34 ∷ []));
 }
 

@@ -10,37 +10,36 @@ use Rattle.slices.specs.Parts.{part}
 use lib.ListN.{length}
 use mathlib.Core.Bool.{true}
 use mathlib.Core.Path.{◌≡◌}
-use Prim.Native.Nat.{◌≤◌}
+use Prim.Native.Nat.{◌≤◌, ◌-◌, ◌+◌}
 use Rattle.locking.proofs.put_tests.Goals as goal
 
-pub loop-t-init : goal.loop-t-init
-loop-t-init c = (c.requires.classes_value.1, omega arith, rest_start _ _ _)
+pub loop-init : goal.loop-init
+loop-init c = (c.requires.tests_value, omega arith, rest_start _ _ _)
 
 pub put_test-end-requires : goal.put_test-end-requires
 unfolding test_in part
-put_test-end-requires c = omega (arith, tests_first _ _ _ _ _ c.test_at-t.ensures c.loop-t.invariant.0, c.loop-t.invariant.2.stop, c.loop-t.invariant.2.long)
+put_test-end-requires c = omega (arith, tests_first _ _ (16 - c.loop.counter) _ _ c.test_at-t.ensures c.loop.invariant.0, c.loop.invariant.2.stop, c.loop.invariant.2.long)
 
 pub returns-then-t-lock : goal.returns-then-t-lock
 unfolding test_in part
-returns-then-t-lock c = rest_last c.loop-t.invariant.2 (tests_end _ _ _ _ _ c.test_at-t.ensures c.loop-t.invariant.0 c.if-t-lock.true) c.put_test-end.ensures
+returns-then-t-lock c = rest_last c.loop.invariant.2 (tests_end _ _ (16 - c.loop.counter) _ _ c.test_at-t.ensures c.loop.invariant.0 c.if-t-lock.true) c.put_test-end.ensures
 
 pub overflow_add-next : goal.overflow_add-next
 overflow_add-next c = omega (arith, c.test_at-t.ensures.lies.next_high, c.well_formed.1.1.0.0)
 
 pub put-end-requires : goal.put-end-requires
 unfolding test_in part
-put-end-requires c = rest_room c.loop-t.invariant.2 between_tests _ (tests_more _ _ _ _ _ c.test_at-t.ensures c.loop-t.invariant.0 c.if-t-lock.false) c.put_test-end.ensures c.requires.lock_in_bounds
+put-end-requires c = rest_room c.loop.invariant.2 between_tests _ (tests_more _ _ (16 - c.loop.counter) _ _ c.test_at-t.ensures c.loop.invariant.0 c.if-t-lock.false) c.put_test-end.ensures c.requires.lock_in_bounds
 
-pub overflow_sub-left : goal.overflow_sub-left
-overflow_sub-left c = omega (arith, some_left _ _ _ c.loop-t.invariant.0)
-
-pub loop-t-smaller : goal.loop-t-smaller
-loop-t-smaller c = omega (arith, some_left _ _ _ c.loop-t.invariant.0)
-
-pub loop-t-preserved : goal.loop-t-preserved
+pub loop-preserved : goal.loop-preserved
 unfolding test_in part
-loop-t-preserved c = (
-  tests_left _ _ _ _ _ c.test_at-t.ensures c.loop-t.invariant.0 c.if-t-lock.false,
-  omega (arith, c.test_at-t.ensures.lies.next_high),
-  rest_on c.loop-t.invariant.2 (tests_more _ _ _ _ _ c.test_at-t.ensures c.loop-t.invariant.0 c.if-t-lock.false) c.put_test-end.ensures c.put-end.ensures c.requires.lock_in_bounds,
-)
+loop-preserved c =
+    let m : 16 - (c.loop.counter + 1) ≡ 16 - c.loop.counter - 1 = omega arith in
+    rw m (
+      tests_left _ _ (16 - c.loop.counter) _ _ c.test_at-t.ensures c.loop.invariant.0 c.if-t-lock.false,
+      omega (arith, c.test_at-t.ensures.lies.next_high),
+      rest_on c.loop.invariant.2 (tests_more _ _ (16 - c.loop.counter) _ _ c.test_at-t.ensures c.loop.invariant.0 c.if-t-lock.false) c.put_test-end.ensures c.put-end.ensures c.requires.lock_in_bounds,
+    )
+
+pub returns : goal.returns
+returns c = absurd (omega (arith, some_left _ (16 - c.loop.counter) _ c.loop.invariant.0))

@@ -10,14 +10,11 @@ use Rattle.slices.specs.Parts.{part}
 use lib.ListN.{length}
 use mathlib.Core.Bool.{true}
 use mathlib.Core.Path.{◌≡◌}
-use Prim.Native.Nat.{◌≤◌}
+use Prim.Native.Nat.{◌≤◌, ◌-◌}
 use Rattle.locking.proofs.put_tests.Given as goal
 
-abbrev pub invariant-loop-t : goal.invariant-loop-t
-invariant-loop-t l =
-    (are_some (things_from l.left (test_step l.vocabulary l.lock) l.next) ≡ true)
+abbrev pub invariant-loop : goal.invariant-loop
+invariant-loop l =
+    (are_some (things_from (16 - l.counter) (test_step l.vocabulary l.lock) l.next) ≡ true)
     × (l.next ≤ length l.lock)
-    × Rest l.initial.room l.at (tests_text l.vocabulary l.lock) l.room l.end (text_of between_tests test_text (things_from l.left (test_step l.vocabulary l.lock) l.next))
-
-abbrev pub decreases-loop-t : goal.decreases-loop-t
-decreases-loop-t l = l.left
+    × Rest l.initial.room l.at (tests_text l.vocabulary l.lock) l.room l.end (text_of between_tests test_text (things_from (16 - l.counter) (test_step l.vocabulary l.lock) l.next))

@@ -8,5 +8,5 @@ use Rattle.lookups.proofs.string_part.Goals as goal
 
 pub returns : goal.returns
 returns c =
-    let is = sym c.string_place-p.ensures.is in
+    let is = sym c.string_place-start.ensures.is in
     part_is _ _ _ _ _ _ (ap (λ (p : Stretch). p.start) is) (ap (λ (p : Stretch). p.length) is ∙ sym (add-sub_cancel_left _ _)) refl refl

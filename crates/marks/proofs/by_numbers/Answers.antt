@@ -10,5 +10,5 @@ returns-then-forbid-gt0 c = sym (by_forbid _ _ c.if-forbid-gt0.true)
 pub returns-then-permit-gt0 : goal.returns-then-permit-gt0
 returns-then-permit-gt0 c = sym (by_permit _ _ (omega arith) c.if-permit-gt0.true)
 
-pub returns : goal.returns
-returns c = sym (by_none _ _ (omega arith) (omega arith))
+pub returns-else-permit-gt0 : goal.returns-else-permit-gt0
+returns-else-permit-gt0 c = sym (by_none _ _ (omega arith) (omega arith))

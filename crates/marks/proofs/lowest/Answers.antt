@@ -13,5 +13,5 @@ overflow_cast-result c = omega (arith, trailing_le 64 c.args.mark)
 pub overflow_add-result : goal.overflow_add-result
 overflow_add-result c = omega (arith, trailing_le 64 c.args.mark)
 
-pub returns : goal.returns
-returns c = lowest_there c.args.mark c.if-mark-eq0.false
+pub returns-else-mark-eq0 : goal.returns-else-mark-eq0
+returns-else-mark-eq0 c = lowest_there c.args.mark c.if-mark-eq0.false

@@ -12,7 +12,6 @@ pub flat_of-requires : goal.flat_of-requires
 flat_of-requires c = record {
   node = rw c.entry_in-x.ensures c.requires.node;
   kind_le_contains_any_kind = rw c.entry_in-x.ensures c.requires.end_bound;
-  row_at = c.requires.row_at;
 }
 
 pub returns : goal.returns

@@ -15,10 +15,7 @@ pub overflow_sub-root : goal.overflow_sub-root
 overflow_sub-root c = omega (arith, c.requires.node.low)
 
 pub has_attribute-requires : goal.has_attribute-requires
-has_attribute-requires c = record {
-  path_placed = has_placed c.requires.node c.if-kind-le-HAS_ACTION.true;
-  row_at = c.requires.row_at;
-}
+has_attribute-requires c = has_placed c.requires.node c.if-kind-le-HAS_ACTION.true
 
 pub returns-then-kind-le-HAS_ACTION : goal.returns-then-kind-le-HAS_ACTION
 returns-then-kind-le-HAS_ACTION c = flat_has _ _ _ _ _ _ c.if-kind-le-HAS_ACTION.true (c.told_of.ensures ∙ ap told (c.has_attribute.ensures _))
@@ -48,7 +45,6 @@ contains_literals-requires c =
       path_placed = p;
       each = q;
       count_bound = omega (arith, c.requires.node.room.contains c.if-kind-ge-CONTAINS_ALL.true c.requires.kind_le_contains_any_kind, c.requires.node.here);
-      row_at = c.requires.row_at;
     }
 
 pub returns-then-kind-ge-CONTAINS_ALL : goal.returns-then-kind-ge-CONTAINS_ALL
@@ -64,17 +60,13 @@ pub entry_in-a-requires-2 : goal.entry_in-a-requires-2
 entry_in-a-requires-2 c = omega (arith, left_low _ _ c.requires.node.room c.if-kind-le-FALSE.false (below c.if-kind-ge-CONTAINS_ALL.false), c.left_at.ensures, c.requires.node.here)
 
 pub operand_value-v-requires : goal.operand_value-v-requires
-operand_value-v-requires c = record {
-  operand_placed = left_placed c.requires.node _ c.if-kind-le-FALSE.false (below c.if-kind-ge-CONTAINS_ALL.false) (c.entry_in-a-2.ensures ∙ ap (entry_at c.args.table.now.now) c.left_at.ensures);
-  row_at = c.requires.row_at;
-}
+operand_value-v-requires c = left_placed c.requires.node _ c.if-kind-le-FALSE.false (below c.if-kind-ge-CONTAINS_ALL.false) (c.entry_in-a-2.ensures ∙ ap (entry_at c.args.row.now.table.now) c.left_at.ensures)
 
 pub left_verdict-requires : goal.left_verdict-requires
 left_verdict-requires c = record {
   node = c.requires.node;
   false_kind_lt_kind = (c.if-kind-le-FALSE.false, below c.if-kind-ge-CONTAINS_ALL.false);
-  a_value = c.entry_in-a-2.ensures ∙ ap (entry_at c.args.table.now.now) c.left_at.ensures;
-  row_at = c.requires.row_at;
+  a_value = c.entry_in-a-2.ensures ∙ ap (entry_at c.args.row.now.table.now) c.left_at.ensures;
   v_value = c.operand_value-v.ensures;
 }
 

@@ -5,5 +5,5 @@ use Rattle.operators.proofs.told_of.Goals as goal
 pub returns-then-b : goal.returns-then-b
 returns-then-b c = told_yes _ c.if-b.true
 
-pub returns : goal.returns
-returns c = told_no _ c.if-b.false
+pub returns-else-b : goal.returns-else-b
+returns-else-b c = told_no _ c.if-b.false

@@ -1,8 +1,6 @@
 -- `patterns::admits_character` meets its contract. Assumes nothing.
 use Rattle.patterns.proofs.Texts.{ascii_at, others_admit, admits_firsts, same_firsts}
 use Rattle.slices.proofs.Decided.{yes_to, no_to, refuted, carried}
-use borrow.Author.Tests.{not-true, not-false}
-use borrow.Author.Rules.{rules}
 use Rattle.patterns.proofs.admits_character.Goals as goal
 
 pub returns-then-not-admits : goal.returns-then-not-admits

@@ -3,7 +3,6 @@ use Rattle.patterns.proofs.Texts.{step, some_width}
 use Rattle.utf8.proofs.Places.{by_first}
 use mathlib.Core.Path.{◌∙◌}
 use native.Mathlib.Omega.{arith}
-use borrow.Author.Rules.{rules}
 use Rattle.patterns.proofs.character_end.Goals as goal
 
 pub known_size-n-requires : goal.known_size-n-requires

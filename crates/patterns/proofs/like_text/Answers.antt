@@ -1,20 +1,17 @@
 -- `patterns::like_text` meets its contract. The invariant: the pattern matches the string exactly when what is left of it matches what is left of the string. Assumes nothing.
 use Rattle.patterns.proofs.Trials.{star_step, star_at, text_end, text_past, text_here, text_on}
 use Rattle.patterns.proofs.Texts.{by_bytes, ascii_admits, ascii_step}
-use Rattle.patterns.specs.Like.{star, Admits, Matches}
+use Rattle.patterns.specs.Like.{star, Admits}
 use Rattle.patterns.specs.Steps.{Stepped}
 use Rattle.utf8.proofs.Counting.{ascii_byte, ascii_rest}
-use Rattle.utf8.specs.Reading.{point, points}
-use Rattle.utf8.specs.Characters.{Utf8}
+use Rattle.utf8.specs.Reading.{point}
 use Rattle.slices.proofs.Decided.{no_to, refuted, carried}
 use Rattle.slices.proofs.Parts.{tail_lent}
 use lib.ListN.{length, get_or, drop}
-use borrow.Author.Tests.{not-true, not-false}
-use Prim.Native.Nat.{ℕ, ◌-◌, ◌<◌, ◌≤◌}
+use Prim.Native.Nat.{ℕ, ◌<◌}
 use mathlib.Core.Path.{◌≡◌}
 use mathlib.Core.List.{List}
 use mathlib.Core.Logic.Iff
-use mathlib.Core.Logic.{◌↔◌}
 use native.Mathlib.Omega.{arith}
 use Rattle.patterns.proofs.like_text.Invariants.{Met}
 use Rattle.patterns.proofs.like_text.Goals as goal

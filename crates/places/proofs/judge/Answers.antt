@@ -3,8 +3,6 @@ use mathlib.Core.Path.{◌≡◌, refl, sym, ◌∙◌, ap}
 use mathlib.Core.Bool.{Bool}
 use mathlib.Core.List.{List}
 use Prim.Native.Nat.{ℕ}
-use borrow.Author.Rules.{rules}
-use lib.Seq.{length-take-le}
 use Rattle.slices.specs.Decides.{Decides}
 use Rattle.slices.proofs.Decided.{one_answer}
 use Rattle.utf8.specs.Characters.{Utf8}
@@ -17,11 +15,8 @@ use Rattle.places.proofs.judge.Goals as goal
 tested : (rest part : List ℕ) (r : Bool) → part ≡ up_to_quote rest → Decides (Utf8 part) r → utf8 (up_to_quote rest) ≡ r
 tested rest part r e d = ap utf8 (sym e) ∙ one_answer (utf8 part) r (utf8_decides part) d
 
-pub slice_bounds-is_utf8-end : goal.slice_bounds-is_utf8-end
-slice_bounds-is_utf8-end c = sym (length-take-le _ _ c.quote_in-end.ensures.there)
-
 pub returns-then-is_utf8 : goal.returns-then-is_utf8
-returns-then-is_utf8 c = rw (tested _ _ _ c.quote_in-end.ensures.is c.is_utf8.ensures ∙ c.if-is_utf8.true) refl
+returns-then-is_utf8 c = rw (tested _ _ _ c.quote_in.ensures.is c.is_utf8.ensures ∙ c.if-is_utf8.true) refl
 
-pub returns : goal.returns
-returns c = rw (tested _ _ _ c.quote_in-end.ensures.is c.is_utf8.ensures ∙ c.if-is_utf8.false) refl
+pub returns-else-is_utf8 : goal.returns-else-is_utf8
+returns-else-is_utf8 c = rw (tested _ _ _ c.quote_in.ensures.is c.is_utf8.ensures ∙ c.if-is_utf8.false) refl

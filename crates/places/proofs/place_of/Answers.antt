@@ -1,15 +1,12 @@
 -- `places::place_of` meets its contract: from `i` on, the walk comes to the place. Assumes nothing.
-use mathlib.Core.Path.{◌≡◌, sym, ◌∙◌}
-use Prim.Native.Nat.{◌+◌, ◌-◌, ◌≤◌}
+use mathlib.Core.Path.{sym, ◌∙◌}
 use borrow.Author.Rules.{rules}
-use lib.ListN.{drop}
 use Rattle.slices.proofs.Parts.{tail_lent}
-use Rattle.places.specs.Places.{past_all, place_of}
 use Rattle.places.proofs.PlaceLaws.{from_the_first, walked_on, no_further}
 use Rattle.places.proofs.place_of.Goals as goal
 
 pub loop-i-init : goal.loop-i-init
-loop-i-init c = (from_the_first _ _ _ _, search rules, search rules, search rules)
+loop-i-init c = (from_the_first _ _ _ _, search rules, search rules)
 
 pub loop-i-preserved : goal.loop-i-preserved
 loop-i-preserved c =
@@ -17,7 +14,6 @@ loop-i-preserved c =
     let k = c.loop-i.k in
     let p = c.loop-i.p in (
       walked_on args.text.now args.at c.loop-i.i k _ p _ _ (search rules) (search rules) (simp tail_lent at c.behind_byte-k.ensures) c.past_byte-p.ensures.is c.loop-i.invariant.0,
-      search rules,
       search rules,
       search rules,
     )

@@ -1,41 +1,67 @@
 -- `policies::read_first` meets its contract: two tokens that must stand there, the part, and its comma. Assumes nothing.
-use Rattle.policies.proofs.Gates.{gate, gate_first, opened, gate_done, gated}
-use Rattle.conditions.proofs.Earlier.{ready_at}
-use Rattle.parts.proofs.Writing.{turned_done, as_read, as_refused, next_lies, expected_done, told_as}
-use Rattle.parts.proofs.Standing.{standing, turned_as, turned_bind}
-use Rattle.grammar.specs.Parser.{read_principal as principal_spec}
-use Rattle.reading.specs.Reader.{before, need}
-use Rattle.tokens.specs.Kinds as kinds
-use mathlib.Core.List.{[]}
+use mathlib.Core.Path.{◌≡◌, refl}
+use Prim.Native.Nat.{◌+◌}
 use native.Mathlib.Omega.{arith}
-use mathlib.Core.Path.{◌∙◌}
 use borrow.Author.Rules.{rules}
+use Rattle.tokens.specs.Kinds as kinds
+use Rattle.reading.specs.Reader.{took, need, before}
+use Rattle.grammar.specs.Parser.{read_principal as read_principal_spec}
+use Rattle.parts.proofs.SoFar.{gives_back, so_begins, so_stood, so_stopped, so_before, so_read, so_lost, so_lies, so_ready, so_closed}
 use Rattle.policies.proofs.read_first.Goals as goal
 
-pub expected-word-requires : goal.expected-word-requires
-expected-word-requires c =
-    let p = c.requires in
-    (p.table, next_lies (opened {seen = []} {T = []} 40 (omega arith) p.lies c.expected-round.ensures).says)
+pub expect-requires : goal.expect-requires
+expect-requires c = let l = c.requires.lies in record { low = omega arith; order = l.order; high = l.high; some = l.some }
 
-pub returns-in_default : goal.returns-in_default
-returns-in_default c =
-    let e = c.in_default.is in
-    let d = gate_done 204 (omega arith) (opened {seen = []} {T = []} 40 (omega arith) c.requires.lies c.expected-round.ensures) c.expected-word.ensures in
-    told_as e (turned_done (turned_as (gate_first 40 (need kinds.principal_word (before kinds.comma principal_spec)) _ ∙ gate 204 (before kinds.comma principal_spec) _) (turned_bind _ (as_refused e d.says))))
+pub returns-in_err-expect : goal.returns-in_err-expect
+returns-in_err-expect c =
+    let old = c.args.reader.now in
+    let begun = so_begins old (need kinds.left_round (need kinds.principal_word (before kinds.comma read_principal_spec))) c.requires.lies in
+    rw (gives_back c.from_residual.result c.from_residual.ensures.1) (so_stopped kinds.left_round _ begun c.expect.ensures c.in_err-expect.was)
 
-pub read_principal-part-requires : goal.read_principal-part-requires
-read_principal-part-requires c =
-    let p = c.requires in
-    let d = gate_done 204 (omega arith) (opened {seen = []} {T = []} 40 (omega arith) p.lies c.expected-round.ensures) c.expected-word.ensures in
-    let k = as_read c.in-Read.is d.says in
-    ready_at p (standing _ (omega (arith, k.counted.free_is, k.lies.low, p.lies.low)) k.lies)
+pub expect-requires-2 : goal.expect-requires-2
+expect-requires-2 c =
+    let old = c.args.reader.now in
+    let begun = so_begins old (need kinds.left_round (need kinds.principal_word (before kinds.comma read_principal_spec))) c.requires.lies in
+    let one = so_stood kinds.left_round (need kinds.principal_word (before kinds.comma read_principal_spec)) (omega arith) begun c.expect.ensures c.in_ok-expect.was in
+    so_lies one (omega arith)
 
-pub expected-requires : goal.expected-requires
-expected-requires c = (c.requires.table, next_lies c.read_principal-part.ensures.says)
+pub returns-in_err-expect-2 : goal.returns-in_err-expect-2
+returns-in_err-expect-2 c =
+    let old = c.args.reader.now in
+    let begun = so_begins old (need kinds.left_round (need kinds.principal_word (before kinds.comma read_principal_spec))) c.requires.lies in
+    let one = so_stood kinds.left_round (need kinds.principal_word (before kinds.comma read_principal_spec)) (omega arith) begun c.expect.ensures c.in_ok-expect.was in
+    rw (gives_back c.from_residual-in_err-expect-2.result c.from_residual-in_err-expect-2.ensures.1) (so_stopped kinds.principal_word _ one c.expect-2.ensures c.in_err-expect-2.was)
+
+pub read_principal-requires : goal.read_principal-requires
+read_principal-requires c =
+    let old = c.args.reader.now in
+    let begun = so_begins old (need kinds.left_round (need kinds.principal_word (before kinds.comma read_principal_spec))) c.requires.lies in
+    let one = so_stood kinds.left_round (need kinds.principal_word (before kinds.comma read_principal_spec)) (omega arith) begun c.expect.ensures c.in_ok-expect.was in
+    let two = so_before kinds.comma read_principal_spec (so_stood kinds.principal_word (before kinds.comma read_principal_spec) (omega arith) one c.expect-2.ensures c.in_ok-expect-2.was) in
+    so_ready two c.requires.small (let l = c.requires.lies.low in omega arith)
+
+pub returns-in_err-read_principal : goal.returns-in_err-read_principal
+returns-in_err-read_principal c =
+    let old = c.args.reader.now in
+    let begun = so_begins old (need kinds.left_round (need kinds.principal_word (before kinds.comma read_principal_spec))) c.requires.lies in
+    let one = so_stood kinds.left_round (need kinds.principal_word (before kinds.comma read_principal_spec)) (omega arith) begun c.expect.ensures c.in_ok-expect.was in
+    let two = so_before kinds.comma read_principal_spec (so_stood kinds.principal_word (before kinds.comma read_principal_spec) (omega arith) one c.expect-2.ensures c.in_ok-expect-2.was) in
+    rw (gives_back c.from_residual-in_err-read_principal.result c.from_residual-in_err-read_principal.ensures.1) (so_lost read_principal_spec (λ v. need kinds.comma (took v)) two c.read_principal.ensures c.in_err-read_principal.was)
+
+pub expect-requires-3 : goal.expect-requires-3
+expect-requires-3 c =
+    let old = c.args.reader.now in
+    let begun = so_begins old (need kinds.left_round (need kinds.principal_word (before kinds.comma read_principal_spec))) c.requires.lies in
+    let one = so_stood kinds.left_round (need kinds.principal_word (before kinds.comma read_principal_spec)) (omega arith) begun c.expect.ensures c.in_ok-expect.was in
+    let two = so_before kinds.comma read_principal_spec (so_stood kinds.principal_word (before kinds.comma read_principal_spec) (omega arith) one c.expect-2.ensures c.in_ok-expect-2.was) in
+    let w = so_read read_principal_spec (λ v. need kinds.comma (took v)) two c.read_principal.ensures {base' = old.next.start + 1} c.in_ok-read_principal.was (omega arith) in
+    so_lies w.so (omega arith)
 
 pub returns : goal.returns
-unfolding before
 returns c =
-    let d = gate_done 204 (omega arith) (opened {seen = c.args.seen.now} {T = []} 40 (omega arith) c.requires.lies c.expected-round.ensures) c.expected-word.ensures in
-    let k = as_read c.in-Read.is d.says in
-    gated (before kinds.comma principal_spec) k (gate_first 40 (need kinds.principal_word (before kinds.comma principal_spec)) _ ∙ gate 204 (before kinds.comma principal_spec) _) (omega (arith, k.lies.low)) (expected_done 44 (omega arith) c.read_principal-part.ensures c.expected.ensures)
+    let old = c.args.reader.now in
+    let begun = so_begins old (need kinds.left_round (need kinds.principal_word (before kinds.comma read_principal_spec))) c.requires.lies in
+    let one = so_stood kinds.left_round (need kinds.principal_word (before kinds.comma read_principal_spec)) (omega arith) begun c.expect.ensures c.in_ok-expect.was in
+    let two = so_before kinds.comma read_principal_spec (so_stood kinds.principal_word (before kinds.comma read_principal_spec) (omega arith) one c.expect-2.ensures c.in_ok-expect-2.was) in
+    let w = so_read read_principal_spec (λ v. need kinds.comma (took v)) two c.read_principal.ensures {base' = old.next.start + 1} c.in_ok-read_principal.was (omega arith) in
+    so_closed kinds.comma w.value (omega arith) w.so c.expect-3.ensures refl (omega arith)

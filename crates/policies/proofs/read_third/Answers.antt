@@ -1,33 +1,48 @@
--- `policies::read_third` meets its contract: a token that must stand there, the part, and its bracket. Assumes nothing.
-use Rattle.policies.proofs.Gates.{gate_first, opened, gated}
-use Rattle.conditions.proofs.Earlier.{ready_at}
-use Rattle.parts.proofs.Writing.{turned_done, as_read, as_refused, next_lies, expected_done, told_as}
-use Rattle.parts.proofs.Standing.{standing, turned_as, turned_bind}
-use Rattle.grammar.specs.Parser.{read_resource as resource_spec}
-use Rattle.reading.specs.Reader.{before}
-use Rattle.tokens.specs.Kinds as kinds
-use mathlib.Core.List.{[]}
+-- `policies::read_third` meets its contract: a token that must stand there, the part, and the token after it. Assumes nothing.
+use mathlib.Core.Path.{◌≡◌, refl}
 use native.Mathlib.Omega.{arith}
 use borrow.Author.Rules.{rules}
+use Rattle.tokens.specs.Kinds as kinds
+use Rattle.reading.specs.Reader.{took, need, before}
+use Rattle.grammar.specs.Parser.{read_resource as read_resource_spec}
+use Rattle.parts.proofs.SoFar.{gives_back, so_begins, so_stood, so_stopped, so_before, so_read, so_lost, so_lies, so_ready, so_closed}
 use Rattle.policies.proofs.read_third.Goals as goal
 
-pub returns-in_default : goal.returns-in_default
-returns-in_default c =
-    let e = c.in_default.is in
-    let d = opened {seen = []} {T = []} 205 (omega arith) c.requires.lies c.expected-word.ensures in
-    told_as e (turned_done (turned_as (gate_first 205 (before kinds.right_round resource_spec) _) (turned_bind _ (as_refused e d.says))))
+pub expect-requires : goal.expect-requires
+expect-requires c = let l = c.requires.lies in record { low = omega arith; order = l.order; high = l.high; some = l.some }
 
-pub read_resource-part-requires : goal.read_resource-part-requires
-read_resource-part-requires c =
-    let p = c.requires in
-    let k = as_read c.in-Read.is (opened {seen = []} {T = []} 205 (omega arith) p.lies c.expected-word.ensures).says in
-    ready_at p (standing _ (omega (arith, k.counted.free_is, k.lies.low, p.lies.low)) k.lies)
+pub returns-in_err-expect : goal.returns-in_err-expect
+returns-in_err-expect c =
+    let old = c.args.reader.now in
+    let begun = so_begins old (need kinds.resource_word (before kinds.right_round read_resource_spec)) c.requires.lies in
+    rw (gives_back c.from_residual.result c.from_residual.ensures.1) (so_stopped kinds.resource_word _ begun c.expect.ensures c.in_err-expect.was)
 
-pub expected-requires : goal.expected-requires
-expected-requires c = (c.requires.table, next_lies c.read_resource-part.ensures.says)
+pub read_resource-requires : goal.read_resource-requires
+read_resource-requires c =
+    let old = c.args.reader.now in
+    let begun = so_begins old (need kinds.resource_word (before kinds.right_round read_resource_spec)) c.requires.lies in
+    let one = so_before kinds.right_round read_resource_spec (so_stood kinds.resource_word (before kinds.right_round read_resource_spec) (omega arith) begun c.expect.ensures c.in_ok-expect.was) in
+    so_ready one c.requires.small (let l = c.requires.lies.low in omega arith)
+
+pub returns-in_err-read_resource : goal.returns-in_err-read_resource
+returns-in_err-read_resource c =
+    let old = c.args.reader.now in
+    let begun = so_begins old (need kinds.resource_word (before kinds.right_round read_resource_spec)) c.requires.lies in
+    let one = so_before kinds.right_round read_resource_spec (so_stood kinds.resource_word (before kinds.right_round read_resource_spec) (omega arith) begun c.expect.ensures c.in_ok-expect.was) in
+    rw (gives_back c.from_residual-in_err-read_resource.result c.from_residual-in_err-read_resource.ensures.1) (so_lost read_resource_spec (λ v. need kinds.right_round (took v)) one c.read_resource.ensures c.in_err-read_resource.was)
+
+pub expect-requires-2 : goal.expect-requires-2
+expect-requires-2 c =
+    let old = c.args.reader.now in
+    let begun = so_begins old (need kinds.resource_word (before kinds.right_round read_resource_spec)) c.requires.lies in
+    let one = so_before kinds.right_round read_resource_spec (so_stood kinds.resource_word (before kinds.right_round read_resource_spec) (omega arith) begun c.expect.ensures c.in_ok-expect.was) in
+    let w = so_read read_resource_spec (λ v. need kinds.right_round (took v)) one c.read_resource.ensures {base' = old.next.start} c.in_ok-read_resource.was (omega arith) in
+    so_lies w.so (omega arith)
 
 pub returns : goal.returns
-unfolding before
 returns c =
-    let k = as_read c.in-Read.is (opened {seen = c.args.seen.now} {T = []} 205 (omega arith) c.requires.lies c.expected-word.ensures).says in
-    gated (before kinds.right_round resource_spec) k (gate_first 205 (before kinds.right_round resource_spec) _) (omega (arith, k.lies.low)) (expected_done 41 (omega arith) c.read_resource-part.ensures c.expected.ensures)
+    let old = c.args.reader.now in
+    let begun = so_begins old (need kinds.resource_word (before kinds.right_round read_resource_spec)) c.requires.lies in
+    let one = so_before kinds.right_round read_resource_spec (so_stood kinds.resource_word (before kinds.right_round read_resource_spec) (omega arith) begun c.expect.ensures c.in_ok-expect.was) in
+    let w = so_read read_resource_spec (λ v. need kinds.right_round (took v)) one c.read_resource.ensures {base' = old.next.start} c.in_ok-read_resource.was (omega arith) in
+    so_closed kinds.right_round w.value (omega arith) w.so c.expect-2.ensures refl (omega arith)

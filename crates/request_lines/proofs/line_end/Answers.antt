@@ -1,21 +1,12 @@
--- `request_lines::line_end` meets its contract: the end of the line from `i` on is the end of the line from `at` on. Assumes nothing.
-use mathlib.Core.Path.{◌≡◌, refl, sym, ◌∙◌}
-use Prim.Native.Nat.{◌-◌, ◌≤◌}
-use lib.ListN.{length}
-use borrow.Author.Tests.{eq-eqb, ne_eqb}
-use borrow.Author.Rules.{rules}
-use Rattle.request_lines.specs.Lines.{line_end}
-use Rattle.request_lines.proofs.LineLaws.{goes_on, stops, ends}
+use Rattle.std.proofs.Common.{◌≡◌, ◌-◌, cond, length, take, drop, eqb, ltb, Some, None, rules, tests}
+use Rattle.std.proofs.lemmas.Iterator.{YieldsList-from_slice}
+use Rattle.std.proofs.lemmas.Iterator.Search.{position_from_yields_List}
+use Rattle.request_lines.proofs.LineLaws.{feed_place, ends_from}
 use Rattle.request_lines.proofs.line_end.Goals as goal
 
-pub loop-i-init : goal.loop-i-init
-loop-i-init c = (refl, search rules, search rules)
-
-pub returns-then-s-i-eq10 : goal.returns-then-s-i-eq10
-returns-then-s-i-eq10 c = record { place = sym (stops _ _ c.loop-i-test.true (eq-eqb _ _ c.if-s-i-eq10.true)) ∙ c.loop-i.invariant.0; low = search rules; high = search rules }
-
-pub loop-i-preserved : goal.loop-i-preserved
-loop-i-preserved c = (goes_on _ _ c.loop-i-test.true (ne_eqb _ _ c.if-s-i-eq10.false) ∙ c.loop-i.invariant.0, search rules, search rules)
-
 pub returns : goal.returns
-returns c = record { place = sym (ends _ _ c.loop-i-test.false) ∙ c.loop-i.invariant.0; low = search rules; high = search rules }
+returns c =
+    let rest = take (length c.args.s.now - c.args.at) (drop c.args.at c.args.s.now) in
+    let found : c.position.result ≡ cond (ltb (feed_place rest) (length rest)) (Some (feed_place rest)) None =
+    position_from_yields_List (λ b. eqb b 10) _ _ c.position.result c.position.ensures.ran (YieldsList-from_slice _ c.iter.ensures.rest) (λ x b q k. search (rules, tests)) in
+    rw c.unwrap_or.ensures (ends_from _ _ _ c.requires found)

@@ -1,7 +1,8 @@
+use Rattle.std.proofs.Common.{◌+◌, arith}
 use Rattle.row_lines.proofs.RowLaws.{row_put}
 use Rattle.row_lines.proofs.put_row.Goals as goal
 
 pub returns : goal.returns
 returns c =
-    row_put c.args.page.now c.args.at c.four_at-row.ensures.0 c.wide-outcome.ensures.0 c.wide-policy.ensures.0 c.eight_at-mark.ensures.0
-    c.put_four.ensures.0 c.four_at-row.ensures.1 c.wide-outcome.ensures.1 c.wide-policy.ensures.1 c.eight_at-mark.ensures.1
+    row_put c.args.page.now c.args.at c.four_at-row.ensures c.from-outcome.ensures c.from-policy.ensures c.eight_at-mark.ensures
+    c.put_numbers.ensures.0 (omega arith) (omega (arith, c.type_inv.page (c.args.at + 4))) (omega (arith, c.type_inv.page (c.args.at + 5))) (omega arith)

@@ -1,16 +1,12 @@
-use Rattle.std.proofs.Common.{◌-◌, refl, arith}
-use Rattle.row_lines.proofs.RowLaws.{row_on, rows_done}
+use Rattle.std.proofs.Common.{◌≡◌, arith}
+use Rattle.row_lines.proofs.RowLaws.{no_row, row_on, rows_done}
 use Rattle.row_lines.proofs.put_rows.Goals as goal
 
-pub loop-left-init : goal.loop-left-init
-loop-left-init c = record { rows = omega arith; room = omega arith; put = refl }
+pub loop-n-init : goal.loop-n-init
+loop-n-init c = record { put = no_row _ _; room = omega arith }
 
-pub loop-left-preserved : goal.loop-left-preserved
-loop-left-preserved c = record {
-  rows = omega arith;
-  room = omega arith;
-  put = row_on c.args.page.now c.loop-left.at (c.loop-left.left - 1) c.loop-left.invariant.put (omega arith) c.put_row-filled.ensures.0;
-}
+pub loop-n-preserved : goal.loop-n-preserved
+loop-n-preserved c = record { put = row_on _ _ c.loop-n.invariant.put c.put_row-filled.ensures.0; room = omega arith }
 
 pub returns : goal.returns
-returns c = rows_done _ _ _ c.loop-left.invariant.put c.loop-left-test.false (omega arith)
+returns c = let e : c.loop-n.n ≡ c.args.written = omega arith in rows_done _ _ (rw e at c.loop-n.invariant.put) (omega arith)

@@ -1,14 +1,10 @@
-use Rattle.std.proofs.Common.{◌≡◌, ◌+◌, ◌*◌, ◌≤◌, ◌++◌, length, take, drop}
-use Rattle.pages.specs.Listing.{row_size}
+use Rattle.std.proofs.Common.{◌*◌, ◌≤◌}
+use Rattle.folder.specs.Added.{Added}
 use Rattle.row_lines.specs.RowLines.{row_lines}
 use Rattle.row_lines.proofs.put_rows.Given as goal
 
-abbrev pub invariant-loop-left : goal.invariant-loop-left
-invariant-loop-left l = record {
-  rows : l.at + row_size * l.left ≤ length l.page;
-  room : l.filled + 40 * l.left + 84 ≤ length l.out;
-  put : row_lines l.written l.page ≡ take l.filled l.out ++ row_lines l.left (drop l.at l.page);
+abbrev pub invariant-loop-n : goal.invariant-loop-n
+invariant-loop-n l = record {
+  put : Added l.initial.out 0 (row_lines l.n l.page) l.out l.filled;
+  room : l.filled ≤ 40 * l.n;
 }
-
-abbrev pub decreases-loop-left : goal.decreases-loop-left
-decreases-loop-left l = l.left

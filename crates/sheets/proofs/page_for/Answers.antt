@@ -19,11 +19,10 @@ write_page-requires c = record {
 }
 
 pub returns-then-is_system : goal.returns-then-is_system
-returns-then-is_system c = system_listed _ _ _ _ _ _ _ (sym c.is_system.ensures ∙ c.if-is_system.true) _ c.requires.asked.all_rows c.listed.ensures c.write_page.ensures
+returns-then-is_system c = system_listed _ _ _ _ _ _ _ (sym c.is_system.ensures ∙ c.if-is_system.true) _ c.requires.asked.all_rows c.write_page.ensures
 
 pub page_for_other-requires : goal.page_for_other-requires
 page_for_other-requires c = record {
-  classes_value = c.requires.classes_value;
   asked = c.requires.asked;
   subject_value = sym c.is_system.ensures ∙ c.if-is_system.false;
 }

@@ -20,7 +20,7 @@ returns-then-resource_type-eq0 c =
 
 pub write_page-requires : goal.write_page-requires
 write_page-requires c =
-    let h = sym c.held_policies.ensures ∙ c.in-Right.is in
+    let h = sym c.held_policies.ensures ∙ c.in-Some.is in
     record {
       asked = c.requires.asked;
       rules_for = record {
@@ -35,14 +35,14 @@ write_page-requires c =
       };
     }
 
-pub returns-in-Wrong : goal.returns-in-Wrong
-returns-in-Wrong c =
+pub returns-in-None : goal.returns-in-None
+returns-in-None c =
     refused_20 _ _ _ _ _ _ _ c.requires.subject_value (typed_form _ _ _ c.subject_type-subject_type.ensures c.if-subject_type-eq0.false)
     (sym c.is_action.ensures ∙ c.if-not-is_action.false) (typed_form _ _ _ c.resource_type-resource_type.ensures c.if-resource_type-eq0.false)
-    (sym c.held_policies.ensures ∙ c.in-Wrong.is)
+    (sym c.held_policies.ensures ∙ c.in-None.is)
 
-pub returns-in-Right : goal.returns-in-Right
-returns-in-Right c =
+pub returns-in-Some : goal.returns-in-Some
+returns-in-Some c =
     held_listed _ _ _ _ _ _ _ c.requires.subject_value (typed_form _ _ _ c.subject_type-subject_type.ensures c.if-subject_type-eq0.false)
     (sym c.is_action.ensures ∙ c.if-not-is_action.false) (typed_form _ _ _ c.resource_type-resource_type.ensures c.if-resource_type-eq0.false)
-    (sym c.held_policies.ensures ∙ c.in-Right.is) c.requires.asked.all_rows c.listed.ensures c.write_page.ensures
+    (sym c.held_policies.ensures ∙ c.in-Some.is) c.requires.asked.all_rows c.write_page.ensures

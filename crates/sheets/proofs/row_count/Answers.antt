@@ -7,31 +7,31 @@ use borrow.Author.Rules.{rules}
 use Rattle.sheets.proofs.row_count.Goals as goal
 
 pub bounds-question-end : goal.bounds-question-end
-bounds-question-end c = (question_is_lem _ _ (sym c.question_sections.ensures ∙ c.in-In.is)).counted
+bounds-question-end c = (question_is_lem _ _ (sym c.question_sections.ensures ∙ c.in-Some.is)).counted
 
 pub overflow_cast-n : goal.overflow_cast-n
-overflow_cast-n c = omega (arith, (question_is_lem _ _ (sym c.question_sections.ensures ∙ c.in-In.is)).few)
+overflow_cast-n c = omega (arith, (question_is_lem _ _ (sym c.question_sections.ensures ∙ c.in-Some.is)).few)
 
 pub overflow_add-end : goal.overflow_add-end
-overflow_add-end c = omega (arith, (question_is_lem _ _ (sym c.question_sections.ensures ∙ c.in-In.is)).counted)
+overflow_add-end c = omega (arith, (question_is_lem _ _ (sym c.question_sections.ensures ∙ c.in-Some.is)).counted)
 
 pub rows-requires : goal.rows-requires
 rows-requires c =
-    let q = question_is_lem _ _ (sym c.question_sections.ensures ∙ c.in-In.is) in
+    let q = question_is_lem _ _ (sym c.question_sections.ensures ∙ c.in-Some.is) in
     record {
       n_le_most_columns = q.few;
       by_index = (q.last, q.columns);
     }
 
-pub returns-in-Broken : goal.returns-in-Broken
-returns-in-Broken c = record {
-  is = none_counted _ (sym (no_question _ (sym c.question_sections.ensures ∙ c.in-Broken.is)));
+pub returns-in-None : goal.returns-in-None
+returns-in-None c = record {
+  is = none_counted _ (sym (no_question _ (sym c.question_sections.ensures ∙ c.in-None.is)));
   few = omega arith;
 }
 
-pub returns-in-In : goal.returns-in-In
-returns-in-In c =
-    let d = question_divided _ _ (sym c.question_sections.ensures ∙ c.in-In.is) in
+pub returns-in-Some : goal.returns-in-Some
+returns-in-Some c =
+    let d = question_divided _ _ (sym c.question_sections.ensures ∙ c.in-Some.is) in
     record {
       is = rows_counted _ _ d.0 d.1 c.rows.ensures.is;
       few = c.rows.ensures.few;

@@ -8,6 +8,3 @@ use Rattle.slots.proofs.free_slot.Given as goal
 
 abbrev pub invariant-loop-tries : goal.invariant-loop-tries
 invariant-loop-tries l = (l.tries ≤ 64) × ((j : ℕ) → j < l.tries → slot_at l.places l.base (l.start + j) ≡ 0 → ⊥)
-
-abbrev pub decreases-loop-tries : goal.decreases-loop-tries
-decreases-loop-tries l = 64 - l.tries

@@ -7,8 +7,5 @@ use Prim.Native.Nat.{ℕ, ◌-◌}
 use mathlib.Core.Path.{◌≡◌}
 use Rattle.slots.proofs.is_plain.Given as goal
 
-abbrev pub invariant-loop-i : goal.invariant-loop-i
-invariant-loop-i l = unblanked (drop l.i l.path) ≡ drop l.i l.path → unblanked l.path ≡ l.path
-
-abbrev pub decreases-loop-i : goal.decreases-loop-i
-decreases-loop-i l = length l.path - l.i
+abbrev pub invariant-loop-c : goal.invariant-loop-c
+invariant-loop-c l = unblanked (drop l.c-index l.path) ≡ drop l.c-index l.path → unblanked l.path ≡ l.path

@@ -1,6 +1,6 @@
 -- `slots::place_in` meets its contract. The invariant: no slot passed has the path, so an empty one tells that no entry has it. Assumes nothing.
+use Rattle.std.specs.Prelude.{Some}
 use Rattle.bags.specs.Sections.{kind_at, entry_end}
-use Rattle.bags.specs.declared.After.TheVariants.{At}
 use Rattle.tokens.specs.Blanks.{unblanked}
 use Rattle.lookups.specs.Values.{absent}
 use Rattle.lookups.specs.Lookups.{look_in, base_of}
@@ -17,7 +17,7 @@ use lib.ListN.{length}
 use borrow.Author.Tests.{not-false}
 use native.Mathlib.Omega.{arith}
 use Prim.Native.Nat.{ℕ, ◌+◌, ◌*◌, ◌-◌, ◌<◌, ◌≤◌}
-use mathlib.Core.Path.{◌≡◌, sym, ◌∙◌, ap}
+use mathlib.Core.Path.{◌≡◌, sym, ◌∙◌, ap, refl}
 use Rattle.slots.proofs.place_in.Goals as goal
 
 pub place_through-requires : goal.place_through-requires
@@ -38,8 +38,13 @@ start_slot-start-requires c = record { path_nonzero = ((c.has_slots.ensures c.if
 pub loop-tries-init : goal.loop-tries-init
 loop-tries-init c = (omega arith, λ j h. absurd (omega arith))
 
-pub overflow_add-base : goal.overflow_add-base
-overflow_add-base c =
+pub overflow_add-at : goal.overflow_add-at
+overflow_add-at c =
+    let reach : ((0 < length c.args.path.now) × (length c.args.path.now ≤ 64)) × ((0 < c.args.root) × (c.args.root ≤ 3)) = c.has_slots.ensures c.if-not-has_slots.false in
+    omega (arith, reach)
+
+pub overflow_add-at-in-loop-tries : goal.overflow_add-at-in-loop-tries
+overflow_add-at-in-loop-tries c =
     let reach : ((0 < length c.args.path.now) × (length c.args.path.now ≤ 64)) × ((0 < c.args.root) × (c.args.root ≤ 3)) = c.has_slots.ensures c.if-not-has_slots.false in
     omega (arith, reach)
 
@@ -58,7 +63,7 @@ returns-then-is_plain c =
     let reach : ((0 < length c.args.path.now) × (length c.args.path.now ≤ 64)) × ((0 < c.args.root) × (c.args.root ≤ 3)) = c.has_slots.ensures c.if-not-has_slots.false in
     let the-root : Rooted c.args.s.now c.args.places.now c.args.root = rooted _ _ _ c.requires.sectioned c.requires.indexed reach.1.0 reach.1.1 in
     none_shown _
-    (absent_in _ _ _ the-root c.args.path.now _ _ c.start_slot-start.ensures.is c.loop-tries-test.true (sym c.wide-at.ensures ∙ c.if-at-eq0.true) c.loop-tries.invariant.1 (c.is_plain.ensures c.if-is_plain.true))
+    (absent_in _ _ _ the-root c.args.path.now _ _ c.start_slot-start.ensures.is c.loop-tries-test.true (c.if-at-eq0.true) c.loop-tries.invariant.1 (c.is_plain.ensures c.if-is_plain.true))
 
 pub place_through-requires-then-at-eq0 : goal.place_through-requires-then-at-eq0
 place_through-requires-then-at-eq0 c = c.requires.sectioned
@@ -70,38 +75,38 @@ pub has_path-requires : goal.has_path-requires
 has_path-requires c =
     let reach : ((0 < length c.args.path.now) × (length c.args.path.now ≤ 64)) × ((0 < c.args.root) × (c.args.root ≤ 3)) = c.has_slots.ensures c.if-not-has_slots.false in
     let the-root : Rooted c.args.s.now c.args.places.now c.args.root = rooted _ _ _ c.requires.sectioned c.requires.indexed reach.1.0 reach.1.1 in
-    let ends : (e : ℕ) × (entry_end c.args.s.now c.wide-at.result ≡ At e) = slot_ends _ _ _ the-root c.args.path.now _ _ c.wide-at.ensures c.if-at-eq0.false in
-    let held : Entry c.args.s.now c.wide-at.result ends.0 = entry_at _ _ _ ends.1 in
+    let ends : (e : ℕ) × (entry_end c.args.s.now (slot_at c.args.places.now (64 * (c.args.root - 1)) (c.start_slot-start.result + c.loop-tries.tries)) ≡ Some e) = slot_ends _ _ _ the-root c.args.path.now _ _ refl c.if-at-eq0.false in
+    let held : Entry c.args.s.now (slot_at c.args.places.now (64 * (c.args.root - 1)) (c.start_slot-start.result + c.loop-tries.tries)) ends.0 = entry_at _ _ _ ends.1 in
     held.named
 
-pub overflow_add-kind_at : goal.overflow_add-kind_at
-overflow_add-kind_at c =
+pub overflow_add-result : goal.overflow_add-result
+overflow_add-result c =
     let reach : ((0 < length c.args.path.now) × (length c.args.path.now ≤ 64)) × ((0 < c.args.root) × (c.args.root ≤ 3)) = c.has_slots.ensures c.if-not-has_slots.false in
     let the-root : Rooted c.args.s.now c.args.places.now c.args.root = rooted _ _ _ c.requires.sectioned c.requires.indexed reach.1.0 reach.1.1 in
-    let ends : (e : ℕ) × (entry_end c.args.s.now c.wide-at.result ≡ At e) = slot_ends _ _ _ the-root c.args.path.now _ _ c.wide-at.ensures c.if-at-eq0.false in
-    let held : Entry c.args.s.now c.wide-at.result ends.0 = entry_at _ _ _ ends.1 in
+    let ends : (e : ℕ) × (entry_end c.args.s.now (slot_at c.args.places.now (64 * (c.args.root - 1)) (c.start_slot-start.result + c.loop-tries.tries)) ≡ Some e) = slot_ends _ _ _ the-root c.args.path.now _ _ refl c.if-at-eq0.false in
+    let held : Entry c.args.s.now (slot_at c.args.places.now (64 * (c.args.root - 1)) (c.start_slot-start.result + c.loop-tries.tries)) ends.0 = entry_at _ _ _ ends.1 in
     omega (arith, held.named)
 
-pub overflow_add-kind_at-then-has_path : goal.overflow_add-kind_at-then-has_path
-overflow_add-kind_at-then-has_path c =
+pub overflow_add-result-then-has_path : goal.overflow_add-result-then-has_path
+overflow_add-result-then-has_path c =
     let reach : ((0 < length c.args.path.now) × (length c.args.path.now ≤ 64)) × ((0 < c.args.root) × (c.args.root ≤ 3)) = c.has_slots.ensures c.if-not-has_slots.false in
     let the-root : Rooted c.args.s.now c.args.places.now c.args.root = rooted _ _ _ c.requires.sectioned c.requires.indexed reach.1.0 reach.1.1 in
-    let ends : (e : ℕ) × (entry_end c.args.s.now c.wide-at.result ≡ At e) = slot_ends _ _ _ the-root c.args.path.now _ _ c.wide-at.ensures c.if-at-eq0.false in
-    let held : Entry c.args.s.now c.wide-at.result ends.0 = entry_at _ _ _ ends.1 in
-    let found : (c.wide-at.result + 1 + length c.args.path.now ≡ kind_at c.args.s.now c.wide-at.result)
-    × (value_at c.args.s.now (kind_at c.args.s.now c.wide-at.result)
-    ≡ look_in absent (base_of c.args.s.now (kept_sections c.args.places.now) c.args.root) (unblanked c.args.path.now)) = found_in _ _ _ the-root c.args.path.now _ _ c.wide-at.ensures c.if-at-eq0.false (sym c.has_path.ensures ∙ c.if-has_path.true) in
+    let ends : (e : ℕ) × (entry_end c.args.s.now (slot_at c.args.places.now (64 * (c.args.root - 1)) (c.start_slot-start.result + c.loop-tries.tries)) ≡ Some e) = slot_ends _ _ _ the-root c.args.path.now _ _ refl c.if-at-eq0.false in
+    let held : Entry c.args.s.now (slot_at c.args.places.now (64 * (c.args.root - 1)) (c.start_slot-start.result + c.loop-tries.tries)) ends.0 = entry_at _ _ _ ends.1 in
+    let found : ((slot_at c.args.places.now (64 * (c.args.root - 1)) (c.start_slot-start.result + c.loop-tries.tries)) + 1 + length c.args.path.now ≡ kind_at c.args.s.now (slot_at c.args.places.now (64 * (c.args.root - 1)) (c.start_slot-start.result + c.loop-tries.tries)))
+    × (value_at c.args.s.now (kind_at c.args.s.now (slot_at c.args.places.now (64 * (c.args.root - 1)) (c.start_slot-start.result + c.loop-tries.tries)))
+    ≡ look_in absent (base_of c.args.s.now (kept_sections c.args.places.now) c.args.root) (unblanked c.args.path.now)) = found_in _ _ _ the-root c.args.path.now _ _ refl c.if-at-eq0.false (sym c.has_path.ensures ∙ c.if-has_path.true) in
     let w = found in omega (arith, held.named)
 
 pub returns-then-has_path : goal.returns-then-has_path
 returns-then-has_path c =
     let reach : ((0 < length c.args.path.now) × (length c.args.path.now ≤ 64)) × ((0 < c.args.root) × (c.args.root ≤ 3)) = c.has_slots.ensures c.if-not-has_slots.false in
     let the-root : Rooted c.args.s.now c.args.places.now c.args.root = rooted _ _ _ c.requires.sectioned c.requires.indexed reach.1.0 reach.1.1 in
-    let ends : (e : ℕ) × (entry_end c.args.s.now c.wide-at.result ≡ At e) = slot_ends _ _ _ the-root c.args.path.now _ _ c.wide-at.ensures c.if-at-eq0.false in
-    let valued : Valued c.args.s.now (kind_at c.args.s.now c.wide-at.result) = entry_valued _ _ _ ends.1 in
-    let found : (c.wide-at.result + 1 + length c.args.path.now ≡ kind_at c.args.s.now c.wide-at.result)
-    × (value_at c.args.s.now (kind_at c.args.s.now c.wide-at.result)
-    ≡ look_in absent (base_of c.args.s.now (kept_sections c.args.places.now) c.args.root) (unblanked c.args.path.now)) = found_in _ _ _ the-root c.args.path.now _ _ c.wide-at.ensures c.if-at-eq0.false (sym c.has_path.ensures ∙ c.if-has_path.true) in
+    let ends : (e : ℕ) × (entry_end c.args.s.now (slot_at c.args.places.now (64 * (c.args.root - 1)) (c.start_slot-start.result + c.loop-tries.tries)) ≡ Some e) = slot_ends _ _ _ the-root c.args.path.now _ _ refl c.if-at-eq0.false in
+    let valued : Valued c.args.s.now (kind_at c.args.s.now (slot_at c.args.places.now (64 * (c.args.root - 1)) (c.start_slot-start.result + c.loop-tries.tries))) = entry_valued _ _ _ ends.1 in
+    let found : ((slot_at c.args.places.now (64 * (c.args.root - 1)) (c.start_slot-start.result + c.loop-tries.tries)) + 1 + length c.args.path.now ≡ kind_at c.args.s.now (slot_at c.args.places.now (64 * (c.args.root - 1)) (c.start_slot-start.result + c.loop-tries.tries)))
+    × (value_at c.args.s.now (kind_at c.args.s.now (slot_at c.args.places.now (64 * (c.args.root - 1)) (c.start_slot-start.result + c.loop-tries.tries)))
+    ≡ look_in absent (base_of c.args.s.now (kept_sections c.args.places.now) c.args.root) (unblanked c.args.path.now)) = found_in _ _ _ the-root c.args.path.now _ _ refl c.if-at-eq0.false (sym c.has_path.ensures ∙ c.if-has_path.true) in
     record {
       is = ap (value_at c.args.s.now) found.0 ∙ found.1;
       valued = λ h. rw found.0 valued;
@@ -113,7 +118,7 @@ loop-tries-preserved c =
     let the-root : Rooted c.args.s.now c.args.places.now c.args.root = rooted _ _ _ c.requires.sectioned c.requires.indexed reach.1.0 reach.1.1 in (
       omega arith,
       one_more (λ (j : ℕ). path_at c.args.s.now (slot_at c.args.places.now (64 * (c.args.root - 1)) (c.start_slot-start.result + j)) ≡ c.args.path.now → ⊥) _ c.loop-tries.invariant.1
-          (other_in _ _ _ the-root c.args.path.now _ _ c.wide-at.ensures c.if-at-eq0.false (sym c.has_path.ensures ∙ c.if-has_path.false)),
+          (other_in _ _ _ the-root c.args.path.now _ _ refl c.if-at-eq0.false (sym c.has_path.ensures ∙ c.if-has_path.false)),
     )
 
 pub place_through-requires-2 : goal.place_through-requires-2

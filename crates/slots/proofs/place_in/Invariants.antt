@@ -1,6 +1,6 @@
 -- `slots::place_in` meets its contract. The invariant: no slot passed has the path, so an empty one tells that no entry has it. Assumes nothing.
+use Rattle.std.specs.Prelude.{Some}
 use Rattle.bags.specs.Sections.{kind_at, entry_end}
-use Rattle.bags.specs.declared.After.TheVariants.{At}
 use Rattle.tokens.specs.Blanks.{unblanked}
 use Rattle.lookups.specs.Values.{absent}
 use Rattle.lookups.specs.Lookups.{look_in, base_of}
@@ -22,6 +22,3 @@ use Rattle.slots.proofs.place_in.Given as goal
 
 abbrev pub invariant-loop-tries : goal.invariant-loop-tries
 invariant-loop-tries l = (l.tries ≤ 64) × ((j : ℕ) → j < l.tries → path_at l.s (slot_at l.places l.base (l.start + j)) ≡ l.path → ⊥)
-
-abbrev pub decreases-loop-tries : goal.decreases-loop-tries
-decreases-loop-tries l = 64 - l.tries

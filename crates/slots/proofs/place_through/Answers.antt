@@ -9,9 +9,9 @@ use borrow.Author.Rules.{rules}
 use Rattle.slots.proofs.place_through.Goals as goal
 
 pub base_place-requires : goal.base_place-requires
-base_place-requires c = rw c.sections_in-p.ensures c.requires
+base_place-requires c = rw c.sections_in.ensures c.requires
 
 pub returns : goal.returns
 returns c =
     shown_as _ _ c.base_place.ensures
-    (ap (λ (p : Sections). look_in absent (base_of c.args.s.now p c.args.root) (unblanked c.args.path.now)) c.sections_in-p.ensures)
+    (ap (λ (p : Sections). look_in absent (base_of c.args.s.now p c.args.root) (unblanked c.args.path.now)) c.sections_in.ensures)

@@ -28,12 +28,12 @@ start_slot-start-requires c = record { path_nonzero = (lent_sized c.args.s.now c
 pub overflow_cast-places : goal.overflow_cast-places
 overflow_cast-places c = omega (arith, (entry_at _ _ _ c.requires.by_index.1).named)
 
-pub returns-then-k-lt-KEPT : goal.returns-then-k-lt-KEPT
-returns-then-k-lt-KEPT c =
+pub returns-in-Some : goal.returns-in-Some
+returns-in-Some c =
     let is = c.start_slot-start.ensures.is ∙ ap start_slot (lent_path c.args.s.now c.args.at _ c.requires.by_index.1) in
-    rw (← is) (put_there c.args.places.now c.args.base _ c.args.at c.requires.places_len c.requires.slot_count_bound c.requires.at_nonzero _ c.free_slot-k.ensures c.if-k-lt-KEPT.true)
+    rw (← is) (put_there c.args.places.now c.args.base _ c.args.at c.requires.places_len c.requires.slot_count_bound c.requires.at_nonzero c.free_slot.ensures _ c.in-Some.is)
 
-pub returns-else-k-lt-KEPT : goal.returns-else-k-lt-KEPT
-returns-else-k-lt-KEPT c =
+pub returns-in_default : goal.returns-in_default
+returns-in_default c =
     let is = c.start_slot-start.ensures.is ∙ ap start_slot (lent_path c.args.s.now c.args.at _ c.requires.by_index.1) in
-    rw (← is) (put_nowhere c.args.places.now c.args.base _ c.args.at c.requires.places_len c.requires.slot_count_bound c.requires.at_nonzero _ c.free_slot-k.ensures c.if-k-lt-KEPT.false)
+    rw (← is) (put_nowhere c.args.places.now c.args.base _ c.args.at c.requires.places_len c.requires.slot_count_bound c.requires.at_nonzero c.free_slot.ensures c.in_default.is)

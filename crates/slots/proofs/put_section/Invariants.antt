@@ -5,10 +5,9 @@ use Rattle.bags.proofs.SectionLaws.{Entry, entry_at, section_at_lem}
 use Rattle.bags.specs.Sections.{entry_end}
 use native.Mathlib.Omega.{arith}
 use mathlib.Core.Path.{◌∙◌}
+use Rattle.std.proofs.Common.{◌-◌}
+use Rattle.bags.specs.Reading.{byte}
 use Rattle.slots.proofs.put_section.Given as goal
 
-abbrev pub invariant-loop-left : goal.invariant-loop-left
-invariant-loop-left l = Filling l.s l.initial.places l.places l.base l.b l.left l.next
-
-abbrev pub decreases-loop-left : goal.decreases-loop-left
-decreases-loop-left l = l.left
+abbrev pub invariant-loop : goal.invariant-loop
+invariant-loop l = Filling l.s l.initial.places l.places l.base l.b (byte l.s l.b - l.counter) l.next

@@ -4,10 +4,10 @@ use borrow.Author.Tests.{lt-ltb, le-ltb}
 use Rattle.table.specs.Recorded.{recorded_by}
 use Rattle.table.proofs.recorded.Goals as goal
 
-pub returns-then-x-gt-FORBID : goal.returns-then-x-gt-FORBID
+pub returns-then-entry_at-gt-FORBID : goal.returns-then-entry_at-gt-FORBID
 unfolding recorded_by
-returns-then-x-gt-FORBID c = rw (← c.entry_at-x.ensures, lt-ltb _ _ c.if-x-gt-FORBID.true)
+returns-then-entry_at-gt-FORBID c = rw (← c.entry_at.ensures, lt-ltb _ _ c.if-entry_at-gt-FORBID.true)
 
-pub returns : goal.returns
+pub returns-else-entry_at-gt-FORBID : goal.returns-else-entry_at-gt-FORBID
 unfolding recorded_by
-returns c = rw (← c.entry_at-x.ensures, le-ltb _ _ c.if-x-gt-FORBID.false)
+returns-else-entry_at-gt-FORBID c = rw (← c.entry_at.ensures, le-ltb _ _ c.if-entry_at-gt-FORBID.false)

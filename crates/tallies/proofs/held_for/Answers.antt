@@ -1,5 +1,4 @@
 -- `tallies::held_for` meets its contract: the table is looked at only where it is asked for. Assumes nothing.
-use borrow.Author.Rules.{rules}
 use Rattle.tallies.proofs.held_for.Goals as goal
 
 pub returns-then-asked : goal.returns-then-asked

@@ -1,16 +1,10 @@
 -- `token_reader::next_token` meets its contract: the blanks' end from `start` on is the blanks' end from `at` on. Assumes nothing.
-use mathlib.Core.Path.{◌≡◌, ◌∙◌}
-use mathlib.Core.Bool.{true}
-use Prim.Native.Nat.{ℕ, ◌-◌, ◌≤◌, ◌<◌}
-use native.Mathlib.Omega.{arith}
+use mathlib.Core.Path.{◌≡◌}
+use Prim.Native.Nat.{◌-◌, ◌≤◌}
 use lib.ListN.{length, get_or}
-use borrow.Author.Rules.{rules}
-use Rattle.tokens.specs.Runs.{is_of, run_end}
+use Rattle.tokens.specs.Runs.{run_end}
 use Rattle.tokens.specs.Table.{entry_of}
 use Rattle.tokens.specs.declared.classes.Sort.TheVariants.{Blanks}
-use Rattle.tokens.proofs.EntryLaws.{blank_here, blanks_end}
-use Rattle.tokens.proofs.ReadLaws.{after_blanks}
-use Rattle.tokens.proofs.RunLaws.{goes_on}
 use Rattle.token_reader.proofs.next_token.Given as goal
 
 abbrev pub invariant-loop-entry : goal.invariant-loop-entry

@@ -1,17 +1,7 @@
 -- `token_reader::number` meets its contract: the test decides `number_to` at the end of the whole part. Assumes nothing.
 use mathlib.Core.Path.{sym, ◌∙◌}
-use native.Mathlib.Omega.{arith}
-use borrow.Author.Rules.{rules}
 use Rattle.tokens.specs.Tokens.{number_token}
-use Rattle.tokens.proofs.TokenLaws.{point_inside}
 use Rattle.token_reader.proofs.number.Goals as goal
-
-pub run_end-end-requires : goal.run_end-end-requires
-run_end-end-requires c =
-    let text = c.args.text.now in (
-      c.requires.0,
-      omega (arith, point_inside text c.run_end-whole.result (sym c.has_fraction.ensures ∙ c.if-has_fraction.true)),
-    )
 
 pub returns-then-has_fraction : goal.returns-then-has_fraction
 unfolding number_token

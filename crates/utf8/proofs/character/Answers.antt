@@ -1,6 +1,5 @@
 -- `utf8::character` meets its contract. Assumes nothing.
 use Rattle.utf8.proofs.Places.{nothing_there, ascii}
-use borrow.Author.Rules.{rules}
 use Rattle.utf8.proofs.character.Goals as goal
 
 pub returns-then-s-at : goal.returns-then-s-at

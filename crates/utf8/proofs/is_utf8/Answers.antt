@@ -4,11 +4,8 @@ use Rattle.utf8.proofs.Fours.{past_four, utf8_past}
 use Rattle.utf8.proofs.Places.{utf8_end, utf8_stops, utf8_on, stays_in}
 use Rattle.slices.proofs.Decided.{yes_to, no_to, carried}
 use Rattle.utf8.specs.Characters.{Utf8}
-use lib.ListN.{length, drop}
-use Prim.Native.Nat.{◌-◌, ◌≤◌}
 use mathlib.Core.Path.{sym, ◌∙◌}
 use mathlib.Core.Logic.Iff
-use mathlib.Core.Logic.{◌↔◌}
 use Rattle.utf8.proofs.is_utf8.Goals as goal
 
 pub loop-i-init : goal.loop-i-init

@@ -9,6 +9,3 @@ use Rattle.views.proofs.chosen.Given as goal
 
 abbrev pub invariant-loop-i : goal.invariant-loop-i
 invariant-loop-i l = (length l.values ≡ 6) × ((k : ℕ) → k < 6 → get_or l.values k 0 ≡ first_of l.i (λ i. get_or (get_or l.grid i []) (get_or l.choices i 0) 0) k) × (l.i ≤ l.n)
-
-abbrev pub decreases-loop-i : goal.decreases-loop-i
-decreases-loop-i l = l.n - l.i

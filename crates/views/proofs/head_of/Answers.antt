@@ -3,9 +3,8 @@ use mathlib.Core.Path.{sym, ◌∙◌}
 use lib.Seq.{get_or-drop}
 use Rattle.views.proofs.head_of.Reads as reads
 use Rattle.views.proofs.head_of.Lts as lts
-use Rattle.slots.proofs.wide.Reads as wide_reads
 use Rattle.views.proofs.head_of.Goals as goal
 
 -- src/lib.rt:38:1
 pub returns : goal.returns
-returns c = c.wide.ensures ∙ sym (get_or-drop 196 c.args.places.now c.args.i 0)
+returns c = sym (get_or-drop 196 c.args.places.now c.args.i 0)

@@ -7,5 +7,5 @@ use Rattle.views.proofs.names.Goals as goal
 pub returns-then-s-head : goal.returns-then-s-head
 returns-then-s-head c = c.same_path.ensures ∙ names_it _ _ _ c.if-s-head.true
 
-pub returns : goal.returns
-returns c = names_other _ _ _ c.if-s-head.false
+pub returns-else-s-head : goal.returns-else-s-head
+returns-else-s-head c = names_other _ _ _ c.if-s-head.false

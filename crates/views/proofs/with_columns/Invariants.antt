@@ -7,6 +7,3 @@ use Rattle.views.proofs.with_columns.Given as goal
 
 abbrev pub invariant-loop-i : goal.invariant-loop-i
 invariant-loop-i l = Columning l.n l.heads l.initial.places l.places l.i
-
-abbrev pub decreases-loop-i : goal.decreases-loop-i
-decreases-loop-i l = 6 - l.i

@@ -3,8 +3,8 @@ use Rattle.numbers.proofs.Exponent.{not_nan}
 use Rattle.bags.proofs.ValueLaws.{value_inside}
 use Rattle.views_vectors.proofs.report.Goals as goal
 
-pub print_bits-requires : goal.print_bits-requires
-print_bits-requires g c = not_nan _ c.requires.0
+pub float_to_bits-v : goal.float_to_bits-v
+float_to_bits-v g c = not_nan _ c.requires.0
 
 pub slice_bounds-sum_of-count : goal.slice_bounds-sum_of-count
 slice_bounds-sum_of-count g c = let inside = value_inside _ _ _ _ c.value_next-end.ensures in omega arith
@@ -14,6 +14,3 @@ slice_bounds-sum_of-start g c = let inside = value_inside _ _ _ _ c.value_next-e
 
 pub slice_bounds-sum_of-end : goal.slice_bounds-sum_of-end
 slice_bounds-sum_of-end g c = let inside = value_inside _ _ _ _ c.value_next-end.ensures in omega arith
-
-pub print_bits-requires-else-kind : goal.print_bits-requires-else-kind
-print_bits-requires-else-kind g c = not_nan _ c.requires.0

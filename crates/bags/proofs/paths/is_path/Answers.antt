@@ -19,7 +19,6 @@ pub is_name-requires : goal.is_name-requires
 is_name-requires c =
     let run = c.run_end-end.ensures in
     record {
-      classes_value = search rules;
       run_value = word_bytes_run _ _ _ run.place run.high;
     }
 

@@ -1,18 +1,21 @@
 -- `bags::sections::section_end` meets its contract. Assumes nothing.
-use borrow.Author.Rules.{rules}
-use mathlib.Core.Path.{◌∙◌}
-use native.Mathlib.Omega.{arith}
+use Rattle.std.proofs.Common.{◌≡◌, arith, ◌∙◌}
+use Rattle.bags.specs.Reading.{byte}
+use Rattle.bags.proofs.ReadLaws.{got, not_got}
 use Rattle.bags.proofs.SectionLaws.{section_none, section_long, section_whole}
 use Rattle.bags.proofs.sections.section_end.Goals as goal
 
-pub returns-then-s-at : goal.returns-then-s-at
-returns-then-s-at c = section_none _ _ (omega arith)
-
-pub overflow_cast-n : goal.overflow_cast-n
-overflow_cast-n c = omega (arith, c.type_inv.s c.args.at)
+pub returns-in_err-get : goal.returns-in_err-get
+returns-in_err-get c = c.from_residual.ensures ∙ section_none _ _ (not_got _ _ c.in_err-get.ensures.lookup.0)
 
 pub returns-then-n-gt-MOST_ENTRIES : goal.returns-then-n-gt-MOST_ENTRIES
-returns-then-n-gt-MOST_ENTRIES c = section_long _ _ (omega arith) (omega arith)
+returns-then-n-gt-MOST_ENTRIES c =
+    let b = got c.args.s.now c.args.at _ c.in_ok-get.ensures.lookup.0 c.in_ok-get.ensures.lookup.1 in
+    let size : c.from-n.result ≡ byte c.args.s.now c.args.at = c.from-n.ensures ∙ b.1 in
+    section_long _ _ b.0 (omega arith)
 
 pub returns : goal.returns
-returns c = c.entries_end.ensures ∙ section_whole _ _ (omega arith) (omega arith)
+returns c =
+    let b = got c.args.s.now c.args.at _ c.in_ok-get.ensures.lookup.0 c.in_ok-get.ensures.lookup.1 in
+    let size : c.from-n.result ≡ byte c.args.s.now c.args.at = c.from-n.ensures ∙ b.1 in
+    c.entries_end.ensures ∙ rw size (section_whole _ _ b.0 (omega arith))

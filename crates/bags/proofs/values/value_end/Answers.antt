@@ -1,20 +1,19 @@
 -- `bags::values::value_end` meets its contract. Assumes nothing.
-use borrow.Author.Rules.{rules}
-use mathlib.Core.Path.{◌∙◌}
+use Rattle.std.proofs.Common.{arith, ◌∙◌}
 use Rattle.bags.proofs.ValueLaws.{value_string, value_number, value_flag, value_list, value_none}
 use Rattle.bags.proofs.values.value_end.Goals as goal
 
-pub returns-then-kind-eq-STRING : goal.returns-then-kind-eq-STRING
-returns-then-kind-eq-STRING c = c.string_end.ensures ∙ value_string _ _ _ c.if-kind-eq-STRING.true
+pub returns-in-1 : goal.returns-in-1
+returns-in-1 c = c.end.ensures ∙ value_string _ _ _ c.in-1.is
 
-pub returns-then-kind-eq-NUMBER : goal.returns-then-kind-eq-NUMBER
-returns-then-kind-eq-NUMBER c = c.number_end.ensures ∙ value_number _ _ _ c.if-kind-eq-NUMBER.true
+pub returns-in-2 : goal.returns-in-2
+returns-in-2 c = c.number_end.ensures ∙ value_number _ _ _ c.in-2.is
 
-pub returns-then-kind-eq-FLAG : goal.returns-then-kind-eq-FLAG
-returns-then-kind-eq-FLAG c = c.flag_end.ensures ∙ value_flag _ _ _ c.if-kind-eq-FLAG.true
+pub returns-in-3 : goal.returns-in-3
+returns-in-3 c = c.flag_end.ensures ∙ value_flag _ _ _ c.in-3.is
 
-pub returns-then-kind-eq-LIST : goal.returns-then-kind-eq-LIST
-returns-then-kind-eq-LIST c = c.list_end.ensures ∙ value_list _ _ _ c.if-kind-eq-LIST.true
+pub returns-in-4 : goal.returns-in-4
+returns-in-4 c = c.list_end.ensures ∙ value_list _ _ _ c.in-4.is
 
-pub returns : goal.returns
-returns c = value_none _ _ _ c.if-kind-eq-STRING.false c.if-kind-eq-NUMBER.false c.if-kind-eq-FLAG.false c.if-kind-eq-LIST.false
+pub returns-in_default : goal.returns-in_default
+returns-in_default c = value_none _ _ _ (omega arith) (omega arith) (omega arith) (omega arith)

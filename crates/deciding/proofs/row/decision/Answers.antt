@@ -14,6 +14,7 @@ use Rattle.meaning.proofs.Marking.{mark_after, none_met}
 use Rattle.meaning.proofs.WordLaws.{many_words}
 use Rattle.views.specs.Meaning.{look}
 use Rattle.views.specs.Places.{BagPlaced}
+use Rattle.views.proofs.RowLaws.{plain_placed, plain_view}
 use Rattle.slots.specs.Slots.{kept_sections}
 use Rattle.views.specs.Values.{base_bag}
 use Rattle.stored.specs.Ready.{ReadyPolicies, Last}
@@ -35,41 +36,44 @@ entry_at-x-requires c = omega (arith, c.loop-end.invariant.0.stored.stands.few)
 
 pub is_satisfied-hit-requires : goal.is_satisfied-hit-requires
 is_satisfied-hit-requires c =
-    let last : Last c.args.text.now.now c.args.table.now.now c.loop-end.end c.entry_at-x.result = last_there c.loop-end.invariant.0 c.loop-end-test.true c.entry_at-x.ensures in
-    let placed : BagPlaced c.args.bag.now.now c.index_of-places.result = record {
+    let last : Last c.args.text.now c.args.table.now c.loop-end.end c.entry_at-x.result = last_there c.loop-end.invariant.0 c.loop-end-test.true c.entry_at-x.ensures in
+    record {
+      last = last;
+      types_of = c.requires.types_of;
+    }
+
+pub invariant_of-row : goal.invariant_of-row
+invariant_of-row c =
+    let placed : BagPlaced c.args.bag.now c.index_of-places.result = record {
       sections = rw c.index_of-places.ensures.sections c.requires.sectioned.0;
       indexed = c.index_of-places.ensures.indexed;
       plain = c.index_of-places.ensures.free 195 (omega arith);
     } in
-    record {
-      last = last;
-      bag_placed = placed;
-      types_of = c.requires.types_of;
-    }
+    record { stands = ∣ plain_placed _ _ _ placed ∣₁ }
 
 pub mark_with-permits-requires : goal.mark_with-permits-requires
 mark_with-permits-requires c =
-    let last : Last c.args.text.now.now c.args.table.now.now c.loop-end.end c.entry_at-x.result = last_there c.loop-end.invariant.0 c.loop-end-test.true c.entry_at-x.ensures in
-    let one : 1 ≤ length (policies_at c.args.table.now.now c.loop-end.end) = some_left last refl in
+    let last : Last c.args.text.now c.args.table.now c.loop-end.end c.entry_at-x.result = last_there c.loop-end.invariant.0 c.loop-end-test.true c.entry_at-x.ensures in
+    let one : 1 ≤ length (policies_at c.args.table.now c.loop-end.end) = some_left last refl in
     let inv = c.loop-end.invariant in
     bit_fits (eqb c.entry_at-x.result.kind permit_kind) c.loop-end.permits _ one inv.1 inv.2
 
 pub mark_with-mark-requires : goal.mark_with-mark-requires
 mark_with-mark-requires c =
-    let last : Last c.args.text.now.now c.args.table.now.now c.loop-end.end c.entry_at-x.result = last_there c.loop-end.invariant.0 c.loop-end-test.true c.entry_at-x.ensures in
-    let one : 1 ≤ length (policies_at c.args.table.now.now c.loop-end.end) = some_left last refl in
+    let last : Last c.args.text.now c.args.table.now c.loop-end.end c.entry_at-x.result = last_there c.loop-end.invariant.0 c.loop-end-test.true c.entry_at-x.ensures in
+    let one : 1 ≤ length (policies_at c.args.table.now c.loop-end.end) = some_left last refl in
     let inv = c.loop-end.invariant in
     bit_fits c.is_satisfied-hit.result c.loop-end.mark _ one inv.1 inv.3
 
 pub loop-end-smaller : goal.loop-end-smaller
 loop-end-smaller c =
-    let last : Last c.args.text.now.now c.args.table.now.now c.loop-end.end c.entry_at-x.result = last_there c.loop-end.invariant.0 c.loop-end-test.true c.entry_at-x.ensures in
+    let last : Last c.args.text.now c.args.table.now c.loop-end.end c.entry_at-x.result = last_there c.loop-end.invariant.0 c.loop-end-test.true c.entry_at-x.ensures in
     let l = last in let b = l.begins in let e = l.ends in omega arith
 
 pub loop-end-preserved : goal.loop-end-preserved
 loop-end-preserved c =
-    let last : Last c.args.text.now.now c.args.table.now.now c.loop-end.end c.entry_at-x.result = last_there c.loop-end.invariant.0 c.loop-end-test.true c.entry_at-x.ensures in
-    let one : 1 ≤ length (policies_at c.args.table.now.now c.loop-end.end) = some_left last refl in
+    let last : Last c.args.text.now c.args.table.now c.loop-end.end c.entry_at-x.result = last_there c.loop-end.invariant.0 c.loop-end-test.true c.entry_at-x.ensures in
+    let one : 1 ≤ length (policies_at c.args.table.now c.loop-end.end) = some_left last refl in
     let inv = c.loop-end.invariant in
     let sat = c.is_satisfied-hit in
     let falls = number_falls last refl in
@@ -79,15 +83,15 @@ loop-end-preserved c =
       rw (← falls, c.mark_with-permits.ensures) (bit_there (eqb c.entry_at-x.result.kind permit_kind) c.loop-end.permits _ one inv.1 inv.2),
       rw (← falls, c.mark_with-mark.ensures) (bit_there sat.result c.loop-end.mark _ one inv.1 inv.3),
       mark_one _ last c.loop-end.permits c.mark_with-permits.result (eqb c.entry_at-x.result.kind permit_kind) (effect_there _ _ _) c.mark_with-permits.ensures ∙ inv.4,
-      mark_one _ last c.loop-end.mark c.mark_with-mark.result sat.result sat.ensures c.mark_with-mark.ensures ∙ inv.5,
+      mark_one _ last c.loop-end.mark c.mark_with-mark.result sat.result (rw (plain_view _ _ _ (c.index_of-places.ensures.free 195 (omega arith)), c.index_of-places.ensures.sections) at sat.ensures) c.mark_with-mark.ensures ∙ inv.5,
     )
 
 pub returns : goal.returns
 returns c =
     let inv = c.loop-end.invariant in
-    let ps = policies_at c.args.table.now.now c.args.entries in
+    let ps = policies_at c.args.table.now c.args.entries in
     let none = c.loop-end-test.false in
     let mark = all_marked _ _ _ _ none ∙ inv.5 in
     let allowed = all_marked _ _ _ _ none ∙ inv.4 ∙ permits_words _ _ in
-    let d = c.by_marks-d.ensures _ _ (words_of c.args.text.now.now ps) (rw (many_words c.args.text.now.now ps) c.requires.entries_len_bound) mark allowed in
-    rw (← c.index_of-places.ensures.sections) (λ i. record { d = d i; mark = mark i })
+    let d = c.by_marks-d.ensures _ _ (words_of c.args.text.now ps) (rw (many_words c.args.text.now ps) c.requires.entries_len_bound) mark allowed in
+    λ i. record { d = d i; mark = mark i }

@@ -14,7 +14,6 @@ use Rattle.meaning.proofs.Marking.{mark_after, none_met}
 use Rattle.meaning.proofs.WordLaws.{many_words}
 use Rattle.views.specs.Meaning.{look}
 use Rattle.views.specs.Places.{BagPlaced}
-use Rattle.slots.specs.Slots.{kept_sections}
 use Rattle.views.specs.Values.{base_bag}
 use Rattle.stored.specs.Ready.{ReadyPolicies, Last}
 use Rattle.stored.specs.ReadBack.{policies_at}
@@ -26,13 +25,13 @@ use Rattle.deciding.proofs.row.decision.Given as goal
 
 abbrev pub invariant-loop-end : goal.invariant-loop-end
 invariant-loop-end l =
-    ReadyPolicies l.text.now l.table.now l.end
-    × (length (policies_at l.table.now l.end) ≤ 64)
-    × (l.permits < 2 ^ (64 - length (policies_at l.table.now l.end)))
-    × (l.mark < 2 ^ (64 - length (policies_at l.table.now l.end)))
-    × (mark_after (λ p. p.permits) (policies_at l.table.now l.end) l.permits ≡ permits_of (policies_at l.table.now l.entries))
-    × (mark_after (λ r. satisfied (under (recorded l.table.now) (look (base_bag l.bag.now (kept_sections l.places)))) (request l.subject l.action.now l.resource) (policy_words l.text.now r)) (policies_at l.table.now l.end) l.mark
-    ≡ mark_of (under (recorded l.table.now) (look (base_bag l.bag.now (kept_sections l.places)))) (request l.subject l.action.now l.resource) (words_of l.text.now (policies_at l.table.now l.entries)))
+    ReadyPolicies l.text l.table l.end
+    × (length (policies_at l.table l.end) ≤ 64)
+    × (l.permits < 2 ^ (64 - length (policies_at l.table l.end)))
+    × (l.mark < 2 ^ (64 - length (policies_at l.table l.end)))
+    × (mark_after (λ p. p.permits) (policies_at l.table l.end) l.permits ≡ permits_of (policies_at l.table l.entries))
+    × (mark_after (λ r. satisfied (under (recorded l.table) (look (base_bag l.bag l.fn.p))) (request l.subject l.action l.resource) (policy_words l.text r)) (policies_at l.table l.end) l.mark
+    ≡ mark_of (under (recorded l.table) (look (base_bag l.bag l.fn.p))) (request l.subject l.action l.resource) (words_of l.text (policies_at l.table l.entries)))
 
 abbrev pub decreases-loop-end : goal.decreases-loop-end
 decreases-loop-end l = l.end

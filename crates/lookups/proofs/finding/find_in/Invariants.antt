@@ -12,12 +12,10 @@ use Rattle.bags.proofs.SectionLaws.{Entry, entry_at}
 use Rattle.bags.proofs.ReadLaws.{First, first, same_end, many_more}
 use native.Mathlib.Omega.{arith}
 use mathlib.Core.Path.{◌≡◌, refl, sym, ◌∙◌}
+use Rattle.std.proofs.Common.{◌-◌, ◌+◌}
 use Rattle.lookups.proofs.finding.find_in.Given as goal
 
-abbrev pub invariant-loop-left : goal.invariant-loop-left
-invariant-loop-left l =
-    (many l.left (entry_end l.s) l.next ≡ many l.n (entry_end l.s) l.at)
-    × (look_in absent (each l.left (entry_end l.s) (bag_entry_at l.s) l.next) (unblanked l.path) ≡ look_in absent (each l.n (entry_end l.s) (bag_entry_at l.s) l.at) (unblanked l.path))
-
-abbrev pub decreases-loop-left : goal.decreases-loop-left
-decreases-loop-left l = l.left
+abbrev pub invariant-loop : goal.invariant-loop
+invariant-loop l =
+    (many (l.n - l.counter) (entry_end l.s) l.next ≡ many l.n (entry_end l.s) l.at)
+    × (look_in absent (each (l.n - l.counter) (entry_end l.s) (bag_entry_at l.s) l.next) (unblanked l.path) ≡ look_in absent (each l.n (entry_end l.s) (bag_entry_at l.s) l.at) (unblanked l.path))

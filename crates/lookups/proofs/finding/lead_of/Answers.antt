@@ -10,14 +10,14 @@ use lib.ListN.{length, drop}
 use Prim.Native.Nat.{◌-◌}
 use Rattle.lookups.proofs.finding.lead_of.Goals as goal
 
-pub loop-i-init : goal.loop-i-init
-loop-i-init c = refl
+pub loop-c-init : goal.loop-c-init
+loop-c-init c = refl
 
 pub returns-then-not-is_blank : goal.returns-then-not-is_blank
-returns-then-not-is_blank c = lead_here c.args.path.now c.loop-i.i c.loop-i-test.true (sym c.is_blank.ensures ∙ c.if-not-is_blank.true) ∙ c.loop-i.invariant
+returns-then-not-is_blank c = lead_here c.args.path.now c.loop-c.c-index c.loop-c-test.true (sym c.is_blank.ensures ∙ c.if-not-is_blank.true) ∙ c.loop-c.invariant
 
-pub loop-i-preserved : goal.loop-i-preserved
-loop-i-preserved c = lead_blank c.args.path.now c.loop-i.i c.loop-i-test.true (sym c.is_blank.ensures ∙ c.if-not-is_blank.false) ∙ c.loop-i.invariant
+pub loop-c-preserved : goal.loop-c-preserved
+loop-c-preserved c = lead_blank c.args.path.now c.loop-c.c-index c.loop-c-test.true (sym c.is_blank.ensures ∙ c.if-not-is_blank.false) ∙ c.loop-c.invariant
 
 pub returns : goal.returns
-returns c = lead_end c.args.path.now c.loop-i.i c.loop-i-test.false ∙ c.loop-i.invariant
+returns c = lead_end c.args.path.now c.loop-c.c-index c.loop-c-test.false ∙ c.loop-c.invariant

@@ -10,8 +10,5 @@ use lib.ListN.{length, drop}
 use Prim.Native.Nat.{◌-◌}
 use Rattle.lookups.proofs.finding.lead_of.Given as goal
 
-abbrev pub invariant-loop-i : goal.invariant-loop-i
-invariant-loop-i l = byte (unblanked (drop l.i l.path)) 0 ≡ byte (unblanked l.path) 0
-
-abbrev pub decreases-loop-i : goal.decreases-loop-i
-decreases-loop-i l = length l.path - l.i
+abbrev pub invariant-loop-c : goal.invariant-loop-c
+invariant-loop-c l = byte (unblanked (drop l.c-index l.path)) 0 ≡ byte (unblanked l.path) 0

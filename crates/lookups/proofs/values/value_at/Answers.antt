@@ -10,5 +10,5 @@ value_from-requires c = c.requires c.if-k-s.true
 pub returns-then-k-s : goal.returns-then-k-s
 returns-then-k-s c = c.value_from.ensures
 
-pub returns : goal.returns
-returns c = c.absent_value.ensures ∙ past_the_end _ _ c.if-k-s.false
+pub returns-else-k-s : goal.returns-else-k-s
+returns-else-k-s c = c.absent_value.ensures ∙ past_the_end _ _ c.if-k-s.false

@@ -5,37 +5,36 @@ use lib.ListN.{length}
 use native.Mathlib.Omega.{arith}
 use Prim.Native.Nat.{◌-◌}
 use Rattle.numbers.proofs.literals.magnitude.Goals as goal
+use Rattle.numbers.proofs.literals.magnitude.Goals.{then-b-eq46, else-b-eq46+then-b-ge48, else-b-eq46+else-b-ge48}
 
-pub loop-i-init : goal.loop-i-init
-loop-i-init c = at_start _
-
-pub loop-i-preserved-then-b-eq46 : goal.loop-i-preserved-then-b-eq46
-loop-i-preserved-then-b-eq46 c = after_point c.loop-i.invariant c.loop-i-test.true c.if-b-eq46.true
+pub loop-b-init : goal.loop-b-init
+loop-b-init c = at_start _
 
 pub overflow_mul-digits : goal.overflow_mul-digits
-overflow_mul-digits c = omega (arith, (small c.requires (after_digit c.loop-i.invariant c.loop-i-test.true c.if-b-eq46.false c.if-b-ge48.true)).digits)
+overflow_mul-digits c = omega (arith, (small c.requires (after_digit c.loop-b.invariant (omega arith) c.if-b-eq46.false c.if-b-ge48.true)).digits)
 
 pub overflow_cast-digits : goal.overflow_cast-digits
-overflow_cast-digits c = omega (arith, (small c.requires (after_digit c.loop-i.invariant c.loop-i-test.true c.if-b-eq46.false c.if-b-ge48.true)).digits)
+overflow_cast-digits c = omega (arith, (small c.requires (after_digit c.loop-b.invariant (omega arith) c.if-b-eq46.false c.if-b-ge48.true)).digits)
 
 pub overflow_add-digits : goal.overflow_add-digits
-overflow_add-digits c = omega (arith, (small c.requires (after_digit c.loop-i.invariant c.loop-i-test.true c.if-b-eq46.false c.if-b-ge48.true)).digits)
+overflow_add-digits c = omega (arith, (small c.requires (after_digit c.loop-b.invariant (omega arith) c.if-b-eq46.false c.if-b-ge48.true)).digits)
 
 pub overflow_mul-power : goal.overflow_mul-power
-overflow_mul-power c = omega (arith, (small c.requires (after_digit c.loop-i.invariant c.loop-i-test.true c.if-b-eq46.false c.if-b-ge48.true)).power)
+overflow_mul-power c = omega (arith, (small c.requires (after_digit c.loop-b.invariant (omega arith) c.if-b-eq46.false c.if-b-ge48.true)).power)
 
--- a digit is read: what it adds stays small, since the whole number is
-pub loop-i-preserved-then-b-ge48 : goal.loop-i-preserved-then-b-ge48
-loop-i-preserved-then-b-ge48 c = after_digit c.loop-i.invariant c.loop-i-test.true c.if-b-eq46.false c.if-b-ge48.true
-
-pub loop-i-preserved : goal.loop-i-preserved
-loop-i-preserved c = after_other c.loop-i.invariant c.loop-i-test.true c.if-b-eq46.false c.if-b-ge48.false
+pub loop-b-preserved : goal.loop-b-preserved
+loop-b-preserved c =
+    elim c.if-b-eq46.branch [
+      | then-b-eq46 w ↦ rw (w.digits-is, w.power-is, w.scale-is) (after_point c.loop-b.invariant c.loop-b-test.true w.if-b-eq46.true)
+      | else-b-eq46+then-b-ge48 w ↦ rw (w.digits-is, w.power-is, w.scale-is) (after_digit c.loop-b.invariant c.loop-b-test.true w.if-b-eq46.false w.if-b-ge48.true)
+      | else-b-eq46+else-b-ge48 w ↦ rw (w.digits-is, w.power-is, w.scale-is) (after_other c.loop-b.invariant c.loop-b-test.true w.if-b-eq46.false w.if-b-ge48.false)
+    ]
 
 pub int_to_float-result : goal.int_to_float-result
-int_to_float-result c = whole_cast _ (small c.requires c.loop-i.invariant).digits
+int_to_float-result c = whole_cast _ (small c.requires c.loop-b.invariant).digits
 
 pub int_to_float-result-2 : goal.int_to_float-result-2
-int_to_float-result-2 c = whole_cast _ (small c.requires c.loop-i.invariant).power
+int_to_float-result-2 c = whole_cast _ (small c.requires c.loop-b.invariant).power
 
 pub returns : goal.returns
-returns c = at_end c.requires c.loop-i.invariant c.loop-i-test.false
+returns c = at_end c.requires c.loop-b.invariant (omega arith)

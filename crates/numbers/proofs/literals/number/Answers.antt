@@ -14,6 +14,6 @@ pub returns-then-text-eq45 : goal.returns-then-text-eq45
 unfolding number_in
 returns-then-text-eq45 c = record { value = (promised c.requires (rw (eq-eqb _ _ c.if-text-eq45.true) (ap neg c.magnitude-size.ensures))).0; finite = (promised c.requires (rw (eq-eqb _ _ c.if-text-eq45.true) (ap neg c.magnitude-size.ensures))).1 }
 
-pub returns : goal.returns
+pub returns-else-text-eq45 : goal.returns-else-text-eq45
 unfolding number_in
-returns c = record { value = (promised c.requires (rw (ne_eqb _ _ c.if-text-eq45.false) c.magnitude-size.ensures)).0; finite = (promised c.requires (rw (ne_eqb _ _ c.if-text-eq45.false) c.magnitude-size.ensures)).1 }
+returns-else-text-eq45 c = record { value = (promised c.requires (rw (ne_eqb _ _ c.if-text-eq45.false) c.magnitude-size.ensures)).0; finite = (promised c.requires (rw (ne_eqb _ _ c.if-text-eq45.false) c.magnitude-size.ensures)).1 }

@@ -6,9 +6,6 @@ use Rattle.operands.proofs.lists.in_list.Goals as goal
 pub bounds-s-place : goal.bounds-s-place
 bounds-s-place c = omega (arith, (list_counted _ _ _ c.requires.1).counted)
 
-pub overflow_cast-n : goal.overflow_cast-n
-overflow_cast-n c = omega (arith, c.type_inv.s c.args.place)
-
 pub overflow_add-place : goal.overflow_add-place
 overflow_add-place c = omega (arith, (list_counted _ _ _ c.requires.1).counted)
 

@@ -8,10 +8,10 @@ pub literal_value-w-requires : goal.literal_value-w-requires
 literal_value-w-requires c = c.requires
 
 pub quoted-requires : goal.quoted-requires
-quoted-requires c = string_placed _ _ c.if-sort-eq-STRING.true c.requires
+quoted-requires c = string_placed _ _ c.if-o-eq-STRING.true c.requires
 
-pub returns-then-sort-eq-STRING : goal.returns-then-sort-eq-STRING
-returns-then-sort-eq-STRING c = λ l. literal_compares _ _ _ _ _ _ _ _ c.literal_value-w.ensures (λ k. c.quoted.ensures) c.values_hold.ensures l
+pub returns-then-o-eq-STRING : goal.returns-then-o-eq-STRING
+returns-then-o-eq-STRING c = λ l. literal_compares _ _ _ _ _ _ _ _ c.literal_value-w.ensures (λ k. c.quoted.ensures) c.values_hold.ensures l
 
 pub returns : goal.returns
-returns c = λ l. literal_compares _ _ _ _ _ _ _ _ c.literal_value-w.ensures (λ k. absurd (c.if-sort-eq-STRING.false k)) c.values_hold-2.ensures l
+returns c = λ l. literal_compares _ _ _ _ _ _ _ _ c.literal_value-w.ensures (λ k. absurd (c.if-o-eq-STRING.false k)) c.values_hold-2.ensures l

@@ -1,19 +1,20 @@
 -- `operands::values::values_hold` meets its contract. Assumes nothing.
-use Rattle.operands.proofs.ValueLaws.{mixed_kinds, two_strings, two_numbers, two_flags, no_kind}
-use borrow.Author.Rules.{rules}
+use Rattle.operands.proofs.ValueLaws.{mixed_kinds, two_strings, two_numbers, two_flags, no_kind, same_is, flags_same}
+use mathlib.Core.Path.{◌∙◌}
+use native.Mathlib.Omega.{arith}
 use Rattle.operands.proofs.values.values_hold.Goals as goal
 
-pub returns-then-k-j : goal.returns-then-k-j
-returns-then-k-j c = λ l m. mixed_kinds _ _ _ l _ _ m c.if-k-j.true
+pub returns-then-v-w : goal.returns-then-v-w
+returns-then-v-w c = λ l m. mixed_kinds _ _ _ l _ _ m c.if-v-w.true
 
-pub returns-then-k-eq-STRING : goal.returns-then-k-eq-STRING
-returns-then-k-eq-STRING c = λ l m. two_strings _ _ _ l _ _ m _ _ c.if-k-eq-STRING.true c.if-k-j.false c.same_string-b.ensures c.equality_holds.ensures
+pub returns-in-1 : goal.returns-in-1
+returns-in-1 c = λ l m. two_strings _ _ _ l _ _ m _ _ c.in-1.is c.if-v-w.false (same_is _ _ _ c.eq.ensures) c.equality_holds.ensures
 
-pub returns-then-k-eq-NUMBER : goal.returns-then-k-eq-NUMBER
-returns-then-k-eq-NUMBER c = λ l m. two_numbers _ _ _ l _ _ m _ c.if-k-eq-NUMBER.true c.if-k-j.false c.numbers_hold.ensures
+pub returns-in-2 : goal.returns-in-2
+returns-in-2 c = λ l m. two_numbers _ _ _ l _ _ m _ c.in-2.is c.if-v-w.false (c.compares.ensures ∙ c.comparator_of.ensures _ _)
 
-pub returns-then-k-eq-FLAG : goal.returns-then-k-eq-FLAG
-returns-then-k-eq-FLAG c = λ l m. two_flags _ _ _ l _ _ m _ _ c.if-k-eq-FLAG.true c.if-k-j.false c.same_flag-b.ensures c.equality_holds-then-k-eq-FLAG.ensures
+pub returns-in-3 : goal.returns-in-3
+returns-in-3 c = λ l m. two_flags _ _ _ l _ _ m _ _ c.in-3.is c.if-v-w.false (flags_same _ _) c.equality_holds-in-3.ensures
 
-pub returns : goal.returns
-returns c = λ l m. no_kind _ _ _ l _ _ m c.if-k-eq-STRING.false c.if-k-eq-NUMBER.false c.if-k-eq-FLAG.false
+pub returns-in_default : goal.returns-in_default
+returns-in_default c = λ l m. no_kind _ _ _ l _ _ m (λ e. omega arith) (λ e. omega arith) (λ e. omega arith)

@@ -1,37 +1,28 @@
 -- `parts::attributes::read_attribute` meets its contract: after the dot, what the path's reader says. Assumes nothing.
-use mathlib.Core.Path.{◌≡◌}
 use native.Mathlib.Omega.{arith}
 use borrow.Author.Rules.{rules}
-use Rattle.tokens.specs.Kinds as kinds
-use Rattle.reading.specs.Reader.{took, bind}
 use Rattle.grammar.specs.Parser.{read_path, read_attribute}
-use Rattle.grammar.specs.Policies.{Span}
 use Rattle.parts.specs.Names.{root_from}
-use Rattle.parts.proofs.Standing.{ready_past, need_on, need_off}
-use Rattle.parts.proofs.Writing.{done_as, turned_done, mapped_done}
+use Rattle.parts.proofs.SoFar.{gives_back, so_begins, so_stood, so_stopped, so_ready, so_last}
 use Rattle.parts.proofs.attributes.read_attribute.Goals as goal
 
-pub turned_away-requires : goal.turned_away-requires
-turned_away-requires c = c.requires.lies.order
+pub expect-requires : goal.expect-requires
+expect-requires c = let l = c.requires.lies in record { low = omega arith; order = l.order; high = l.high; some = l.some }
 
-pub returns-then-t-ne46 : goal.returns-then-t-ne46
+pub returns-in_err-expect : goal.returns-in_err-expect
 unfolding read_attribute
-returns-then-t-ne46 c = turned_done (need_off _ _ kinds.dot _ c.if-t-ne46.true c.turned_away.ensures)
-
-pub next_token-name-requires : goal.next_token-name-requires
-next_token-name-requires c = (c.requires.table, c.requires.lies.high)
+returns-in_err-expect c =
+    rw (gives_back c.from_residual.result c.from_residual.ensures.1)
+    (so_stopped 46 _ (so_begins c.args.reader.now (read_attribute (root_from c.args.root) (λ root s. s)) c.requires.lies) c.expect.ensures c.in_err-expect.was)
 
 pub read_placed-requires : goal.read_placed-requires
+unfolding read_attribute
 read_placed-requires c =
-    let t = c.args.t in
-    ready_past t c.requires (λ (z : t.kind ≡ 0). let e = c.if-t-ne46.false in omega arith) c.next_token-name.ensures.lies (let l = c.requires.lies.low in omega arith)
+    let so = so_stood 46 _ (omega arith) (so_begins c.args.reader.now (read_attribute (root_from c.args.root) (λ root s. s)) c.requires.lies) c.expect.ensures c.in_ok-expect.was in
+    so_ready so c.requires.small (omega (arith, c.requires.lies.low))
 
 pub returns : goal.returns
 unfolding read_attribute
 returns c =
-    let t = c.args.t in
-    let p = c.requires.lies in
-    let some = p.some (λ (z : t.kind ≡ 0). let e = c.if-t-ne46.false in omega arith) in
-    let l = c.next_token-name.ensures.lies.low in
-    done_as (need_on _ _ kinds.dot (λ i. bind (read_path (root_from c.args.root) i) (λ s. took s)) _ (omega arith) c.if-t-ne46.false p.high c.next_token-name.ensures.is)
-    (mapped_done (λ (s : Span). s) (λ s. rw c.root_kind.ensures) (omega (arith, some, l)) c.read_placed.ensures)
+    let so = so_stood 46 _ (omega arith) (so_begins c.args.reader.now (read_attribute (root_from c.args.root) (λ root s. s)) c.requires.lies) c.expect.ensures c.in_ok-expect.was in
+    so_last (read_path (root_from c.args.root)) (λ s. s) so c.read_placed.ensures (λ s. rw c.root_kind.ensures) (omega arith)

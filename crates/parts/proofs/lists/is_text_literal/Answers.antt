@@ -11,4 +11,4 @@ unfolding is_text_of
 returns-then-is_literal c = rw (sym c.is_literal.ensures ∙ c.if-is_literal.true) c.is_text.ensures
 
 pub returns-else-is_literal : goal.returns-else-is_literal
-returns-else-is_literal c = sym (no_sort_of is_literal _ (sym c.is_literal.ensures ∙ c.if-is_literal.false))
+returns-else-is_literal c = c.if-is_literal.false ∙ sym (no_sort_of is_literal _ (sym c.is_literal.ensures ∙ c.if-is_literal.false))

@@ -1,95 +1,59 @@
 -- `parts::lists::read_list` meets its contract: the invariant `Listing` says what was read and put so far; each turn takes a literal and a comma. Assumes nothing.
 use mathlib.Core.Path.{◌≡◌, ◌∙◌, sym, ap}
-use Prim.Native.Nat.{◌-◌}
 use native.Mathlib.Omega.{arith}
-use lib.ListN.{length}
 use borrow.Author.Rules.{rules}
-use borrow.Author.Tests.{not-true, not-false}
-use Rattle.reading.specs.Lexemes.{stream}
-use Rattle.grammar.specs.Parser.{read_list}
 use Rattle.table.specs.Entries.{literal_entry}
 use Rattle.parts.specs.Names.{sort_of}
-use Rattle.parts.proofs.Literals.{Listing, listing_none, free_past, listing_off, listing_full, listing_odd, listing_ends, listing_on}
+use Rattle.parts.proofs.Literals.{listing_none, free_past, listing_off, listing_full, listing_odd, taken, listing_ends, listing_on, listing_smaller}
 use Rattle.parts.proofs.Sorts.{sort_some, sort_of_lem, literal_of_lem}
-use Rattle.parts.proofs.Standing.{lowered}
-use Rattle.parts.proofs.Writing.{turned_done}
+use Rattle.parts.proofs.SoFar.{so_lies, so_high, so_small}
 use Rattle.parts.proofs.lists.read_list.Goals as goal
 
-pub loop-at-init : goal.loop-at-init
-loop-at-init c = listing_none _ _ _ _ _ _ _ c.requires.lies
-
-pub turned_away-requires : goal.turned_away-requires
-turned_away-requires c = c.loop-at.invariant.lies.order
-
-pub shape_of-table-then-not-is_sort : goal.shape_of-table-then-not-is_sort
-shape_of-table-then-not-is_sort c = c.loop-at.invariant.long
+pub loop-t-init : goal.loop-t-init
+loop-t-init c = listing_none (sort_of c.args.strings) c.args.reader.now c.requires.lies
 
 pub returns-then-not-is_sort : goal.returns-then-not-is_sort
-returns-then-not-is_sort c = turned_done (listing_off _ c.loop-at.invariant (sym (sort_of_lem _ _ _) ∙ sym c.is_sort.ensures ∙ c.if-not-is_sort.true) c.turned_away.ensures)
+returns-then-not-is_sort c = listing_off _ c.loop-t.invariant (sym (sort_of_lem _ _ _) ∙ sym c.is_sort.ensures ∙ c.if-not-is_sort.true)
 
-pub overflow_sub-free : goal.overflow_sub-free
-overflow_sub-free c = free_past _ c.loop-at.invariant
+pub overflow_sub-reader : goal.overflow_sub-reader
+overflow_sub-reader c = free_past _ c.loop-t.invariant
 
-pub turned_away-requires-then-free-number-ge-MOST_LITERALS : goal.turned_away-requires-then-free-number-ge-MOST_LITERALS
-turned_away-requires-then-free-number-ge-MOST_LITERALS c = c.loop-at.invariant.lies.order
-
-pub shape_of-table-then-free-number-ge-MOST_LITERALS : goal.shape_of-table-then-free-number-ge-MOST_LITERALS
-shape_of-table-then-free-number-ge-MOST_LITERALS c = c.loop-at.invariant.long
-
-pub returns-then-free-number-ge-MOST_LITERALS : goal.returns-then-free-number-ge-MOST_LITERALS
-returns-then-free-number-ge-MOST_LITERALS c = turned_done (listing_full _ c.loop-at.invariant (sym (sort_of_lem _ _ _) ∙ sym c.is_sort.ensures ∙ c.if-not-is_sort.false) c.if-free-number-ge-MOST_LITERALS.true c.turned_away-then-free-number-ge-MOST_LITERALS.ensures)
+pub returns-then-reader-first-ge-MOST_LITERALS : goal.returns-then-reader-first-ge-MOST_LITERALS
+returns-then-reader-first-ge-MOST_LITERALS c = listing_full _ c.loop-t.invariant (sym (sort_of_lem _ _ _) ∙ sym c.is_sort.ensures ∙ c.if-not-is_sort.false) c.if-reader-first-ge-MOST_LITERALS.true
 
 pub is_text-requires : goal.is_text-requires
-is_text-requires c = lowered (omega arith) c.loop-at.invariant.lies
-
-pub turned_away-requires-then-not-is_text : goal.turned_away-requires-then-not-is_text
-turned_away-requires-then-not-is_text c = c.loop-at.invariant.lies.order
-
-pub shape_of-table-then-not-is_text : goal.shape_of-table-then-not-is_text
-shape_of-table-then-not-is_text c = c.loop-at.invariant.long
+is_text-requires c = so_lies c.loop-t.invariant.so (omega arith)
 
 pub returns-then-not-is_text : goal.returns-then-not-is_text
-returns-then-not-is_text c = turned_done (listing_odd _ c.loop-at.invariant (sym (sort_of_lem _ _ _) ∙ sym c.is_sort.ensures ∙ c.if-not-is_sort.false) c.if-free-number-ge-MOST_LITERALS.false (sym c.is_text.ensures ∙ c.if-not-is_text.true) c.turned_away-then-not-is_text.ensures)
+returns-then-not-is_text c = listing_odd _ c.loop-t.invariant (sym (sort_of_lem _ _ _) ∙ sym c.is_sort.ensures ∙ c.if-not-is_sort.false) c.if-reader-first-ge-MOST_LITERALS.false (sym c.is_text.ensures ∙ c.if-not-is_text.true)
 
-pub append-ok-requires : goal.append-ok-requires
-append-ok-requires c =
-    let l = c.loop-at.invariant in
-    let p = c.requires in
-    omega (arith, l.room, l.lies.order, l.lies.high, p.lies.low, p.small)
+pub pass-requires : goal.pass-requires
+pass-requires c = so_high c.loop-t.invariant.so
 
-pub overflow_add-free : goal.overflow_add-free
-overflow_add-free c =
-    let l = c.loop-at.invariant in
-    let p = c.requires in
-    omega (arith, l.room, l.lies.order, l.lies.high, p.lies.low, p.small)
+pub put_entry-requires : goal.put_entry-requires
+put_entry-requires c = rw c.pass.ensures (so_small c.loop-t.invariant.so c.requires.small c.requires.lies.low)
 
-pub next_token-comma-requires : goal.next_token-comma-requires
-next_token-comma-requires c = (c.requires.table, c.loop-at.invariant.lies.high)
+pub expect-requires : goal.expect-requires
+expect-requires c =
+    let here = sym (sort_of_lem c.args.strings c.loop-t.reader.text.now c.loop-t.reader.next) ∙ sym c.is_sort.ensures ∙ c.if-not-is_sort.false in
+    so_lies (taken _ c.loop-t.invariant here (sort_some _ _ here) c.if-reader-first-ge-MOST_LITERALS.false (sym c.is_text.ensures ∙ c.if-not-is_text.false) _ (c.literal_entry.ensures ∙ ap literal_entry (literal_of_lem _ _)) c.pass.ensures c.put_entry.ensures) (omega arith)
 
-pub expected-requires : goal.expected-requires
-expected-requires c = (c.requires.table, lowered (omega arith) c.next_token-comma.ensures.lies)
+pub returns-then-reader-ne44 : goal.returns-then-reader-ne44
+returns-then-reader-ne44 c =
+    let here = sym (sort_of_lem c.args.strings c.loop-t.reader.text.now c.loop-t.reader.next) ∙ sym c.is_sort.ensures ∙ c.if-not-is_sort.false in
+    listing_ends _ c.loop-t.invariant here (sort_some _ _ here) c.if-reader-first-ge-MOST_LITERALS.false (sym c.is_text.ensures ∙ c.if-not-is_text.false) _ (c.literal_entry.ensures ∙ ap literal_entry (literal_of_lem _ _)) c.pass.ensures c.put_entry.ensures c.if-reader-ne44.true c.expect.ensures (omega arith)
 
-pub shape_of-table-then-comma-ne44 : goal.shape_of-table-then-comma-ne44
-shape_of-table-then-comma-ne44 c = omega (arith, c.loop-at.invariant.long, c.append-ok.auto)
+pub pass-requires-in-loop-t : goal.pass-requires-in-loop-t
+pass-requires-in-loop-t c =
+    let here = sym (sort_of_lem c.args.strings c.loop-t.reader.text.now c.loop-t.reader.next) ∙ sym c.is_sort.ensures ∙ c.if-not-is_sort.false in
+    so_high (taken _ c.loop-t.invariant here (sort_some _ _ here) c.if-reader-first-ge-MOST_LITERALS.false (sym c.is_text.ensures ∙ c.if-not-is_text.false) _ (c.literal_entry.ensures ∙ ap literal_entry (literal_of_lem _ _)) c.pass.ensures c.put_entry.ensures)
 
-pub returns-then-comma-ne44 : goal.returns-then-comma-ne44
-returns-then-comma-ne44 c =
-    let here = sym (sort_of_lem c.args.strings c.args.text.now c.loop-at.at) ∙ sym c.is_sort.ensures ∙ c.if-not-is_sort.false in
-    listing_ends _ c.loop-at.invariant here (sort_some _ _ here) c.if-free-number-ge-MOST_LITERALS.false (sym c.is_text.ensures ∙ c.if-not-is_text.false) _ (c.literal_entry.ensures ∙ ap literal_entry (literal_of_lem _ _)) c.append-ok.ensures _ c.next_token-comma.ensures.is c.next_token-comma.ensures.lies c.if-comma-ne44.true c.expected.ensures
+pub loop-t-smaller : goal.loop-t-smaller
+loop-t-smaller c =
+    let here = sym (sort_of_lem c.args.strings c.loop-t.reader.text.now c.loop-t.reader.next) ∙ sym c.is_sort.ensures ∙ c.if-not-is_sort.false in
+    listing_smaller _ c.loop-t.invariant here (sort_some _ _ here) c.if-reader-first-ge-MOST_LITERALS.false (sym c.is_text.ensures ∙ c.if-not-is_text.false) _ (c.literal_entry.ensures ∙ ap literal_entry (literal_of_lem _ _)) c.pass.ensures c.put_entry.ensures c.if-reader-ne44.false c.pass-in-loop-t.ensures
 
-pub next_token-at-requires : goal.next_token-at-requires
-next_token-at-requires c = (c.requires.table, c.next_token-comma.ensures.lies.high)
-
-pub loop-at-smaller : goal.loop-at-smaller
-loop-at-smaller c =
-    let comma = c.next_token-comma.result in
-    let s = c.next_token-comma.ensures.lies in
-    let n = c.next_token-at.ensures.lies in
-    let l = c.loop-at.invariant in
-    let some = s.some (λ (z : comma.kind ≡ 0). let e = c.if-comma-ne44.false in omega arith) in
-    omega (arith, some, s.low, n.low, n.order, n.high, l.lies.order)
-
-pub loop-at-preserved : goal.loop-at-preserved
-loop-at-preserved c =
-    let here = sym (sort_of_lem c.args.strings c.args.text.now c.loop-at.at) ∙ sym c.is_sort.ensures ∙ c.if-not-is_sort.false in
-    listing_on _ c.loop-at.invariant here (sort_some _ _ here) c.if-free-number-ge-MOST_LITERALS.false (sym c.is_text.ensures ∙ c.if-not-is_text.false) _ (c.literal_entry.ensures ∙ ap literal_entry (literal_of_lem _ _)) c.append-ok.ensures _ c.next_token-comma.ensures.is c.next_token-comma.ensures.lies c.if-comma-ne44.false c.append-ok.auto.table _ c.next_token-at.ensures.is c.next_token-at.ensures.lies
+pub loop-t-preserved : goal.loop-t-preserved
+loop-t-preserved c =
+    let here = sym (sort_of_lem c.args.strings c.loop-t.reader.text.now c.loop-t.reader.next) ∙ sym c.is_sort.ensures ∙ c.if-not-is_sort.false in
+    listing_on _ c.loop-t.invariant here (sort_some _ _ here) c.if-reader-first-ge-MOST_LITERALS.false (sym c.is_text.ensures ∙ c.if-not-is_text.false) _ (c.literal_entry.ensures ∙ ap literal_entry (literal_of_lem _ _)) c.pass.ensures c.put_entry.ensures c.if-reader-ne44.false c.pass-in-loop-t.ensures

@@ -1,20 +1,21 @@
 -- `parts::paths::root_kind` meets its contract: by the root. Assumes nothing.
-use borrow.Author.Tests.{eq-eqb, ne_eqb}
+use native.Mathlib.Omega.{arith}
+use borrow.Author.Tests.{ne_eqb}
 use Rattle.grammar.specs.Rules.{root_of}
 use Rattle.parts.proofs.paths.root_kind.Goals as goal
 
-pub returns-then-root-eq-PRINCIPAL : goal.returns-then-root-eq-PRINCIPAL
+pub returns-in-204 : goal.returns-in-204
 unfolding root_of
-returns-then-root-eq-PRINCIPAL c = rw (eq-eqb _ _ c.if-root-eq-PRINCIPAL.true)
+returns-in-204 c = rw c.in-204.is
 
-pub returns-then-root-eq-RESOURCE : goal.returns-then-root-eq-RESOURCE
+pub returns-in-205 : goal.returns-in-205
 unfolding root_of
-returns-then-root-eq-RESOURCE c = rw (ne_eqb _ _ c.if-root-eq-PRINCIPAL.false, eq-eqb _ _ c.if-root-eq-RESOURCE.true)
+returns-in-205 c = rw c.in-205.is
 
-pub returns-then-root-eq-ACTION : goal.returns-then-root-eq-ACTION
+pub returns-in-206 : goal.returns-in-206
 unfolding root_of
-returns-then-root-eq-ACTION c = rw (ne_eqb _ _ c.if-root-eq-PRINCIPAL.false, ne_eqb _ _ c.if-root-eq-RESOURCE.false, eq-eqb _ _ c.if-root-eq-ACTION.true)
+returns-in-206 c = rw c.in-206.is
 
-pub returns-else-root-eq-ACTION : goal.returns-else-root-eq-ACTION
+pub returns-in_default : goal.returns-in_default
 unfolding root_of
-returns-else-root-eq-ACTION c = rw (ne_eqb _ _ c.if-root-eq-PRINCIPAL.false, ne_eqb _ _ c.if-root-eq-RESOURCE.false, ne_eqb _ _ c.if-root-eq-ACTION.false)
+returns-in_default c = rw (ne_eqb c.args.root 204 (λ e. omega arith), ne_eqb c.args.root 205 (λ e. omega arith), ne_eqb c.args.root 206 (λ e. omega arith))

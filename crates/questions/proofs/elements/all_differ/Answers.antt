@@ -6,35 +6,37 @@ use Rattle.bags.proofs.ReadLaws.{first, many_more}
 use Rattle.bags.specs.Reading.{many, each}
 use Rattle.questions.proofs.ColumnLaws.{name_among}
 use Rattle.questions.proofs.DifferLaws.{differ_done, differ_twice, differ_on}
-use Rattle.questions.specs.Columns.{name_of, end_of}
 use Rattle.questions.specs.Distinct.{distinct}
+use Rattle.std.proofs.Common.{◌≡◌, ◌-◌, ◌+◌}
 use Rattle.questions.proofs.elements.all_differ.Goals as goal
 
-pub loop-left-init : goal.loop-left-init
-loop-left-init c = (refl, refl)
+pub loop-i-init : goal.loop-i-init
+loop-i-init g c = let e : c.args.n - 0 ≡ c.args.n = omega arith in rw e (refl, refl)
 
-pub element_next-e-requires : goal.element_next-e-requires
-element_next-e-requires c =
-    let f = first (end_of c.args.which c.args.s.now) c.loop-left.left c.loop-left.next c.requires.0 c.loop-left-test.true (c.loop-left.invariant.0 ∙ c.requires.1) in
+pub next-e-requires : goal.next-e-requires
+next-e-requires g c =
+    let f = first (g.T.Thing.ending c.args.s.now) (c.args.n - c.loop-i.i) c.loop-i.next c.requires.0 (omega arith) (c.loop-i.invariant.0 ∙ c.requires.1) in
     (f.stop, f.ends)
 
 pub name_end-end-requires : goal.name_end-end-requires
-name_end-end-requires c = c.element_next-e.ensures
+name_end-end-requires g c = c.next-e.ensures
 
 pub occurs-requires : goal.occurs-requires
-occurs-requires c = (c.requires.0, sym (many_more _ _ _ _ c.loop-left-test.true c.element_next-e.ensures) ∙ c.loop-left.invariant.0 ∙ c.requires.1)
+occurs-requires g c = (c.requires.0, sym (many_more _ _ _ _ (omega arith) c.next-e.ensures) ∙ c.loop-i.invariant.0 ∙ c.requires.1)
 
 pub returns-then-occurs : goal.returns-then-occurs
-returns-then-occurs c =
-    differ_twice _ _ _ _ c.loop-left-test.true _ c.element_next-e.ensures (name_among _ _ _ _ _ _ c.name_end-end.ensures _ c.occurs.ensures ∙ c.if-occurs.true)
-    ∙ c.loop-left.invariant.1
+returns-then-occurs g c =
+    differ_twice _ _ _ _ (omega arith) _ c.next-e.ensures (name_among _ _ _ _ _ _ c.name_end-end.ensures _ c.occurs.ensures ∙ c.if-occurs.true)
+    ∙ c.loop-i.invariant.1
 
-pub loop-left-preserved : goal.loop-left-preserved
-loop-left-preserved c = (
-  sym (many_more _ _ _ _ c.loop-left-test.true c.element_next-e.ensures) ∙ c.loop-left.invariant.0,
-  differ_on _ _ _ _ c.loop-left-test.true _ c.element_next-e.ensures (name_among _ _ _ _ _ _ c.name_end-end.ensures _ c.occurs.ensures ∙ c.if-occurs.false)
-      ∙ c.loop-left.invariant.1,
-)
+pub loop-i-preserved : goal.loop-i-preserved
+loop-i-preserved g c =
+    let e : c.args.n - (c.loop-i.i + 1) ≡ c.args.n - c.loop-i.i - 1 = omega arith in
+    rw e (
+      sym (many_more _ _ _ _ (omega arith) c.next-e.ensures) ∙ c.loop-i.invariant.0,
+      differ_on _ _ _ _ (omega arith) _ c.next-e.ensures (name_among _ _ _ _ _ _ c.name_end-end.ensures _ c.occurs.ensures ∙ c.if-occurs.false)
+          ∙ c.loop-i.invariant.1,
+    )
 
 pub returns : goal.returns
-returns c = differ_done _ _ _ _ (omega arith) ∙ c.loop-left.invariant.1
+returns g c = differ_done _ _ _ _ (omega arith) ∙ c.loop-i.invariant.1

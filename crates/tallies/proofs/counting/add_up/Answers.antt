@@ -1,8 +1,8 @@
 -- `tallies::counting::add_up` meets its contract: the sums so far stand behind the eight groups. Assumes nothing.
-use Rattle.tallies.proofs.Groups.{Summed, summed_none, summed_more, summed_all, still_few}
+use Rattle.tallies.proofs.Groups.{summed_none, summed_more, summed_all, still_few}
 use Rattle.pages.specs.Tally.{group_size}
 use native.Mathlib.Omega.{arith}
-use Prim.Native.Nat.{◌-◌, ◌≤◌}
+use Prim.Native.Nat.{◌-◌}
 use mathlib.Core.Path.{◌≡◌, sym, ◌∙◌}
 use Rattle.tallies.proofs.counting.add_up.Goals as goal
 

@@ -8,7 +8,7 @@ use Rattle.pages.proofs.Tallying.{group_long, group_few}
 use Rattle.pages.specs.Tally.{tally_of}
 use Rattle.placing.specs.Said.{words_of}
 use Rattle.stored.specs.ReadBack.{policies_at}
-use lib.ListN.{take}
+use lib.ListN.{take, replicate}
 use native.Mathlib.Omega.{arith}
 use Prim.Native.Nat.{ℕ, zero-le}
 use mathlib.Core.List.{List, ◌++◌}

@@ -1,15 +1,13 @@
 -- `tallies::counting::count_requests` meets its contract: the groups of the requests passed stand in the counts, and zeros behind them. Assumes nothing.
-use Rattle.tallies.proofs.Groups.{Filled, filled_none, filled_lent, filled_more, filled_all}
+use Rattle.tallies.proofs.Groups.{filled_none, filled_lent, filled_more, filled_all}
 use Rattle.tallies.proofs.Refusing.{none_wrong}
 use Rattle.tallies.proofs.Lending.{requests_found}
-use Rattle.tallies.specs.Counted.{group_by}
 use Rattle.tallies.specs.Tallies.{first_wrong}
 use Rattle.tallies.specs.Lent.{requests_of}
 use Rattle.pages.proofs.Tallying.{group_long}
 use lib.ListN.{length, take, drop, length-replicate}
-use borrow.Author.Rules.{rules}
 use native.Mathlib.Omega.{arith}
-use Prim.Native.Nat.{ℕ, ◌+◌, ◌-◌, ◌*◌, ◌≤◌}
+use Prim.Native.Nat.{ℕ, ◌+◌, ◌-◌, ◌*◌}
 use mathlib.Core.Path.{◌≡◌, sym, ap, ◌∙◌}
 use Rattle.tallies.proofs.counting.count_requests.Goals as goal
 
@@ -41,9 +39,6 @@ count_request-requires c =
       group_value = ap (λ (n : ℕ). take n (drop (68 * l.k) l.counts)) size ∙ filled_lent _ (λ q. group_long _ _) l.invariant.3 (omega (arith, c.requires.many_le_group_count));
       places_of = c.requires.places_of;
     }
-
-pub overflow_add-k : goal.overflow_add-k
-overflow_add-k c = omega (arith, c.requires.many_le_group_count)
 
 pub loop-k-preserved : goal.loop-k-preserved
 loop-k-preserved c =

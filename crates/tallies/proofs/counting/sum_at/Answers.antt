@@ -1,25 +1,24 @@
 -- `tallies::counting::sum_at` meets its contract: what is summed, and the groups that are left. Assumes nothing.
 use Rattle.tallies.proofs.Groups.{sum_on, sum_none}
-use Rattle.tallies.specs.Tallies.{group_count, sum_from}
 use native.Mathlib.Omega.{arith}
-use Prim.Native.Nat.{◌+◌, ◌-◌, ◌*◌, ◌≤◌}
+use Prim.Native.Nat.{◌+◌, ◌-◌}
 use mathlib.Core.Path.{◌≡◌}
 use Rattle.tallies.proofs.counting.sum_at.Goals as goal
 
-pub loop-left-init : goal.loop-left-init
-loop-left-init c = (omega arith, omega arith, omega arith, omega arith)
+pub loop-init : goal.loop-init
+loop-init c = (omega arith, omega arith, omega arith)
 
 pub overflow_add-sum : goal.overflow_add-sum
-overflow_add-sum c = omega (arith, c.requires.counts_few.few c.loop-left.at (omega arith))
+overflow_add-sum c = omega (arith, c.requires.counts_few.few c.loop.at (omega arith))
 
-pub loop-left-preserved : goal.loop-left-preserved
-loop-left-preserved c =
-    let l = c.loop-left in (
-      omega arith,
+pub loop-preserved : goal.loop-preserved
+loop-preserved c =
+    let l = c.loop in
+    let next : 8 - (l.counter + 1) ≡ 8 - l.counter - 1 = omega arith in (
       omega arith,
       omega (arith, c.requires.counts_few.few l.at (omega arith)),
-      omega (arith, l.invariant.3, sum_on l.left c.args.counts.now l.at c.loop-left-test.true),
+      rw next (omega (arith, l.invariant.2, sum_on (8 - l.counter) c.args.counts.now l.at (omega arith))),
     )
 
 pub returns : goal.returns
-returns c = let l = c.loop-left in omega (arith, l.invariant.3, sum_none l.left c.args.counts.now l.at (omega arith))
+returns c = let l = c.loop in omega (arith, l.invariant.2, sum_none (8 - l.counter) c.args.counts.now l.at (omega arith))

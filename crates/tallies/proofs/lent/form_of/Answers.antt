@@ -1,9 +1,7 @@
 -- `tallies::lent::form_of` meets its contract: a case for each part that is wrong. Assumes nothing.
 use Rattle.tallies.proofs.Refusing.{form_system, form_21, form_22, form_23, form_right}
 use Rattle.deciding.proofs.Answering.{untyped, typed_form}
-use borrow.Author.Tests.{not-true, not-false}
 use mathlib.Core.Path.{sym, ◌∙◌}
-use borrow.Author.Rules.{rules}
 use Rattle.tallies.proofs.lent.form_of.Goals as goal
 
 pub returns-then-is_system : goal.returns-then-is_system

@@ -1,7 +1,6 @@
 -- `tallies::lent::part_at` meets its contract: a part is wholly there, cut off, or without its length byte. Assumes nothing.
 use Rattle.tallies.proofs.Lending.{part_whole, part_short, part_none}
 use native.Mathlib.Omega.{arith}
-use borrow.Author.Rules.{rules}
 use Rattle.tallies.proofs.lent.part_at.Goals as goal
 
 pub overflow_cast-size : goal.overflow_cast-size

@@ -1,12 +1,8 @@
 -- `tokens::runs::long_run_end` meets its contract: the run's end from `i` on, and from each of the next places that are passed, is that from `at` on. Assumes nothing.
-use mathlib.Core.Path.{◌≡◌, sym, ◌∙◌}
-use Prim.Native.Nat.{ℕ, ◌≤◌, ◌-◌, ◌+◌}
-use native.Mathlib.Omega.{arith}
+use mathlib.Core.Path.{◌≡◌}
+use Prim.Native.Nat.{◌≤◌, ◌-◌}
 use lib.ListN.{length}
-use borrow.Author.Tests.{not-true, not-false}
-use borrow.Author.Rules.{rules}
 use Rattle.tokens.specs.Runs.{run_end}
-use Rattle.tokens.proofs.RunLaws.{goes_on, goes_to, stops}
 use Rattle.tokens.proofs.runs.long_run_end.Given as goal
 
 abbrev pub invariant-loop-i : goal.invariant-loop-i

@@ -1,15 +1,7 @@
 -- `tokens::runs::run_end` meets its contract: the end of the run from `i` on is the end of the run from `at` on. Assumes nothing.
-use mathlib.Core.Path.{◌≡◌, sym, ◌∙◌}
-use Prim.Native.Nat.{◌≤◌, ◌-◌}
-use lib.ListN.{length}
-use borrow.Author.Tests.{not-true, not-false}
-use borrow.Author.Rules.{rules}
+use mathlib.Core.Path.{◌≡◌}
 use Rattle.tokens.specs.Runs.{run_end}
-use Rattle.tokens.proofs.RunLaws.{goes_on, stops, ends}
 use Rattle.tokens.proofs.runs.run_end.Given as goal
 
 abbrev pub invariant-loop-i : goal.invariant-loop-i
-invariant-loop-i l = (run_end l.sort l.text l.i ≡ run_end l.sort l.text l.at) × (l.at ≤ l.i) × (l.i ≤ length l.text)
-
-abbrev pub decreases-loop-i : goal.decreases-loop-i
-decreases-loop-i l = length l.text - l.i
+invariant-loop-i l = run_end l.sort l.text l.i ≡ run_end l.sort l.text l.at

@@ -1,0 +1,7 @@
+-- `lookups::steps::many_next` meets its contract: the things left end where all do. Assumes nothing.
+use Rattle.std.proofs.Common.{◌≡◌, ◌-◌, ◌*◌}
+use Rattle.bags.specs.Reading.{many}
+use Rattle.lookups.proofs.steps.many_next.Given as goal
+
+abbrev pub invariant-loop : goal.invariant-loop
+invariant-loop g l = many (l.n - 2 * l.counter) (g.T.Thing.ending l.s) l.next ≡ many l.n (g.T.Thing.ending l.s) l.at
