@@ -43,8 +43,8 @@ abbrev pub table_size : ℕ → ℕ → TableSize
 table_size policies entries = record { policies = policies; entries = entries }
 
 -- what compiling answers where nothing is refused, and what it tells of a refusal
-abbrev pub compiled : ℕ → ℕ → Result Compiled Refused
-compiled policies bytes = Ok (record { policies = policies; bytes = bytes })
+abbrev pub compiled_to : ℕ → ℕ → Result Compiled Refused
+compiled_to policies bytes = Ok (record { policies = policies; bytes = bytes })
 
 abbrev pub refused : ℕ → Spot → Result Compiled Refused
 refused number at = Err (record { number = number; spot = at })
@@ -73,18 +73,18 @@ abbrev pub spot_of : List ℕ → ℕ → ℕ → Spot
 spot_of text at size = spot (place_of text at).line (place_of text at).column size
 
 -- what is told of a refusal at a token: its number, where the token stands, and its length
-abbrev pub refused_at : List ℕ → Refusal → Refused
-refused_at text f = record { number = f.number; spot = spot_of text f.start f.size }
+abbrev pub told_at : List ℕ → Refusal → Refused
+told_at text f = record { number = f.number; spot = spot_of text f.start f.size }
 
 -- what is told of a text that is not accepted; a refusal by a size has no place
 abbrev pub refused_for : List ℕ → Unaccepted → Refused
 refused_for text (Unfit number) = record { number = number; spot = nowhere }
-refused_for text (Turned f) = refused_at text f
+refused_for text (Turned f) = told_at text f
 
 -- what is told of what is found: policies and bytes used; or the refusal's number, and where the token stands that is refused, with its length; 1 and 2 have
 -- no place
 unfoldable pub told_of : List ℕ → Result TableSize Unaccepted → Result Compiled Refused
-told_of text (Ok found) = compiled found.policies (entry_size * found.entries)
+told_of text (Ok found) = compiled_to found.policies (entry_size * found.entries)
 told_of text (Err why) = Err (refused_for text why)
 
 -- what compiling under a version answers where so many bytes of table are lent

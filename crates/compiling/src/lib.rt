@@ -4,7 +4,7 @@
 ghost use Rattle.std.specs.Prelude.{◌≡◌, ◌≤◌, length};
 ghost use Rattle.parts.specs.declared.answers.Refusal.{Refusal};
 ghost use Rattle.compiling.specs.declared.Unaccepted.TheVariants.{Turned};
-ghost use Rattle.compiling.specs.Outcome.{nowhere, found_of, refused_at, refused_for, compiled_under, table_under, held_of, begins_of, CompiledInto};
+ghost use Rattle.compiling.specs.Outcome.{nowhere, found_of, told_at, refused_for, compiled_under, table_under, held_of, begins_of, CompiledInto};
 
 use grammar::Version;
 use parts::answers::Refusal;
@@ -77,7 +77,7 @@ pub fn recognise(text: &[u8], room: usize, version: Version) -> Result<TableSize
 // What is told of a refusal at a token: its number, where the token stands, and its length.
 fn told(text: &[u8], f: Refusal) -> Refused
     requires { f.start ≤ length text.now }
-    ensures { result ≡ refused_at text.now f }
+    ensures { result ≡ told_at text.now f }
 {
     let p = place_of(text, f.start);
     let spot = Spot {

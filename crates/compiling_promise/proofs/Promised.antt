@@ -35,7 +35,7 @@ use Rattle.slices.specs.Parts.{Begins}
 use Rattle.table.proofs.Holding.{length_bytes_of, starts_decides, held_starts}
 use Rattle.parts.specs.Answers.{refusal_at}
 use Rattle.parts.specs.declared.answers.Refusal.{Refusal}
-use Rattle.compiling.specs.Outcome.{table_size, compiled, refused, compile_said, room_for, said, compiled_bytes, nowhere, spot_of, found_by, found_of, told_of, compiled_under, compiled_of, table_by, table_under, table_after, begins_by, begins_of, held_by, held_of}
+use Rattle.compiling.specs.Outcome.{table_size, compiled_to, refused, compile_said, room_for, said, compiled_bytes, nowhere, spot_of, found_by, found_of, told_of, compiled_under, compiled_of, table_by, table_under, table_after, begins_by, begins_of, held_by, held_of}
 use Rattle.compiling_promise.specs.Promise.{UnderItsNumber, NoVersion, OtherVersion, ZerosElsewhere, AcceptedExactly, UnfitExactly, token_start, first_length, RefusedThere, RefusedExactly, bytes_said, bytes_for, BytesOfPolicies, TextAndVersionAlone, NothingChanged, NoPoliciesNoBytes, AsManyBytes, VersionRecorded, CompiledRecords, NoPoliciesNoVersion, OneCompiled, Begun, BeginsExactly, CompiledBegins, EnoughRoom, TableHolds, HeldRightly}
 use Rattle.compiling.specs.declared.TableSize.{TableSize}
 use Rattle.compiling.specs.declared.Unaccepted.{Unaccepted}
@@ -93,11 +93,11 @@ record FoundAs (version : Version) (text : List ℕ) (room policies bytes : ℕ)
   is : Ok (table_size policies entries) ≡ found_of version text room
   used : bytes ≡ entry_size * entries
 
-found_as : (version : Version) (text : List ℕ) (room policies bytes : ℕ) → compiled_under version text room ≡ compiled policies bytes → FoundAs version text room policies bytes
+found_as : (version : Version) (text : List ℕ) (room policies bytes : ℕ) → compiled_under version text room ≡ compiled_to policies bytes → FoundAs version text room policies bytes
 unfolding compiled_under told_of
 found_as version text room policies bytes e = go (found_of version text room) refl e
   where
-    go : (x : Result TableSize Unaccepted) → found_of version text room ≡ x → told_of text x ≡ compiled policies bytes → FoundAs version text room policies bytes
+    go : (x : Result TableSize Unaccepted) → found_of version text room ≡ x → told_of text x ≡ compiled_to policies bytes → FoundAs version text room policies bytes
     go (Ok s) q e =
         let same : record_of s.policies (entry_size * s.entries) ≡ record_of policies bytes = cc in
         record { entries = s.entries; is = rw (← ap (λ (c : Compiled). c.policies) same) (sym q); used = sym (ap (λ (c : Compiled). c.bytes) same) }
@@ -128,7 +128,7 @@ record Compiles (version : Version) (text : List ℕ) (room policies bytes : ℕ
   many : policies ≡ length value
   used : bytes ≡ length (compiled_bytes version value)
 
-compiles : (version : Version) (text : List ℕ) (room policies bytes : ℕ) → compiled_under version text room ≡ compiled policies bytes → Compiles version text room policies bytes
+compiles : (version : Version) (text : List ℕ) (room policies bytes : ℕ) → compiled_under version text room ≡ compiled_to policies bytes → Compiles version text room policies bytes
 compiles version text room policies bytes e =
     let f = found_as version text room policies bytes e in
     let h = accepts version text room policies f.entries f.is in
@@ -145,7 +145,7 @@ compiles version text room policies bytes e =
 -- ---- acceptance
 
 took_answer : (version : Version) (text : List ℕ) (room : ℕ) (ps : List Policy) (r : List Lexeme) → length text ≤ most_text_bytes → room_for text ≤ room → said text ≡ took ps r
-    → compiled_under version text room ≡ compiled (length ps) (length (compiled_bytes version ps))
+    → compiled_under version text room ≡ compiled_to (length ps) (length (compiled_bytes version ps))
 unfolding compiled_under told_of found_by
 took_answer version text room ps r l h e = rw (fitting version text room l h, e, length_compiled version ps)
 

@@ -16,7 +16,7 @@ use Rattle.table.specs.Entries.{policies_entries}
 use Rattle.slices.specs.Parts.{Begins}
 use Rattle.table.specs.Layout.{held}
 use Rattle.table.specs.Recorded.{recorded}
-use Rattle.compiling.specs.Outcome.{room_for, said, compiled_bytes, table_size, compiled, refused, nowhere, spot_of, compiled_under, compiled_of, compile_said, table_under, table_after}
+use Rattle.compiling.specs.Outcome.{room_for, said, compiled_bytes, table_size, compiled_to, refused, nowhere, spot_of, compiled_under, compiled_of, compile_said, table_under, table_after}
 use Rattle.compiling.specs.Outcome.{CompiledInto, held_of}
 use Rattle.compiling.specs.Outcome.{begins_of}
 use Rattle.compiling.specs.declared.Spot.{Spot}
@@ -54,7 +54,7 @@ pub record BelongsAs (version : Version) (text : List ℕ) (policies bytes : ℕ
 -- their bytes.
 unfoldable pub AcceptedExactly : Type 0
 AcceptedExactly = (version : Version) (text : List ℕ) (room policies bytes : ℕ) → length text ≤ most_text_bytes → room_for text ≤ room
-    → (compiled_under version text room ≡ compiled policies bytes) ↔ BelongsAs version text policies bytes
+    → (compiled_under version text room ≡ compiled_to policies bytes) ↔ BelongsAs version text policies bytes
 
 -- Refusals 1 and 2 go by the lengths of text and table alone, and come first, 1 before 2; their place is 0, 0, and their length 0.
 unfoldable pub UnfitExactly : Type 0
@@ -118,7 +118,7 @@ BytesOfPolicies = (version : Version) (text : List ℕ) (ps : List Policy) → S
 
 -- A text that is accepted has these bytes at the table's start, a function of the text and the version alone; the bytes past those stay.
 unfoldable pub TextAndVersionAlone : Type 0
-TextAndVersionAlone = (version : Version) (text old : List ℕ) (policies bytes : ℕ) → compiled_under version text (length old) ≡ compiled policies bytes
+TextAndVersionAlone = (version : Version) (text old : List ℕ) (policies bytes : ℕ) → compiled_under version text (length old) ≡ compiled_to policies bytes
     → (take bytes (table_under version text old) ≡ bytes_for version text) × (drop bytes (table_under version text old) ≡ drop bytes old)
 
 -- A refusal changes no byte of the table.
@@ -128,11 +128,11 @@ NothingChanged = (number : ℕ) (text old : List ℕ) (refusal : ℕ) (at : Spot
 
 -- 8 bytes of table for each byte of text are enough.
 unfoldable pub EnoughRoom : Type 0
-EnoughRoom = (version : Version) (text : List ℕ) (room policies bytes : ℕ) → compiled_under version text room ≡ compiled policies bytes → bytes ≤ room_for text
+EnoughRoom = (version : Version) (text : List ℕ) (room policies bytes : ℕ) → compiled_under version text room ≡ compiled_to policies bytes → bytes ≤ room_for text
 
 -- No policies use no bytes.
 unfoldable pub NoPoliciesNoBytes : Type 0
-NoPoliciesNoBytes = (version : Version) (text : List ℕ) (room bytes : ℕ) → compiled_under version text room ≡ compiled 0 bytes → bytes ≡ 0
+NoPoliciesNoBytes = (version : Version) (text : List ℕ) (room bytes : ℕ) → compiled_under version text room ≡ compiled_to 0 bytes → bytes ≡ 0
 
 -- Policies use as many bytes under one version as under another.
 unfoldable pub AsManyBytes : Type 0
@@ -147,7 +147,7 @@ VersionRecorded = (version : Version) (table : List ℕ) (p : Policy) (ps : List
 
 -- So a table into which a text with a policy was compiled records the version that it was compiled under.
 unfoldable pub CompiledRecords : Type 0
-CompiledRecords = (version : Version) (text old : List ℕ) (policies bytes : ℕ) → compiled_under version text (length old) ≡ compiled policies bytes
+CompiledRecords = (version : Version) (text old : List ℕ) (policies bytes : ℕ) → compiled_under version text (length old) ≡ compiled_to policies bytes
     → (policies ≡ 0 → ⊥) → recorded (table_under version text old) ≡ version
 
 -- A text without policies has no version: it has the same bytes, none, under each.
@@ -175,7 +175,7 @@ BeginsExactly = (text table : List ℕ) → (begins_of text table ≡ true) ↔ 
 
 -- A table into which a text was compiled begins right.
 unfoldable pub CompiledBegins : Type 0
-CompiledBegins = (version : Version) (text old : List ℕ) (policies bytes : ℕ) → compiled_under version text (length old) ≡ compiled policies bytes
+CompiledBegins = (version : Version) (text old : List ℕ) (policies bytes : ℕ) → compiled_under version text (length old) ≡ compiled_to policies bytes
     → begins_of text (table_under version text old) ≡ true
 
 -- the text is a rule text of at most 8,192 bytes that says so many policies, and the table has their entries from its beginning on, under the version that it

@@ -27,7 +27,7 @@ use Rattle.permits.proofs.Says.{permit_says}
 use Rattle.permits.proofs.Means.{permit_means}
 use Rattle.locks.specs.Forms.{Lockable}
 use Rattle.locks.specs.Promise.{LockCall, Answers, no_lock, no_room, permit, answer_to, room_left, permit_for, AnsweredExactly, RoomUnchanged, PermitStands, OneLock}
-use Rattle.locks.specs.Answers.{Answer}
+use Rattle.locks.specs.Answers.{LockAnswer}
 use Rattle.std.specs.Prelude.{Ok, Err}
 use Rattle.locks.proofs.Exactly.{made, all_fit}
 use Rattle.locks.proofs.Promised as locks
@@ -44,7 +44,7 @@ answers : (c : LockCall) → Answers c (answer_to c)
 unfolding AnsweredExactly
 answers c = (locks.answered_exactly c (answer_to c)).0 refl
 
-numbered : (c : LockCall) {a : Answer} → Answers c a → LockRefused c (locked_as a).refusal
+numbered : (c : LockCall) {a : LockAnswer} → Answers c a → LockRefused c (locked_as a).refusal
 unfolding locked_as
 numbered c (no_lock n) = promises.no_lock n
 numbered c (no_room s h) = promises.longer_than_its_room s h
@@ -52,9 +52,9 @@ numbered c (permit s h) = promises.none_wrong s h
 
 refused_is : (c : LockCall) {number : ℕ} → LockRefused c number → (lock_for c).refusal ≡ number
 unfolding lock_says locked_as AnsweredExactly
-refused_is c (promises.no_lock n) = ap (λ (a : Answer). (locked_as a).refusal) ((locks.answered_exactly c _).1 (no_lock n))
-refused_is c (promises.longer_than_its_room s h) = ap (λ (a : Answer). (locked_as a).refusal) ((locks.answered_exactly c _).1 (no_room s h))
-refused_is c (promises.none_wrong s h) = ap (λ (a : Answer). (locked_as a).refusal) ((locks.answered_exactly c _).1 (permit s h))
+refused_is c (promises.no_lock n) = ap (λ (a : LockAnswer). (locked_as a).refusal) ((locks.answered_exactly c _).1 (no_lock n))
+refused_is c (promises.longer_than_its_room s h) = ap (λ (a : LockAnswer). (locked_as a).refusal) ((locks.answered_exactly c _).1 (no_room s h))
+refused_is c (promises.none_wrong s h) = ap (λ (a : LockAnswer). (locked_as a).refusal) ((locks.answered_exactly c _).1 (permit s h))
 
 pub lock_exactly : (c : LockCall) (number : ℕ) → ((lock_for c).refusal ≡ number) ↔ LockRefused c number
 unfolding lock_says
@@ -69,7 +69,7 @@ lock_refusals c = go ((lock_exactly c (lock_for c).refusal).0 refl)
     go (promises.none_wrong s h) = Memᴰ.head refl
 
 -- an answer that is a refusal
-refused : (a : Answer) → ((locked_as a).refusal ≡ 0 → ⊥) → (number : ℕ) × (a ≡ Err number)
+refused : (a : LockAnswer) → ((locked_as a).refusal ≡ 0 → ⊥) → (number : ℕ) × (a ≡ Err number)
 unfolding locked_as
 refused (Ok n) h = absurd (h refl)
 refused (Err n) h = (n, refl)
@@ -80,7 +80,7 @@ lock_stays c h = let r = refused (answer_to c) h in locks.nothing_changed c r.0 
 
 pub lock_zeros : (c : LockCall) → ((lock_for c).refusal ≡ 0 → ⊥) → (lock_for c).length ≡ 0
 unfolding lock_says locked_as
-lock_zeros c h = let r = refused (answer_to c) h in ap (λ (a : Answer). (locked_as a).length) r.1
+lock_zeros c h = let r = refused (answer_to c) h in ap (λ (a : LockAnswer). (locked_as a).length) r.1
 
 pub one_lock : (c : LockCall) (actions actions' : List Word) (tests tests' : List Test) → SaysLock c actions tests → SaysLock c actions' tests'
     → (actions ≡ actions') × (tests ≡ tests')
@@ -170,7 +170,7 @@ module _ (c : LockCall) where
       let e : (version : Version) (view : View) (q : Request) → (satisfied (under version view) q p ≡ true) ↔ LockHolds view q actions c.resource (t ∷ ts) =
       λ version view q. permit_means version view q actions c.resource t ts in
       record {
-        long = ap (λ (a : Answer). (locked_as a).length) ((locks.answered_exactly c _).1 (permit s i));
+        long = ap (λ (a : LockAnswer). (locked_as a).length) ((locks.answered_exactly c _).1 (permit s i));
         written = locks.permit_stands c actions (t ∷ ts) s i;
         compiles = λ version table r. (texts.accepted_exactly version (permit_for c actions (t ∷ ts)) table r).1 (record { policies = k.policies; says = y });
         policies = k.policies;

@@ -63,7 +63,7 @@ module _ (version : Version) (text table : List ℕ) where
 
   -- what compiling answers, and why
   data Told (c : Result Compiled Refused) : Type 0 where
-    told_accepted : (ps : List Policy) → Says text ps → room_for text ≤ length table → c ≡ compiling.compiled (length ps) (length (compiled_bytes version ps)) → Told c
+    told_accepted : (ps : List Policy) → Says text ps → room_for text ≤ length table → c ≡ compiling.compiled_to (length ps) (length (compiled_bytes version ps)) → Told c
     told_long : most_text_bytes < length text → c ≡ compiling.refused 1 nowhere → Told c
     told_no_room : length text ≤ most_text_bytes → length table < room_for text → c ≡ compiling.refused 2 nowhere → Told c
     told_broken : (number : ℕ) (at : Spot) → length text ≤ most_text_bytes → room_for text ≤ length table → RefusedThere text number at → c ≡ compiling.refused number at → Told c
@@ -72,7 +72,7 @@ module _ (version : Version) (text table : List ℕ) where
   unfolding AcceptedExactly RefusedExactly
   by_tokens l h (Ok a) e =
       let b = (accepted version text (length table) a.policies a.bytes l h).0 (sym answer_is ∙ e) in
-      told_accepted b.value (record { short = l; belongs = b.belongs }) h (ap₂ compiling.compiled b.many b.used)
+      told_accepted b.value (record { short = l; belongs = b.belongs }) h (ap₂ compiling.compiled_to b.many b.used)
   by_tokens l h (Err r) e = told_broken r.number r.spot l h ((refused_there version text (length table) r.number r.spot l h).0 (sym answer_is ∙ e)) refl
 
   long_answer : most_text_bytes < length text → answer ≡ compiling.refused 1 nowhere
@@ -135,7 +135,7 @@ module _ (version : Version) (text table : List ℕ) where
   accepted_says (told_no_room l h e) = rw e (λ n. absurd (omega arith))
   accepted_says (told_broken number at l h r e) = rw e (λ n. absurd (let k = (token_number r).0 in omega arith))
 
-  says_accepted : (ps : List Policy) → Says text ps → room_for text ≤ length table → answer ≡ compiling.compiled (length ps) (length (compiled_bytes version ps))
+  says_accepted : (ps : List Policy) → Says text ps → room_for text ≤ length table → answer ≡ compiling.compiled_to (length ps) (length (compiled_bytes version ps))
   unfolding AcceptedExactly
   says_accepted ps s h =
       answer_is ∙ (accepted version text (length table) (length ps) (length (compiled_bytes version ps)) s.short h).1 (record { value = ps; belongs = s.belongs; many = refl; used = refl })
@@ -190,7 +190,7 @@ module _ (version : Version) (text table : List ℕ) where
   no_bytes_under = go answer refl
     where
       go : (c : Result Compiled Refused) → answer ≡ c → (compile_said c).policies ≡ 0 → (compile_said c).bytes ≡ 0
-      go (Ok a) e n = compiling_proofs.no_policies_no_bytes version text (length table) a.bytes (sym answer_is ∙ e ∙ ap (λ (p : ℕ). compiling.compiled p a.bytes) n)
+      go (Ok a) e n = compiling_proofs.no_policies_no_bytes version text (length table) a.bytes (sym answer_is ∙ e ∙ ap (λ (p : ℕ). compiling.compiled_to p a.bytes) n)
       go (Err r) e n = refl
 
   many_few : {c : Result Compiled Refused} → Told c → (compile_said c).policies ≤ 64

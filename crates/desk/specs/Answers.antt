@@ -15,7 +15,7 @@ use Rattle.sheets.specs.Promise.{SheetCall}
 use Rattle.tallies.specs.Tallies as tallies
 use Rattle.tallies.specs.Promise.{TallyCall}
 use Rattle.locks.specs.Answers as locks
-use Rattle.locks.specs.Answers.{Answer}
+use Rattle.locks.specs.Answers.{LockAnswer}
 use Rattle.locks.specs.Promise.{LockCall}
 use Rattle.desk.specs.declared.DeskCompiled.{DeskCompiled}
 use Rattle.desk.specs.declared.DeskDecision.{DeskDecision}
@@ -130,7 +130,7 @@ rows_say question = cond (is_question question) (sheets.rows_asked question) 0
 -- ---- lock(vocabulary, lock, actions, resource, room)
 
 -- the refusal, or the permit's length
-unfoldable pub locked_as : Answer → DeskLock
+unfoldable pub locked_as : LockAnswer → DeskLock
 locked_as (Ok length) = record { refusal = 0; length = length }
 locked_as (Err number) = record { refusal = number; length = 0 }
 

@@ -1,25 +1,44 @@
 -- Laws of lines of decimal numbers that are put into a lent buffer. Assumes nothing.
 use mathlib.Core.Path.{◌≡◌, refl, sym, ap, ◌∙◌}
+use mathlib.Core.Bool.{Bool, true, false, cond}
 use mathlib.Core.List.{List, [], ◌∷◌, ◌++◌, append_assoc, append-nil}
-use Prim.Native.Nat.{ℕ, suc, ◌+◌, ◌^◌, ◌≤◌, ◌<◌}
+use Prim.Native.Nat.{ℕ, zero, suc, ◌+◌, ◌*◌, ◌/◌, ◌%◌, ◌^◌, ◌≤◌, ◌<◌}
 use Prim.Native.Char.{code}
 use native.Mathlib.Omega.{arith}
 use lib.ListN.{length, take, drop, get_or, length-append, length-drop, drop_of_length-le}
 use lib.Seq.{drop-drop, get_or-drop}
-use Rattle.std.specs.Prelude.{decimal}
-use Rattle.std.proofs.lemmas.Fmt.{length-decimal-le}
+use Rattle.std.specs.Prelude.{decimal, ◌==◌}
+use borrow.Author.Tests.{eqb-false}
+use Rattle.std.proofs.Math.Nat.{pow-suc}
+use Rattle.std.specs.Fmt.{digits, digits_onto, digit_glyph}
 use Rattle.folder.specs.Added.{Added}
 use Rattle.folder.specs.Decimals.{numbers_line}
 
+-- digits put before others, of a number below a power of ten
+few_onto : (most k n : ℕ) (acc : List ℕ) → n < 10 ^ suc k → length (digits_onto most 10 false n acc) ≤ length acc + suc k
+few_onto zero k n acc h = omega arith
+few_onto (suc most) k n acc h = go k h (λ k. few_onto most k (n / 10) (digit_glyph false (n % 10) ∷ acc)) (n / 10 == 0) refl
+  where
+    go : (k : ℕ) → n < 10 ^ suc k → ((k : ℕ) → n / 10 < 10 ^ suc k → length (digits_onto most 10 false (n / 10) (digit_glyph false (n % 10) ∷ acc)) ≤ suc (length acc) + suc k)
+        → (t : Bool) → (n / 10 == 0) ≡ t
+        → length (cond t (digit_glyph false (n % 10) ∷ acc) (digits_onto most 10 false (n / 10) (digit_glyph false (n % 10) ∷ acc))) ≤ length acc + suc k
+    go k h rest true e = omega arith
+    go zero h rest false e = let some = eqb-false (n / 10) 0 e in absurd (omega (arith, some, h))
+    go (suc k) h rest false e =
+        let ten : 10 ^ suc (suc k) ≡ 10 ^ suc k * 10 = pow-suc 10 (suc k) in
+        let less : n / 10 < 10 ^ suc k = omega (arith, h, ten) in
+        omega (arith, rest k less)
+
 -- a number below a power of ten has no more digits than the power says
-pub few_digits : (k n : ℕ) → n < 10 ^ suc k → n < 2 ^ 64 → length (decimal n) ≤ suc k
-few_digits k n h g = length-decimal-le (suc k) n (omega arith) h g
+pub few_digits : (k n : ℕ) → n < 10 ^ suc k → length (decimal n) ≤ suc k
+unfolding digits
+few_digits k n h = omega (arith, few_onto 64 k n [] h)
 
 -- a row number of four bytes, two bytes and a mark of eight take at most 40 bytes
 pub four_long : (x y z w : ℕ) → x < 4294967296 → y < 256 → z < 256 → w < 18446744073709551616 → length (numbers_line (x ∷ y ∷ z ∷ w ∷ [])) ≤ 40
 unfolding numbers_line
 four_long x y z w f g h k =
-    simp length-append (omega (arith, few_digits 9 x (omega arith) (omega arith), few_digits 2 y (omega arith) (omega arith), few_digits 2 z (omega arith) (omega arith), few_digits 19 w (omega arith) (omega arith)))
+    simp length-append (omega (arith, few_digits 9 x (omega arith), few_digits 2 y (omega arith), few_digits 2 z (omega arith), few_digits 19 w (omega arith)))
 
 -- ---- a line, number for number
 

@@ -62,7 +62,7 @@ module _ {s : List ℕ} {n i : ℕ} (k : Counted s n i) where
       rw (points_counted s ((utf8_decides s).sound u), k.count, drop_of_length-le s h, n_is)
 
 -- a string of at most so many bytes has no more characters
-counted_few : (s : List ℕ) → length s ≤ 100 → utf8 s ≡ true → false ≡ ltb 100 (length (points s))
+pub counted_few : (s : List ℕ) → length s ≤ 100 → utf8 s ≡ true → false ≡ ltb 100 (length (points s))
 counted_few s h u = sym (rw (points_counted s ((utf8_decides s).sound u)) (le-ltb _ _ (let x = begin_few s in omega arith)))
 
 -- ---- of what a string has between its quotes

@@ -13,7 +13,7 @@ use Rattle.reading.specs.Lexemes.{Lexeme, lexeme, is, choose, stream}
 use Rattle.reading.specs.Reader as reading
 use Rattle.reading.specs.Reader.{took, refuse, refuse_by, ten, bind, on, need, before, mapped}
 use Rattle.table.specs.declared.Entry.{Entry}
-use Rattle.parts.specs.Answers.{turned_away, TurnedAway, Taken, AnswerIs, read, refused, Keeps, DoneFrom, passed, ReadyToRead, PutBy, PathWalks}
+use Rattle.parts.specs.Answers.{turned_away, TurnedAway, Taken, AnswerIs, read, refused, StillLent, DoneFrom, passed, ReadyToRead, PutBy, PathWalks}
 use Rattle.parts.specs.declared.paths.Path.{Path}
 use Rattle.grammar.specs.Parser.{Way}
 use Rattle.parts.specs.declared.answers.Reader.{Reader}
@@ -38,7 +38,7 @@ module _ {A : Type 0} {es : ℕ → A → List Entry} where
   handed {from} {from'} {q} {old} {at} {new} {r} f e s l d = handed_on s l (go (subst (λ (x : Reader). DoneFrom es from' (f (stream x.text.now x.next)) x new r) e d))
     where
       go : DoneFrom es from' (f (stream old.text.now (token_at old.text.now old.next.end))) (passed old) new r → DoneFrom es from' (f (stream old.text.now (token_at old.text.now old.next.end))) old new r
-      go d = record { keeps = record { text = d.keeps.text; seen = d.keeps.seen; table = d.keeps.table }; says = d.says; wrote = d.wrote }
+      go d = record { keeps = record { text = d.keeps.text; seen = d.keeps.seen; table = d.keeps.table; room = d.keeps.room }; says = d.says; wrote = d.wrote }
 
 -- ---- what a call asks after one token, after one entry, and after what was read
 

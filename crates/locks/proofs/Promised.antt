@@ -10,7 +10,7 @@ use lib.ListN.{length, drop}
 use borrow.Author.Tests.{le-leb, lt-leb, leb-true, leb-false}
 use Rattle.locks.specs.Answers.{Read, read_of, answer_for, room_by, no_lock_refusal, no_room_refusal, Locked}
 use Rattle.locks.specs.Promise.{LockCall, permit_for, Answers, no_lock, no_room, permit, answer_to, AnsweredExactly, RoomUnchanged, PermitStands, OneLock}
-use Rattle.locks.specs.Answers.{Answer}
+use Rattle.locks.specs.Answers.{LockAnswer}
 use Rattle.std.specs.Prelude.{Ok, Err}
 use Rattle.locks.proofs.Exactly.{read_sound, read_complete}
 
@@ -36,7 +36,7 @@ answers c = go (read_by c) refl
     go (some x) q = rw q (fits x q (leb (length (permit_for c x.actions x.tests)) (length c.room)) refl)
 
 -- and no other is
-only_answer : (c : LockCall) {answer : Answer} → Answers c answer → answer_to c ≡ answer
+only_answer : (c : LockCall) {answer : LockAnswer} → Answers c answer → answer_to c ≡ answer
 unfolding answer_for
 only_answer c (no_lock n) = go (read_by c) refl
   where
@@ -82,5 +82,5 @@ one_lock v l a r acts acts' ts ts' s t =
     same q = cc
 
 -- two answers that the contract allows, with two rooms, are the same
-pub one_result : {v l a r before : List ℕ} {x y : Answer} {s t : List ℕ} → Locked v l a r before x s → Locked v l a r before y t → (x ≡ y) × (s ≡ t)
+pub one_result : {v l a r before : List ℕ} {x y : LockAnswer} {s t : List ℕ} → Locked v l a r before x s → Locked v l a r before y t → (x ≡ y) × (s ≡ t)
 one_result p q = (p.answered ∙ sym q.answered, p.bytes ∙ sym q.bytes)

@@ -51,8 +51,8 @@ size_for r none = None
 size_for r (some x) = Some (length (permit_text x.actions r x.tests))
 
 -- what the call answers: the permit's length, or the refusal's number
-abbrev pub Answer : Type 0
-Answer = Result ℕ ℕ
+abbrev pub LockAnswer : Type 0
+LockAnswer = Result ℕ ℕ
 
 -- the refusals: no lock, no room
 abbrev pub no_lock_refusal : ℕ
@@ -62,7 +62,7 @@ abbrev pub no_room_refusal : ℕ
 no_room_refusal = 29
 
 -- a permit's length, if it fits
-abbrev pub length_in : List ℕ → List ℕ → Answer
+abbrev pub length_in : List ℕ → List ℕ → LockAnswer
 length_in permit room = cond (leb (length permit) (length room)) (Ok (length permit)) (Err no_room_refusal)
 
 -- a permit over the start of a room, if it fits
@@ -70,7 +70,7 @@ abbrev pub over_start : List ℕ → List ℕ → List ℕ
 over_start permit room = cond (leb (length permit) (length room)) (permit ++ drop (length permit) room) room
 
 -- what is answered, by what is read
-unfoldable pub answer_for : List ℕ → List ℕ → Option Read → Answer
+unfoldable pub answer_for : List ℕ → List ℕ → Option Read → LockAnswer
 answer_for r room none = Err no_lock_refusal
 answer_for r room (some x) = length_in (permit_text x.actions r x.tests) room
 
@@ -80,7 +80,7 @@ room_by r room none = room
 room_by r room (some x) = over_start (permit_text x.actions r x.tests) room
 
 -- what is answered
-abbrev pub answer_of : List ℕ → List ℕ → List ℕ → List ℕ → List ℕ → Answer
+abbrev pub answer_of : List ℕ → List ℕ → List ℕ → List ℕ → List ℕ → LockAnswer
 answer_of v l a r room = answer_for r room (read_of v l a r)
 
 -- the room afterwards
@@ -88,7 +88,7 @@ abbrev pub room_after : List ℕ → List ℕ → List ℕ → List ℕ → List
 room_after v l a r room = room_by r room (read_of v l a r)
 
 -- all that the contract says: one answer, one content of the room
-pub record Locked (v l a r before : List ℕ) (answer : Answer) (after : List ℕ) : Type 0 where
+pub record Locked (v l a r before : List ℕ) (answer : LockAnswer) (after : List ℕ) : Type 0 where
   pub answered : answer ≡ answer_of v l a r before
   pub bytes : after ≡ room_after v l a r before
 

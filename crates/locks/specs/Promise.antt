@@ -3,7 +3,7 @@ use Rattle.std.specs.Prelude.{◌≡◌, ◌↔◌, Ok, Err, List, ◌++◌, ℕ
 use Rattle.placing.specs.Said.{Word}
 use Rattle.permits.specs.Permits.{Test, permit_text}
 use Rattle.locks.specs.Forms.{Lockable, NoLock}
-use Rattle.locks.specs.Answers.{Answer, answer_of, room_after, no_lock_refusal, no_room_refusal}
+use Rattle.locks.specs.Answers.{LockAnswer, answer_of, room_after, no_lock_refusal, no_room_refusal}
 
 -- what the call is lent: vocabulary, lock, action list, resource, and the room for the permit
 pub record LockCall : Type 0 where
@@ -22,7 +22,7 @@ abbrev pub permit_for : LockCall → List Word → List Test → List ℕ
 permit_for c actions tests = permit_text actions c.resource tests
 
 -- When a call gets which answer: 28 where it says no lock; 29 where it says one whose permit is longer than its room; else the permit's length.
-pub data Answers (c : LockCall) : Answer → Type 0 where
+pub data Answers (c : LockCall) : LockAnswer → Type 0 where
   no_lock : NoLock c.vocabulary c.lock c.actions c.resource → Answers c (Err no_lock_refusal)
   no_room : {actions : List Word} {tests : List Test} → CallSays c actions tests → length c.room < length (permit_for c actions tests)
       → Answers c (Err no_room_refusal)
@@ -30,7 +30,7 @@ pub data Answers (c : LockCall) : Answer → Type 0 where
       → Answers c (Ok (length (permit_for c actions tests)))
 
 -- what is answered, and the room afterwards
-abbrev pub answer_to : LockCall → Answer
+abbrev pub answer_to : LockCall → LockAnswer
 answer_to c = answer_of c.vocabulary c.lock c.actions c.resource c.room
 
 abbrev pub room_left : LockCall → List ℕ
@@ -38,7 +38,7 @@ room_left c = room_after c.vocabulary c.lock c.actions c.resource c.room
 
 -- Each answer is given exactly when document 02 says.
 unfoldable pub AnsweredExactly : Type 0
-AnsweredExactly = (c : LockCall) (answer : Answer) → (answer_to c ≡ answer) ↔ Answers c answer
+AnsweredExactly = (c : LockCall) (answer : LockAnswer) → (answer_to c ≡ answer) ↔ Answers c answer
 
 -- A refusal changes nothing.
 unfoldable pub RoomUnchanged : Type 0

@@ -27,8 +27,9 @@ pub fn same_bytes(a: &[u8], b: &[u8]) -> bool
     if !same_four(a, b, last) {
         return false;
     }
-    for i in (0..last).step_by(4) {
-        if !same_four(a, b, i) {
+    // by fours that are counted: a range that steps passes over what lies between one by one
+    for n in 0..(last + 3) / 4 {
+        if !same_four(a, b, 4 * n) {
             return false;
         }
     }

@@ -45,8 +45,34 @@ fn of_bag(root: u8) -> bool
     entries::PRINCIPAL <= root && root <= entries::ENV
 }
 
+// A literal's value: the text alone has it.
+pub fn literal_value(text: &[u8], o: Entry) -> Value
+    requires { LiteralPlaced text.now (literal_of_entry o) }
+    ensures { result ≡ literal_read text.now o }
+{
+    match o.kind {
+        entries::STRING => A_STRING,
+        entries::NUMBER => Value {
+            kind: bags::values::NUMBER,
+            number: number(&text[o.first..o.second]),
+            place: 0,
+        },
+        entries::TRUE => Value {
+            kind: bags::values::FLAG,
+            number: 1.0,
+            place: 0,
+        },
+        _ => Value {
+            kind: bags::values::FLAG,
+            number: 0.0,
+            place: 0,
+        },
+    }
+}
+
 impl<'a> Row<'a> {
     // An attribute's value. The action has no attribute but its name.
+    #[inline(always)]
     pub fn attribute_value(&self, o: Entry) -> Value
         requires { Lies self.now.text.now (span_of_entry o) }
         ensures { result ≡ attribute_read self.now.text.now self.now.s.now self.now.places.now self.now.values.now o }
@@ -65,25 +91,7 @@ impl<'a> Row<'a> {
         requires { LiteralPlaced self.now.text.now (literal_of_entry o) }
         ensures { result ≡ literal_read self.now.text.now o }
     {
-        let text = self.text;
-        match o.kind {
-            entries::STRING => A_STRING,
-            entries::NUMBER => Value {
-                kind: bags::values::NUMBER,
-                number: number(&text[o.first..o.second]),
-                place: 0,
-            },
-            entries::TRUE => Value {
-                kind: bags::values::FLAG,
-                number: 1.0,
-                place: 0,
-            },
-            _ => Value {
-                kind: bags::values::FLAG,
-                number: 0.0,
-                place: 0,
-            },
-        }
+        literal_value(self.text, o)
     }
 
     // An operand's value.

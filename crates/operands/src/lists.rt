@@ -12,7 +12,7 @@ ghost use Rattle.meaning.specs.Values.{if_text, literal_value, compares};
 ghost use Rattle.meaning.specs.Conditions.{some, among_strings};
 ghost use Rattle.operands.specs.Operands.{among_literals, literals_listed};
 
-use crate::values::values_hold;
+use crate::values::{same_string, values_hold};
 use crate::{Row, quoted};
 use lookups::values::Value;
 use table::{Entry, entries, entry_in};
@@ -56,7 +56,7 @@ fn in_strings(s: &[u8], n: usize, at: usize, x: &[u8]) -> bool
     for _ in 0..n {
         let start = next + 1;
         let end = start + s[next] as usize;
-        if x == &s[start..end] {
+        if same_string(x, &s[start..end]) {
             return true;
         }
         next = end;

@@ -1,11 +1,13 @@
 // Two read values, each with its string beside it: whether a comparator holds of them.
 ghost use Rattle.std.specs.Prelude.{◌≡◌, List, ℕ, Float};
+ghost use Rattle.slices.specs.Same.{same};
 ghost use Rattle.numbers.specs.Comparing.{holds};
 ghost use Rattle.views.specs.Meaning.{present};
 ghost use Rattle.views.specs.Values.{datum_of};
 ghost use Rattle.stored.specs.ReadBack.{comparator_of_kind};
 ghost use Rattle.meaning.specs.Values.{ordered, equality, compares as compares_values};
 
+use lookups::bytes::same_bytes;
 use lookups::values::Value;
 use numbers::comparing::{Comparator, compares};
 use table::entries;
@@ -35,6 +37,17 @@ fn equality_holds(kind: u8, same: bool) -> bool
     }
 }
 
+// Whether two strings are the same: their lengths first. Few bytes go by fours, the last ones first, since `==` calls out where the first ones are alike.
+pub fn same_string(a: &[u8], b: &[u8]) -> bool
+    ensures { result ≡ same a.now b.now }
+{
+    if a.len() == b.len() && a.len() <= 32 {
+        same_bytes(a, b)
+    } else {
+        a == b
+    }
+}
+
 // Whether a value is not absent.
 pub fn is_present(v: Value) -> bool
     ensures { (x : List ℕ) (l : List (List ℕ)) → result ≡ present (datum_of v x l) }
@@ -50,7 +63,7 @@ pub fn values_hold(kind: u8, v: Value, x: &[u8], w: Value, y: &[u8]) -> bool
         return false;
     }
     match v.kind {
-        bags::values::STRING => equality_holds(kind, x == y),
+        bags::values::STRING => equality_holds(kind, same_string(x, y)),
         bags::values::NUMBER => compares(comparator_of(kind), v.number, w.number),
         bags::values::FLAG => { equality_holds(kind, (v.number == 1.0) == (w.number == 1.0)) }
         _ => false,

@@ -6,3 +6,4 @@ pub mod Roots
 pub mod Ways
 pub mod Texts
 pub mod Literals
+pub mod Inside

@@ -18,24 +18,24 @@ use Rattle.reading.specs.Reader.{took, refuse, refuse_by, ten, bind, on, need, b
 use Rattle.reading.proofs.Stream.{next_on, next_off}
 use Rattle.table.specs.declared.Entry.{Entry}
 use Rattle.table.specs.Layout.{puts}
-use Rattle.parts.specs.Answers.{ReadyToRead, turned_away, TurnedAway, Taken, AnswerIs, read, refused, Put, put, no_put, Keeps, DoneFrom, passed, PutBy, Expected, stood, other}
+use Rattle.parts.specs.Answers.{ReadyToRead, turned_away, TurnedAway, Taken, AnswerIs, read, refused, Put, put, no_put, StillLent, DoneFrom, passed, PutBy, Expected, stood, other}
 use Rattle.parts.specs.declared.answers.Reader.{Reader}
 use Rattle.parts.proofs.Standing.{lowered, past, turned_as, turned_bind, turned_for, need_on, need_off}
 use Rattle.parts.proofs.Writing.{Kept, kept_none, kept_append, kept_one}
 
 -- ---- what a reader is lent
 
-pub keeps_same : (r : Reader) → Keeps r r
-keeps_same r = record { text = refl; seen = refl; table = refl }
+pub keeps_same : (r : Reader) → StillLent r r
+keeps_same r = record { text = refl; seen = refl; table = refl; room = refl }
 
-pub keeps_on : {a b c : Reader} → Keeps a b → Keeps b c → Keeps a c
-keeps_on h k = record { text = k.text ∙ h.text; seen = k.seen ∙ h.seen; table = k.table ∙ h.table }
+pub keeps_on : {a b c : Reader} → StillLent a b → StillLent b c → StillLent a c
+keeps_on h k = record { text = k.text ∙ h.text; seen = k.seen ∙ h.seen; table = k.table ∙ h.table; room = k.room ∙ h.room }
 
 -- ---- what an answer tells, and what tells it
 
 module _ {A : Type 0} {es : ℕ → A → List Entry} {from : ℕ} {old new : Reader} where
   -- what was put are a value's entries, and the tokens say that value
-  pub done_read : {p : reading.Answer A} {u : Unit {0}} (v : A) → Keeps old new → p ≡ took v (stream old.text.now new.next) → Reads old.text.now (from + 1) new.next
+  pub done_read : {p : reading.Answer A} {u : Unit {0}} (v : A) → StillLent old new → p ≡ took v (stream old.text.now new.next) → Reads old.text.now (from + 1) new.next
       → new.free + from ≤ new.next.start + old.free → Kept old.seen.now old.table.now old.free old.same (es old.free v) new.free new.same new.table.now → DoneFrom es from p old new (Ok u)
   done_read {p} v keeps e lies room k = record {
     keeps = keeps;
@@ -43,7 +43,7 @@ module _ {A : Type 0} {es : ℕ → A → List Entry} {from : ℕ} {old new : Re
     wrote = subst (Put es old.free old.table.now new.table.now) (sym e) (put k.stored);
   }
 
-  pub done_turned : {p : reading.Answer A} {n : ℕ} → Keeps old new → TurnedAway old.text.now p (turned_away (length old.text.now) n new.next) → DoneFrom es from p old new (Err n)
+  pub done_turned : {p : reading.Answer A} {n : ℕ} → StillLent old new → TurnedAway old.text.now p (turned_away (length old.text.now) n new.next) → DoneFrom es from p old new (Err n)
   done_turned {p} keeps h = record { keeps = keeps; says = refused h; wrote = subst (Put es old.free old.table.now new.table.now) (sym h.is) no_put }
 
   -- of an equal answer
@@ -67,7 +67,7 @@ module _ {A : Type 0} {es : ℕ → A → List Entry} {text seen : List ℕ} {fr
       go : {n : ℕ} → AnswerIs es text seen from first same p next free ok (Err n) → TurnedAway text p (turned_away (length text) n next)
       go (refused h) = h
 
-un_put : {A : Type 0} {es : ℕ → A → List Entry} {first : ℕ} {T T₁ : List ℕ} {a : A} {r : List Lexeme} → Put es first T T₁ (took a r) → T₁ ≡ puts T first (es first a)
+pub un_put : {A : Type 0} {es : ℕ → A → List Entry} {first : ℕ} {T T₁ : List ℕ} {a : A} {r : List Lexeme} → Put es first T T₁ (took a r) → T₁ ≡ puts T first (es first a)
 un_put (put e) = e
 
 pub as_kept : {A : Type 0} {es : ℕ → A → List Entry} {text seen : List ℕ} {from first : ℕ} {same : Bool} {T T₁ : List ℕ} {p : reading.Answer A} {next : Token} {free : ℕ} {ok : Bool}
@@ -94,7 +94,7 @@ as_stopped {kind} {old} {new} e s = go (subst (Expected kind old new) e s)
     go (other k) = record { differs = k; stays = refl; number = refl }
 
 -- what is said of a text and a table that were lent is said of those that are kept
-pub lent : {old now : Reader} (P : List ℕ → List ℕ → Type 0) → Keeps old now → P now.text.now now.seen.now → P old.text.now old.seen.now
+pub lent : {old now : Reader} (P : List ℕ → List ℕ → Type 0) → StillLent old now → P now.text.now now.seen.now → P old.text.now old.seen.now
 lent {old} {now} P k h = subst (λ t. P t.now old.seen.now) k.text (subst (λ s. P now.text.now s.now) k.seen h)
 
 -- what `?` gives back of a refusal
@@ -105,7 +105,7 @@ gives_back r k = let p = err_from_is_err_and r k in p.1 ∙ ap Err p.2
 
 -- `total` is what `f` reads from the token that stands next, and `es` are the entries that are put. Of the bytes so many are read that at most one entry stands for each from the place `base` on
 pub record SoFar {A : Type 0} (old now : Reader) (base : ℕ) (total : reading.Answer A) (f : reading.Reader A) (es : List Entry) : Type 0 where
-  pub keeps : Keeps old now
+  pub keeps : StillLent old now
   pub is : total ≡ f (stream old.text.now now.next)
   pub lies : Reads old.text.now 0 now.next
   pub room : now.free + base ≤ now.next.start + old.free
@@ -179,7 +179,7 @@ module _ {A : Type 0} {old now : Reader} {base : ℕ} {total : reading.Answer A}
       let one = so.lies.some some in
       let low = l.low in
       rw e (rw so.keeps.text (record {
-        keeps = record { text = refl; seen = so.keeps.seen; table = so.keeps.table };
+        keeps = record { text = refl; seen = so.keeps.seen; table = so.keeps.table; room = so.keeps.room };
         is = so.is ∙ step;
         lies = lowered (omega arith) l;
         room = let r = so.room in omega arith;

@@ -23,7 +23,7 @@ use Rattle.grammar.specs.Grammar.{Path, first_path, longer_path}
 use Rattle.grammar.specs.Parser.{Way, uncalled, calling, no_name, name_fits, goes_on, read_first_name, read_next_name, read_way, spanned_by, read_path, read_attribute}
 use Rattle.grammar.proofs.Steps.{way_step}
 use Rattle.parts.specs.Names.{exit_of, call_of}
-use Rattle.parts.specs.Answers.{turned_away, TurnedAway, call_after, PathWalked, PathIs, PathWalks, found, lost, Keeps, DoneFrom, at_token, passed}
+use Rattle.parts.specs.Answers.{turned_away, TurnedAway, call_after, PathWalked, PathIs, PathWalks, found, lost, StillLent, DoneFrom, at_token, passed}
 use Rattle.parts.specs.declared.paths.Path.{Path as Found-path}
 use Rattle.parts.specs.declared.answers.Reader.{Reader as Text-reader}
 use Rattle.std.specs.Prelude.{Option, Some, None, Result, Ok, Err}
@@ -182,7 +182,7 @@ module _ {B : Type 0} {old now : Text-reader} {base : ℕ} {total : reader.Answe
         span_is = k.span_is;
         call_is = k.call_is;
         so = subst (λ (x : Text-reader). SoFar old x (base + 1) total (g k.way) a) (sym d.stays) (record {
-          keeps = record { text = so.keeps.text; seen = so.keeps.seen; table = so.keeps.table };
+          keeps = record { text = so.keeps.text; seen = so.keeps.seen; table = so.keeps.table; room = so.keeps.room };
           is = so.is ∙ rw said;
           lies = lowered (omega arith) stands;
           room = let x = so.room in let y = stands.low in omega arith;
@@ -193,7 +193,7 @@ module _ {B : Type 0} {old now : Text-reader} {base : ℕ} {total : reader.Answe
   pub so_way_lost : {es : ℕ → B → List Entry} {from n : ℕ} → r ≡ Err n → DoneFrom es from total old new (Err n)
   so_way_lost {n = n} e =
       let told = lent (λ text seen. TurnedAway text (p (stream text now.next)) (turned_away (length text) n new.next)) so.keeps (as_lost e d.says) in
-      let keeps : Keeps now new = rw d.stays (record { text = refl; seen = refl; table = refl }) in
+      let keeps : StillLent now new = rw d.stays (record { text = refl; seen = refl; table = refl; room = refl }) in
       done_turned (keeps_on so.keeps keeps) (turned_as so.is (turned_bind g told))
 
 -- whether a name fits there

@@ -69,15 +69,16 @@ pub data Put {A : Type 0} (es : ℕ → A → List Entry) (first : ℕ) (old new
   put : {a : A} {r : List Lexeme} → new ≡ puts old first (es first a) → Put es first old new (took a r)
   no_put : {n : ℕ} {r : List Lexeme} → Put es first old new (refuse n r)
 
--- a reader is lent what it was lent
-pub record Keeps (old new : Reader) : Type 0 where
+-- a reader is lent what it was lent, and the table keeps its length, also where something is refused
+pub record StillLent (old new : Reader) : Type 0 where
   pub text : new.text ≡ old.text
   pub seen : new.seen ≡ old.seen
   pub table : new.table.ghost_name ≡ old.table.ghost_name
+  pub room : length new.table.now ≡ length old.table.now
 
 -- the promise of what reads on from the place `from`
 pub record DoneFrom {A : Type 0} (es : ℕ → A → List Entry) (from : ℕ) (p : reader.Answer A) (old new : Reader) (r : Result (Unit {0}) ℕ) : Type 0 where
-  pub keeps : Keeps old new
+  pub keeps : StillLent old new
   pub says : AnswerIs es old.text.now old.seen.now from old.free old.same p new.next new.free new.same r
   pub wrote : Put es old.free old.table.now new.table.now p
 
@@ -126,7 +127,7 @@ passed r = at_token r (token_at r.text.now r.next.end)
 
 -- one entry more is put and compared
 pub record PutBy (x : Entry) (old new : Reader) : Type 0 where
-  pub keeps : Keeps old new
+  pub keeps : StillLent old new
   pub next : new.next ≡ old.next
   pub free : new.free ≡ old.free + 1
   pub same : new.same ≡ (old.same && entry_is old.seen.now old.free x)

@@ -49,6 +49,10 @@ fn admits_character(pattern: &[u8], p: usize, string: &[u8], s: usize) -> bool
     if !admits(x, c) {
         return false;
     }
+    // a byte of ASCII is the character
+    if c <= 0x7F {
+        return true;
+    }
     if x != c {
         return true;
     }

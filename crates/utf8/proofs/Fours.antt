@@ -18,7 +18,7 @@ use Rattle.utf8.proofs.Places.{ascii, utf8_on}
 two_ascii : {a b : ℕ} → bit_or a b ≤ 0x7F → (a ≤ 0x7F) × (b ≤ 0x7F)
 two_ascii {a} {b} h = (omega (arith, or_add_and a b, and_le_r a b), omega (arith, or_add_and a b, and_le_l a b))
 
-four_told : (a b c d : ℕ) → bit_or (bit_or (bit_or a b) c) d ≤ 0x7F → (a ≤ 0x7F) × (b ≤ 0x7F) × (c ≤ 0x7F) × (d ≤ 0x7F)
+pub four_told : (a b c d : ℕ) → bit_or (bit_or (bit_or a b) c) d ≤ 0x7F → (a ≤ 0x7F) × (b ≤ 0x7F) × (c ≤ 0x7F) × (d ≤ 0x7F)
 four_told a b c d h =
     let u = two_ascii {a = bit_or (bit_or a b) c} {b = d} h in
     let v = two_ascii {a = bit_or a b} {b = c} u.0 in

@@ -25,6 +25,13 @@ use Rattle.tokens.proofs.RunLaws.{short, stops, ends}
 use Rattle.tokens.proofs.TokenLaws.{never, and_left, and_right, every, inside}
 use Rattle.words.specs.Standing.{ends_in, reserved_among, reserved_at}
 
+-- words whose first bytes differ are not the same
+pub first_apart : (s w : List ℕ) → 0 < length s → 0 < length w → (get_or s 0 0 ≡ get_or w 0 0 → ⊥) → eqb (get_or s 0 0) (get_or w 0 0) ≡ same s w
+unfolding same
+first_apart [] w hs hw n = absurd (omega arith)
+first_apart (x ∷ s) [] hs hw n = absurd (omega arith)
+first_apart (x ∷ s) (y ∷ w) hs hw n = rw (ne_eqb x y n) refl
+
 -- ---- bytes that end a word, one part after the other
 
 pub ends_parts : (u w text : List ℕ) (at : ℕ) → ends_in (u ++ w) text at ≡ (stands_at u text at && ends_in w text (at + length u))
@@ -40,14 +47,14 @@ and_true : (a : Bool) → (a && true) ≡ a
 and_true true = refl
 and_true false = refl
 
-ends_byte : (x : ℕ) (w text : List ℕ) (at : ℕ) → ends_in (x ∷ w) text at ≡ (eqb (get_or text at 0) x && ends_in w text (at + 1))
+pub ends_byte : (x : ℕ) (w text : List ℕ) (at : ℕ) → ends_in (x ∷ w) text at ≡ (eqb (get_or text at 0) x && ends_in w text (at + 1))
 unfolding stands_at
 ends_byte x w text at = ends_parts (x ∷ []) w text at ∙ ap (λ (b : Bool). b && ends_in w text (at + 1)) (and_true (eqb (get_or text at 0) x))
 
 -- ---- the word at a place
 
 -- the longest run of word bytes from a place on
-unfoldable word_at : List ℕ → ℕ → List ℕ
+unfoldable pub word_at : List ℕ → ℕ → List ℕ
 word_at text at = take (run WordBytes (drop at text)) (drop at text)
 
 module _ (text : List ℕ) (at : ℕ) where
@@ -67,12 +74,12 @@ module _ (text : List ℕ) (at : ℕ) where
   unfolding word_at run class_of
   some_word e = rw (rest_at text at (inside word_byte text at never e)) (simp e)
 
-no_bytes : (text : List ℕ) (at : ℕ) → ends_in [] text at ≡ not (word_byte (get_or text at 0))
+pub no_bytes : (text : List ℕ) (at : ℕ) → ends_in [] text at ≡ not (word_byte (get_or text at 0))
 unfolding ends_in stands_at
 no_bytes text at = ap (λ (k : ℕ). not (word_byte (get_or text k 0))) (omega arith)
 
 -- bytes of words that stand at a place, with no word byte behind them, are the word there
-ends_same : (w : List ℕ) → every word_byte w ≡ true → (text : List ℕ) (at : ℕ) → ends_in w text at ≡ same (word_at text at) w
+pub ends_same : (w : List ℕ) → every word_byte w ≡ true → (text : List ℕ) (at : ℕ) → ends_in w text at ≡ same (word_at text at) w
 unfolding every same
 ends_same [] v text at = no_bytes text at ∙ go (word_byte (get_or text at 0)) refl
   where
@@ -143,7 +150,7 @@ module _ (text : List ℕ) (at : ℕ) where
       found
 
   -- where none is found, the word is a name
-  name_word : reserved_at text at ≡ None → word_kind (take (run_end WordBytes text at - at) (drop at text)) ≡ name
+  pub name_word : reserved_at text at ≡ None → word_kind (take (run_end WordBytes text at - at) (drop at text)) ≡ name
   name_word e =
       ap word_kind word_here
       ∙ ⊎_elim

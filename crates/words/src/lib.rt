@@ -3,18 +3,20 @@
 
 pub mod standing;
 
-ghost use Rattle.std.specs.Prelude.{◌≡◌, length};
+ghost use Rattle.std.specs.Prelude.{◌≡◌, ◌<◌, length};
 ghost use Rattle.slices.specs.Same.{same};
 ghost use Rattle.tokens.specs.Words.{word_kind, is_reserved_word};
 
 use tokens::kinds;
 
-// Whether a word of as many bytes is this one. By `starts_with`: so the compiler knows how many bytes there are to compare, and needs no call.
+// Whether a word of as many bytes is this one: by the first byte, in which most words differ; then by `starts_with`, so that the compiler knows how many bytes there are to compare,
+// and needs no call.
 fn is<const N: usize>(word: &[u8], bytes: &[u8; N]) -> bool
-    requires { length word.now ≡ N }
+    requires word_length { length word.now ≡ N }
+    requires some { 0 < N }
     ensures { result ≡ same word.now bytes.now }
 {
-    word.starts_with(bytes)
+    word[0] == bytes[0] && word.starts_with(bytes)
 }
 
 // A word's kind: that of a reserved word, or a name's. Only the reserved words of its length are compared with it.

@@ -1,5 +1,5 @@
 -- `lookups::bytes::same_bytes` meets its contract. The invariant: the bytes passed are the same in both. Assumes nothing.
-use Prim.Native.Nat.{ℕ, ◌+◌, ◌-◌, ◌<◌, ◌≤◌}
+use Prim.Native.Nat.{ℕ, ◌+◌, ◌-◌, ◌*◌, ◌<◌, ◌≤◌}
 use borrow.Author.Rules.{rules}
 use borrow.Author.Tests.{not-true, not-false}
 use mathlib.Core.Path.{◌≡◌}
@@ -23,20 +23,15 @@ same_four-requires c = record {
 pub returns-then-not-same_four : goal.returns-then-not-same_four
 returns-then-not-same_four c = four_other _ _ _ _ c.same_four.ensures c.if-not-same_four.true
 
-pub loop-i-init : goal.loop-i-init
-loop-i-init c = (omega arith, λ k h. absurd (omega arith))
+pub loop-n-init : goal.loop-n-init
+loop-n-init c k h = absurd (omega arith)
 
 pub returns-then-not-same_four-2 : goal.returns-then-not-same_four-2
-returns-then-not-same_four-2 c = four_other _ _ _ _ c.same_four-in-loop-i.ensures c.if-not-same_four-2.true
+returns-then-not-same_four-2 c = four_other _ _ _ _ c.same_four-in-loop-n.ensures c.if-not-same_four-2.true
 
-pub loop-i-preserved : goal.loop-i-preserved
-loop-i-preserved c = (omega arith, four_more c.args.a.now c.args.b.now _ c.loop-i.invariant.1 _ c.same_four-in-loop-i.ensures c.if-not-same_four-2.false)
+pub loop-n-preserved : goal.loop-n-preserved
+loop-n-preserved c k h =
+    four_more c.args.a.now c.args.b.now _ c.loop-n.invariant _ c.same_four-in-loop-n.ensures c.if-not-same_four-2.false k (omega arith)
 
-pub returns-else-not-same_four : goal.returns-else-not-same_four
-returns-else-not-same_four c = fours_same c.args.a.now c.args.b.now c.requires _ _ (omega arith) (omega arith) c.loop-i.invariant.1 _ c.same_four.ensures c.if-not-same_four.false
-
-pub returns-else-not-same_four-2 : goal.returns-else-not-same_four-2
-returns-else-not-same_four-2 c =
-    let more : (k : ℕ) → k < c.loop-i.i + 4 → byte c.args.a.now k ≡ byte c.args.b.now k =
-    four_more c.args.a.now c.args.b.now _ c.loop-i.invariant.1 _ c.same_four-in-loop-i.ensures c.if-not-same_four-2.false in
-    fours_same c.args.a.now c.args.b.now c.requires _ (c.loop-i.i + 4) (omega arith) (omega arith) more _ c.same_four.ensures c.if-not-same_four.false
+pub returns : goal.returns
+returns c = fours_same c.args.a.now c.args.b.now c.requires _ (4 * c.loop-n.n) (omega arith) (omega arith) c.loop-n.invariant _ c.same_four.ensures c.if-not-same_four.false

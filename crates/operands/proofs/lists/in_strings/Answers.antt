@@ -1,6 +1,5 @@
 -- `operands::lists::in_strings` meets its contract. Assumes nothing.
 use Rattle.operands.proofs.ListLaws.{among, cut_same, none_listed, here_listed, later_listed}
-use Rattle.operands.proofs.ValueLaws.{same_is}
 use Rattle.lookups.proofs.StepLaws.{StringFirst, string_first}
 use native.Mathlib.Omega.{arith}
 use Prim.Native.Nat.{◌+◌, ◌-◌, ◌<◌}
@@ -28,16 +27,16 @@ overflow_add-end c =
     let one : StringFirst c.args.s.now (c.args.n - c.loop.counter) c.loop.next c.requires.0 = string_first _ _ _ _ some (c.loop.invariant.0 ∙ c.requires.1) in
     omega (arith, one.fits)
 
-pub slice_bounds-eq-end : goal.slice_bounds-eq-end
-slice_bounds-eq-end c =
+pub slice_bounds-same_string-end : goal.slice_bounds-same_string-end
+slice_bounds-same_string-end c =
     let some : 0 < c.args.n - c.loop.counter = omega arith in
     let one : StringFirst c.args.s.now (c.args.n - c.loop.counter) c.loop.next c.requires.0 = string_first _ _ _ _ some (c.loop.invariant.0 ∙ c.requires.1) in
     omega (arith, one.fits)
 
-pub returns-then-eq : goal.returns-then-eq
-returns-then-eq c =
+pub returns-then-same_string : goal.returns-then-same_string
+returns-then-same_string c =
     let some : 0 < c.args.n - c.loop.counter = omega arith in
-    here_listed _ _ _ _ _ some (c.loop.invariant.0 ∙ c.requires.1) (cut_same c.args.s.now c.args.x.now c.loop.next _ _ (same_is _ _ _ c.eq.ensures) c.if-eq.true) ∙ c.loop.invariant.1
+    here_listed _ _ _ _ _ some (c.loop.invariant.0 ∙ c.requires.1) (cut_same c.args.s.now c.args.x.now c.loop.next _ _ c.same_string.ensures c.if-same_string.true) ∙ c.loop.invariant.1
 
 pub loop-preserved : goal.loop-preserved
 loop-preserved c =
@@ -45,7 +44,7 @@ loop-preserved c =
     let one : StringFirst c.args.s.now (c.args.n - c.loop.counter) c.loop.next c.requires.0 = string_first _ _ _ _ some (c.loop.invariant.0 ∙ c.requires.1) in
     let less : c.args.n - (c.loop.counter + 1) ≡ c.args.n - c.loop.counter - 1 = omega arith in (
       rw less (one.later ∙ sym c.requires.1),
-      rw less (sym (later_listed _ _ _ _ _ some (c.loop.invariant.0 ∙ c.requires.1) (cut_same c.args.s.now c.args.x.now c.loop.next _ _ (same_is _ _ _ c.eq.ensures) c.if-eq.false)) ∙ c.loop.invariant.1),
+      rw less (sym (later_listed _ _ _ _ _ some (c.loop.invariant.0 ∙ c.requires.1) (cut_same c.args.s.now c.args.x.now c.loop.next _ _ c.same_string.ensures c.if-same_string.false)) ∙ c.loop.invariant.1),
     )
 
 pub returns : goal.returns

@@ -1,5 +1,5 @@
 -- `operands::values::values_hold` meets its contract. Assumes nothing.
-use Rattle.operands.proofs.ValueLaws.{mixed_kinds, two_strings, two_numbers, two_flags, no_kind, same_is, flags_same}
+use Rattle.operands.proofs.ValueLaws.{mixed_kinds, two_strings, two_numbers, two_flags, no_kind, flags_same}
 use mathlib.Core.Path.{◌∙◌}
 use native.Mathlib.Omega.{arith}
 use Rattle.operands.proofs.values.values_hold.Goals as goal
@@ -8,7 +8,7 @@ pub returns-then-v-w : goal.returns-then-v-w
 returns-then-v-w c = λ l m. mixed_kinds _ _ _ l _ _ m c.if-v-w.true
 
 pub returns-in-1 : goal.returns-in-1
-returns-in-1 c = λ l m. two_strings _ _ _ l _ _ m _ _ c.in-1.is c.if-v-w.false (same_is _ _ _ c.eq.ensures) c.equality_holds.ensures
+returns-in-1 c = λ l m. two_strings _ _ _ l _ _ m _ _ c.in-1.is c.if-v-w.false c.same_string.ensures c.equality_holds.ensures
 
 pub returns-in-2 : goal.returns-in-2
 returns-in-2 c = λ l m. two_numbers _ _ _ l _ _ m _ c.in-2.is c.if-v-w.false (c.compares.ensures ∙ c.comparator_of.ensures _ _)

@@ -1,7 +1,7 @@
--- `operands::Row::literal_value` meets its contract. Assumes nothing.
+-- `operands::literal_value` meets its contract. Assumes nothing.
 use Rattle.operands.proofs.OperandLaws.{number_placed, read_string, read_number, read_true, read_false}
 use native.Mathlib.Omega.{arith}
-use Rattle.operands.proofs.Row.literal_value.Goals as goal
+use Rattle.operands.proofs.literal_value.Goals as goal
 
 pub returns-in-9 : goal.returns-in-9
 returns-in-9 c = read_string _ _ c.in-9.is
